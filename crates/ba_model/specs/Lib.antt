@@ -1,0 +1,5 @@
+pub mod Order
+pub mod OrderLaws
+pub mod Meaning
+pub mod Conform
+pub mod Fit

@@ -1,0 +1,12 @@
+//! Values, schemas, queries and policies, and what they mean over a database.
+#![tactic(auto)]
+
+pub mod laws;
+pub mod list;
+pub mod order;
+pub mod policy;
+pub mod query;
+pub mod same;
+pub mod schema;
+pub mod text;
+pub mod value;

@@ -1,0 +1,34 @@
+//! Policies and request contexts.
+
+use crate::list::List;
+use crate::query::Query;
+use crate::schema::{Kind, Schema};
+use crate::text::Str;
+use crate::value::Value;
+
+/// A parameter of a policy, written `?name` in its views.
+#[derive(Debug, Drop)]
+pub struct Parameter {
+    pub name: Str,
+    pub kind: Kind,
+}
+
+#[derive(Debug, Drop)]
+pub struct View {
+    pub name: Str,
+    pub query: Query,
+}
+
+/// What a user may see: the rows of the views, under the values of the parameters.
+#[derive(Debug, Drop)]
+pub struct Policy {
+    pub schema: Schema,
+    pub params: List<Parameter>,
+    pub views: List<View>,
+}
+
+/// A request's value for each parameter of the policy.
+#[derive(Debug, Drop)]
+pub struct Context {
+    pub values: List<Value>,
+}
