@@ -3,3 +3,4 @@ pub mod OrderLaws
 pub mod Meaning
 pub mod Conform
 pub mod Fit
+pub mod QueryFaults

@@ -1,7 +1,9 @@
 //! Values, schemas, queries and policies, and what they mean over a database.
 #![tactic(auto)]
 
+pub mod check_query;
 pub mod laws;
+pub mod limits;
 pub mod list;
 pub mod order;
 pub mod policy;
