@@ -1,6 +1,7 @@
 //! Values, schemas, queries and policies, and what they mean over a database.
 #![tactic(auto)]
 
+pub mod holds;
 pub mod laws;
 pub mod list;
 pub mod order;
