@@ -2,6 +2,7 @@
 #![tactic(auto)]
 
 pub mod check_query;
+pub mod holds;
 pub mod laws;
 pub mod limits;
 pub mod list;
