@@ -1,0 +1,20 @@
+//! A ticket lock that knows the history of its value.
+//!
+//! Threads share a [`Turn`] and make their calls on its value one at a time, in the order of the tickets that they draw.
+//! Each thread has a [`Pass`], which knows the history that it has seen and the calls that it made.
+//! A call is `take`, one method of the value, and `put`: it stands in the history from the step on that calls the next number.
+#![tactic(auto)]
+
+mod held;
+mod known;
+mod pass;
+mod plays;
+mod rule;
+mod storied;
+mod turn;
+
+pub use held::Held;
+pub use known::Known;
+pub use pass::Pass;
+pub use storied::Storied;
+pub use turn::Turn;
