@@ -1,0 +1,9 @@
+//! The lines that the program prints, and those of the scripts that it reads.
+#![tactic(auto)]
+
+pub mod fault;
+pub mod line;
+mod object;
+pub mod summary;
+#[cfg(test)]
+mod tests;
