@@ -1,9 +1,8 @@
 -- The causes of a plan's faults, whether the contents are told or not.
-use Rattle.std.proofs.Common.{◌≡◌, ◌++◌, ◌∷◌, [], ◌∙◌, inl, inr, sym, ap, subst, ℕ, List, Result, Ok, Err}
+use Rattle.std.proofs.Common.{◌≡◌, ◌++◌, ◌∷◌, [], ◌∙◌, inl, inr, sym, ap, subst, ℕ, List, Err}
 use Rattle.ba_outside.specs.Seen.{FilesSeen}
 use Rattle.ba_outside.specs.Files.{PassesLimit}
-use Rattle.ba_plan.specs.declared.stop.Stop.{Stop}
-use Rattle.ba_plan.specs.declared.stop.Stop.TheVariants.{Refused, Read, TooLong, NoMemory}
+use Rattle.ba_plan.specs.declared.stop.Stop.TheVariants.{Read, TooLong}
 use Rattle.ba_plan.specs.Plan.{Plan, done, refuse, ask}
 use Rattle.ba_plan.specs.Follows.{Asked, Follows}
 use Rattle.ba_plan.specs.Ends.{IsLastAsked, FailedAt, LongAt}

@@ -1,5 +1,5 @@
 -- Counts over several calls.
-use Rattle.std.proofs.Common.{◌≡◌, ◌⊎◌, ◌≤◌, ◌<◌, ◌+◌, ℕ, inl, inr, Option, Some, None, List, subst, sym, arith}
+use Rattle.std.proofs.Common.{◌≤◌, ℕ, inl, inr, Option, Some, None, List, arith}
 use Rattle.ba_outside.specs.Causes.{Rose, RoseBeyond}
 use Rattle.ba_outside.specs.Files.{PassesLimit}
 use Rattle.ba_outside.specs.Seen.{Contents}

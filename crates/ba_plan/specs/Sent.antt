@@ -43,7 +43,7 @@ abbrev pub PartTaken : List (List ℕ) → List (List ℕ) → List ℕ → Type
 PartTaken [] pieces front = (pieces ≡ []) × (front ≡ [])
 PartTaken (line ∷ lines) pieces front = Rests line pieces front
     ⊎ ((first : List (List ℕ)) × (later : List (List ℕ)) × (behind : List ℕ)
-      × (pieces ≡ first ++ later) × (front ≡ line ++ behind) × Rests line first line × PartTaken lines later behind)
+    × (pieces ≡ first ++ later) × (front ≡ line ++ behind) × Rests line first line × PartTaken lines later behind)
 
 -- the lines were handed over and written whole
 pub record WroteLines (lines : List (List ℕ)) (old new : SinkSeen) : Type 0 where

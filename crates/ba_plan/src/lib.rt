@@ -13,3 +13,5 @@ pub use files::read_file;
 pub use sink::send;
 pub use stop::Stop;
 
+#[cfg(test)]
+mod tests;

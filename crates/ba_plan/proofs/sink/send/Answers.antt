@@ -1,4 +1,4 @@
-use Rattle.std.proofs.Common.{◌≡◌, ◌<◌, [], ap, subst, drop, length, ℕ, Err, Ok, arith}
+use Rattle.std.proofs.Common.{◌≡◌, ◌<◌, ap, subst, length, ℕ, Err, Ok, arith}
 use Rattle.std.proofs.lemmas.Grind.{common_steps}
 use Rattle.std.proofs.lemmas.Result.{err_from_is_err_and}
 use Rattle.ba_plan.proofs.SendingLines.{Goes, goes_done, goes_step, goes_err, lines_one, some_of, nil_of}
