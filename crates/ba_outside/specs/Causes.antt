@@ -1,5 +1,5 @@
 -- Counts of 64 bits, which never fall and stop at their last value.
-use Rattle.std.specs.Prelude.{◌⊎◌, ℕ, ◌+◌, ◌-◌, ◌^◌, ◌<◌, ◌≤◌}
+use Rattle.std.specs.Prelude.{◌≡◌, ◌⊎◌, ℕ, ◌+◌, ◌-◌, ◌^◌, ◌<◌, ◌≤◌}
 
 -- the last value of a count
 abbrev pub last_count : ℕ
@@ -11,8 +11,8 @@ NeverFalls before now = (before ≤ now) × (now ≤ last_count)
 
 -- the count is greater than before, or stands at its last value
 abbrev pub Rose : ℕ → ℕ → Type 0
-Rose before now = (before < now) ⊎ (last_count ≤ now)
+Rose before now = (before < now) ⊎ (now ≡ last_count)
 
 -- the count rose by more than this, or stands at its last value
 abbrev pub RoseBeyond : ℕ → ℕ → ℕ → Type 0
-RoseBeyond amount before now = (before + amount < now) ⊎ (last_count ≤ now)
+RoseBeyond amount before now = (before + amount < now) ⊎ (now ≡ last_count)

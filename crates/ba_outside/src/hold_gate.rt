@@ -1,4 +1,6 @@
 // A gate that holds one job at its first line until another has passed its own.
+ghost use Rattle.std.specs.Prelude.{◌≡◌};
+
 use crate::Gate;
 use std::sync::atomic::{AtomicBool, Ordering};
 use std::thread;
@@ -8,16 +10,20 @@ use std::thread;
 /// is `second` too.
 #[derive(Drop)]
 pub struct HoldGate {
-    first: u32,
-    second: u32,
-    limit: u64,
+    pub first: u32,
+    pub second: u32,
+    pub limit: u64,
     passed: AtomicBool,
     gave_up: AtomicBool,
 }
 
 impl HoldGate {
     /// A gate that holds job `first` at point 0 until job `second` has passed point 0, or for `limit` turns.
-    pub fn new(first: u32, second: u32, limit: u64) -> Self {
+    pub fn new(first: u32, second: u32, limit: u64) -> Self
+        ensures first { result.first ≡ first }
+        ensures second { result.second ≡ second }
+        ensures limit { result.limit ≡ limit }
+    {
         HoldGate {
             first,
             second,
