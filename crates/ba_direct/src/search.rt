@@ -1,0 +1,90 @@
+//! The search for a cover.
+ghost use Rattle.std.specs.Prelude.{◌<◌, IfOk, IfSome, MatchOption, length};
+ghost use Rattle.ba_direct.specs.Cover.{AlwaysStrong, Covered, IsCover, IsFirst, IsFirstCover, PartCovered};
+ghost use Rattle.ba_direct.specs.Search.{IsFirstBy, NoneBy};
+
+use crate::cover::{Cover, PartCover};
+use crate::pairing::pair;
+use ba_model::list::List;
+use ba_model::policy::{Context, Policy};
+use ba_model::query::{Part, Query};
+use std::alloc::{AllocError, Global};
+
+/// The first cover of the part by the view with this number, if there is one. Only a view of one part covers.
+fn cover_by(
+    alloc: Global,
+    policy: &Policy,
+    ctx: &Context,
+    part: &Part,
+    view: usize,
+) -> Result<Option<PartCover>, AllocError>
+    requires { view < length (policy.now).views }
+    ensures { IfOk result (λ found. MatchOption found (NoneBy policy.now ctx.now part.now view) (λ cover. IsFirstBy policy.now ctx.now part.now view cover)) }
+{
+    let parts = &policy.views.get(view).query.parts;
+    if parts.len() != 1 {
+        return Ok(None);
+    }
+    let only = parts.get(0);
+    if only.from.len() != part.from.len() {
+        return Ok(None);
+    }
+    let mut to = Vec::new(alloc);
+    if pair(ctx, only, part, &mut to)? {
+        let places = List::from_vec(to);
+        Ok(Some(PartCover { view, places }))
+    } else {
+        Ok(None)
+    }
+}
+
+/// The first cover of the part, if there is one.
+fn cover_part(
+    alloc: Global,
+    policy: &Policy,
+    ctx: &Context,
+    part: &Part,
+) -> Result<Option<PartCover>, AllocError>
+    ensures { IfOk result (λ found. MatchOption found (PartCovered policy.now ctx.now part.now → ⊥) (λ cover. IsFirst policy.now ctx.now part.now cover)) }
+{
+    for view in 0..policy.views.len() {
+        let found = cover_by(alloc, policy, ctx, part, view)?;
+        if let Some(cover) = found {
+            return Ok(Some(cover));
+        }
+    }
+    Ok(None)
+}
+
+/// For each part of the query the first view and the first pairing that cover it, or None where a part has none.
+///
+/// A view covers a part where it has one part itself, and a one-to-one pairing of all their tables, by name, maps each atom of
+/// the view, its parameters replaced by the context, to an atom of the part, an equation either way round; and the part's other
+/// atoms and its head use only constants and columns that the view outputs. The only error is want of memory.
+///
+/// Views are tried in the policy's order, pairings by the place of the view's first table, then of the next ones. The time is
+/// linear in the views where the part has one table; at worst it grows with the orders in which equal tables may be paired.
+pub fn cover(
+    alloc: Global,
+    policy: &Policy,
+    ctx: &Context,
+    query: &Query,
+) -> Result<Option<Cover>, AllocError>
+    ensures exact { IfOk result (λ found. MatchOption found (Covered policy.now ctx.now query.now → ⊥) (λ cover. IsCover policy.now ctx.now query.now cover)) }
+    ensures first { IfOk result (λ found. IfSome found (λ cover. IsFirstCover policy.now ctx.now query.now cover)) }
+
+    // What it covers may be answered.
+    ensures strong { IfOk result (λ found. IfSome found (λ _. AlwaysStrong policy.now ctx.now query.now)) }
+{
+    let mut parts = Vec::new(alloc);
+    for part in query.parts.as_slice() {
+        let found = cover_part(alloc, policy, ctx, part)?;
+        match found {
+            Some(cover) => parts.push(cover)?,
+            None => return Ok(None),
+        }
+    }
+    Ok(Some(Cover {
+        parts: List::from_vec(parts),
+    }))
+}
