@@ -3,7 +3,9 @@
 
 pub mod fault;
 pub mod line;
+pub mod lines;
 mod object;
+pub mod script;
 pub mod summary;
 #[cfg(test)]
 mod tests;

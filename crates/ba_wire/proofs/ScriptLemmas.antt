@@ -1,0 +1,30 @@
+-- The reading of a script's line, by what the bytes are.
+use Rattle.std.proofs.Common.{◌≡◌, ◌∙◌, ℕ, List, Bool, true, false, cond, Option, Some, None, Result, Ok, Err, refl, ap}
+use Rattle.std.specs.Str.{IsUtf8, is_utf8}
+use Rattle.std.proofs.lemmas.Str.{IsUtf8-from_is_utf8, is_utf8-from_IsUtf8}
+use Rattle.serde_json.specs.Data.{Data}
+use Rattle.serde_json.specs.Read.{read}
+use Rattle.ba_wire.specs.declared.script.ScriptLine.{ScriptLine}
+use Rattle.ba_wire.specs.declared.script.LineReason.{LineReason}
+use Rattle.ba_wire.specs.declared.script.LineReason.TheVariants.{Json}
+use Rattle.ba_wire.specs.Script.{line_at, line_or, script_line_of}
+
+-- the line that a value is, where the text is UTF-8
+under : Bool → Option Data → Result ScriptLine LineReason
+under b d = cond b (line_or d) (Err Json)
+
+under_is : (bytes : List ℕ) → script_line_of bytes ≡ under (is_utf8 bytes) (read bytes)
+unfolding under
+under_is bytes = refl
+
+pub line_of_json : (bytes : List ℕ) (d : Data) → IsUtf8 bytes → read bytes ≡ Some d → script_line_of bytes ≡ line_at d
+unfolding under
+line_of_json bytes d text reading = under_is bytes ∙ ap (λ b. under b (read bytes)) (is_utf8-from_IsUtf8 bytes text) ∙ ap (under true) reading
+
+no_line : (b : Bool) (d : Option Data) → (b ≡ true → d ≡ None) → under b d ≡ Err Json
+unfolding under
+no_line true d none = ap (under true) (none refl)
+no_line false d none = refl
+
+pub line_of_no_json : (bytes : List ℕ) → (IsUtf8 bytes → read bytes ≡ None) → script_line_of bytes ≡ Err Json
+line_of_no_json bytes none = under_is bytes ∙ no_line (is_utf8 bytes) (read bytes) (λ b. none (IsUtf8-from_is_utf8 bytes b))
