@@ -11,7 +11,6 @@ use Rattle.ba_model.specs.declared.schema.Kind.TheVariants.{Int as IntKind, Text
 use Rattle.ba_model.specs.declared.schema.Table.{Table}
 use Rattle.ba_model.specs.declared.value.Value.{Value}
 use Rattle.ba_model.specs.declared.value.Value.TheVariants.{Int, Text}
-use Rattle.ba_tables.specs.declared.TheConstants.{ROW_LIMIT}
 use Rattle.ba_tables.specs.declared.fault.TableError.{TableError}
 use Rattle.ba_tables.specs.declared.fault.TableError.TheVariants.{NoMemory, Fault}
 use Rattle.ba_tables.specs.declared.fault.TableFault.{TableFault}
@@ -70,8 +69,12 @@ rows_from row columns (line ∷ lines) = do
   rows ← rows_from (row + 1) columns lines
   Ok (values ∷ rows)
 
+-- the most rows of a table
+abbrev pub row_limit : ℕ
+row_limit = 100000
+
 abbrev pub within_limit : List (List Value) → Result (List (List Value)) TableFault
-within_limit rows = if nat_le (length rows) ROW_LIMIT then Ok rows else Err (TooMany ROW_LIMIT)
+within_limit rows = if nat_le (length rows) row_limit then Ok rows else Err (TooMany row_limit)
 
 -- the rows of the records after the header
 abbrev pub rows_of_rest : List Column → List (List (List ℕ)) → Result (List (List Value)) TableFault

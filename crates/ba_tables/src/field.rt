@@ -8,12 +8,14 @@ use ba_model::text::Str;
 use ba_model::value::Value;
 use std::alloc::Global;
 
+const PLUS: u8 = b'+';
+
 /// The number that a field spells: a minus sign or nothing, then digits, in 64 bits.
 pub fn number_of(field: &str) -> Option<i64>
     ensures { result ≡ number_of field.now }
 {
     let bytes = field.as_bytes();
-    if bytes.is_empty() || bytes[0] == b'+' {
+    if bytes.is_empty() || bytes[0] == PLUS {
         return None;
     }
     field.parse::<i64>().ok()

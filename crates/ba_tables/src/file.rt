@@ -63,7 +63,8 @@ fn rows_of(
             };
         }
         let values = row_at(alloc, row, columns, &line)?;
-        if row <= ROW_LIMIT {
+        let within = row <= ROW_LIMIT;
+        if within {
             rows.push(values)?;
         }
     }

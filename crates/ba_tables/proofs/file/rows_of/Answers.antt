@@ -2,7 +2,7 @@ use Rattle.std.proofs.lemmas.Result.{err_from_is_err_and}
 use Rattle.csv.specs.Records.{fields_of}
 use Rattle.ba_tables.proofs.RowsLemmas.{all_kept, bad_kept, one_dropped, one_kept, too_many}
 use Rattle.ba_tables.proofs.file.rows_of.Goals as goal
-use Rattle.ba_tables.proofs.file.rows_of.Goals.{then-row-le-ROW_LIMIT+in_ok-push, else-row-le-ROW_LIMIT}
+use Rattle.ba_tables.proofs.file.rows_of.Goals.{then-within+in_ok-push, else-within}
 
 pub returns-then-count-gt-ROW_LIMIT : goal.returns-then-count-gt-ROW_LIMIT
 returns-then-count-gt-ROW_LIMIT c =
@@ -20,11 +20,11 @@ returns-in_err-values c =
 
 pub loop-row-preserved : goal.loop-row-preserved
 loop-row-preserved c =
-    elim c.if-row-le-ROW_LIMIT.branch [
-      | then-row-le-ROW_LIMIT+in_ok-push w ↦
+    elim c.if-within.branch [
+      | then-within+in_ok-push w ↦
           rw (w.rows-is, w.in_ok-push.ensures.ok)
-          (one_kept c.args.columns.now c.args.lines.now c.loop-row.lines c.next.new.self c.loop-row.rows c.loop-row.row (fields_of c.next.new.line) c.in_ok-values.values c.loop-row.invariant (c.in_ok-next.ensures.read c.if-not-branch.false) c.in_ok-values.ensures w.if-row-le-ROW_LIMIT.true)
-      | else-row-le-ROW_LIMIT w ↦
+          (one_kept c.args.columns.now c.args.lines.now c.loop-row.lines c.next.new.self c.loop-row.rows c.loop-row.row (fields_of c.next.new.line) c.in_ok-values.values c.loop-row.invariant (c.in_ok-next.ensures.read c.if-not-branch.false) c.in_ok-values.ensures w.if-within.true)
+      | else-within w ↦
           rw w.rows-is
-          (one_dropped c.args.columns.now c.args.lines.now c.loop-row.lines c.next.new.self c.loop-row.rows c.loop-row.row (fields_of c.next.new.line) c.in_ok-values.values c.loop-row.invariant (c.in_ok-next.ensures.read c.if-not-branch.false) c.in_ok-values.ensures w.if-row-le-ROW_LIMIT.false)
+          (one_dropped c.args.columns.now c.args.lines.now c.loop-row.lines c.next.new.self c.loop-row.rows c.loop-row.row (fields_of c.next.new.line) c.in_ok-values.values c.loop-row.invariant (c.in_ok-next.ensures.read c.if-not-branch.false) c.in_ok-values.ensures w.if-within.false)
     ]
