@@ -1,10 +1,10 @@
 -- The first line of a script and what follows it.
-use Rattle.std.proofs.Common.{◌≡◌, ◌∙◌, ℕ, suc, ◌+◌, ◌-◌, ◌<◌, ◌≤◌, ◌==◌, Bool, true, false, not, cond, nat_lt, List, [], ◌∷◌, length, take, drop, Option, Some, None, refl, sym, ap, subst, arith}
-use Rattle.std.specs.List.{slice_split, onto_first, position, position_or_len, before_first, after_first}
+use Rattle.std.proofs.Common.{◌≡◌, ◌∙◌, ℕ, ◌+◌, ◌-◌, ◌<◌, ◌≤◌, ◌==◌, Bool, true, false, not, cond, nat_lt, List, [], ◌∷◌, length, take, drop, Option, Some, None, refl, ap, arith}
+use Rattle.std.specs.List.{slice_split, onto_first, position, position_or_len}
 use Rattle.std.specs.Str.Lines.{lines_of_parts, strip_carriage_return}
 use Rattle.std.proofs.lemmas.Bool.{ltb-true, ltb-false}
 use Rattle.std.proofs.Math.Dec.{eqb-suc-zero}
-use Rattle.std.proofs.lemmas.List.{take_all, drop_all, length-drop}
+use Rattle.std.proofs.lemmas.List.{take_all, length-drop}
 use Rattle.std.proofs.lemmas.List.Splits.{slice_split_first, length-slice_split}
 use Rattle.ba_wire.specs.Lines.{script_lines}
 
@@ -26,7 +26,7 @@ ended_line bs n e =
     let found = found_at (nat_lt (position_or_len (λ b. b == 10) bs) (length bs)) (position_or_len (λ b. b == 10) bs) n e in
     let within : position_or_len (λ b. b == 10) bs < length bs = ltb-true _ _ found.0 in
     let parts : slice_split (λ b. b == 10) bs ≡ take n bs ∷ slice_split (λ b. b == 10) (drop (n + 1) bs) =
-        slice_split_first (λ b. b == 10) bs 0 within ∙ ap (λ (i : ℕ). take i bs ∷ slice_split (λ b. b == 10) (drop (i + 1) bs)) found.1 in
+    slice_split_first (λ b. b == 10) bs 0 within ∙ ap (λ (i : ℕ). take i bs ∷ slice_split (λ b. b == 10) (drop (i + 1) bs)) found.1 in
     let more : 0 < length (slice_split (λ b. b == 10) (drop (n + 1) bs)) = omega (arith, length-slice_split (λ b. b == 10) (drop (n + 1) bs)) in
     ap lines_of_parts parts ∙ onward (take n bs) (slice_split (λ b. b == 10) (drop (n + 1) bs)) more
 

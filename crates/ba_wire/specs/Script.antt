@@ -1,7 +1,7 @@
 -- What one line of a script is, over the reading of its bytes as JSON.
-use Rattle.std.specs.Prelude.{◌≡◌, ℕ, ℤ, ◌&&◌, List, [], ◌∷◌, nat_lt, nat_le, length, codes, Option, Some, None, option_and_then, Result, Ok, Err, if◌then◌else◌}
-use Rattle.std.specs.Str.{bytes_eq, is_utf8}
-use Rattle.serde_json.specs.Data.{Data, Members, no_members, member}
+use Rattle.std.specs.Prelude.{◌≡◌, ℕ, ℤ, ◌<◌, ◌≤◌, ◌↔◌, ◌&&◌, List, [], ◌∷◌, nat_lt, nat_le, length, codes, Option, Some, None, option_and_then, Result, Ok, Err, if◌then◌else◌}
+use Rattle.std.specs.Str.{IsUtf8, bytes_eq, is_utf8}
+use Rattle.serde_json.specs.Data.{Data, string, object, Members, no_members, member}
 use Rattle.serde_json.specs.Find.{as_i64, as_number, as_object, as_str}
 use Rattle.serde_json.specs.Read.{read}
 use Rattle.ba_wire.specs.declared.script.Given.{Given}
@@ -97,3 +97,27 @@ line_or (Some d) = line_at d
 -- the line that the bytes are
 abbrev pub script_line_of : List ℕ → Result ScriptLine LineReason
 script_line_of bytes = if is_utf8 bytes then line_or (read bytes) else Err Json
+
+-- ---- What a reading means, apart from how it is found
+
+-- the name of a request
+pub record IsName (name : List ℕ) : Type 0 where
+  pub least : 0 < length name
+  pub most : length name ≤ 64
+
+-- the value is an object with exactly the keys of the line's form, of these values
+abbrev pub Spells : Data → ScriptLine → Type 0
+Spells d (Begin name context) = IsName name × ((members : Members) × (context ≡ given_members members)
+    × (d ≡ object (member (codes "begin") (string name) (member (codes "context") (object members) no_members))))
+Spells d (Ask name query) = IsName name × (d ≡ object (member (codes "ask") (string name) (member (codes "query") (string query) no_members)))
+Spells d (End name) = IsName name × (d ≡ object (member (codes "end") (string name) no_members))
+
+-- the bytes are the UTF-8 of a JSON text of this value
+pub record IsJson (bytes : List ℕ) (d : Data) : Type 0 where
+  pub utf8 : IsUtf8 bytes
+  pub reads : read bytes ≡ Some d
+
+-- The bytes read as a line exactly where they are the JSON of a value that spells it, and as `Json` exactly where they are the JSON of no value.
+pub record ScriptLineIsExact : Type 0 where
+  pub line : (bytes : List ℕ) (it : ScriptLine) → (script_line_of bytes ≡ Ok it) ↔ ((d : Data) × IsJson bytes d × Spells d it)
+  pub json : (bytes : List ℕ) → (script_line_of bytes ≡ Err Json) ↔ ((d : Data) → ¬ (IsJson bytes d))

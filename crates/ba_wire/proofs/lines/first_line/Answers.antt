@@ -1,4 +1,4 @@
-use Rattle.std.proofs.Common.{rules, ◌≡◌, ◌∙◌, ◌+◌, List, ℕ, [], ◌∷◌, length, drop, ap, ap₂, sym}
+use Rattle.std.proofs.Common.{rules, ◌∙◌, ◌+◌, List, ℕ, ◌∷◌, length, ap₂, sym}
 use Rattle.std.proofs.lemmas.List.{take_all, drop_all}
 use Rattle.ba_wire.specs.Lines.{script_lines}
 use Rattle.ba_wire.proofs.LineLemmas.{ended_line, from_on, last_line}
