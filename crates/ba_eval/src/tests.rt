@@ -17,12 +17,25 @@ fn single(alloc: Global, value: Value) -> Result<Row, AllocError> {
     Ok(List::from_vec(vec![in alloc; value]?))
 }
 
-/// Rows of one whole number each, where 0 stands for NULL.
+/// A whole number, where 0 stands for NULL.
+fn number(n: i64) -> Value {
+    if n == 0 { Value::Null } else { Value::Int(n) }
+}
+
+/// Rows of one number each.
 fn numbers(alloc: Global, values: &[i64]) -> Result<List<Row>, AllocError> {
     let mut rows = Vec::new(alloc);
     for n in values {
-        let value = if *n == 0 { Value::Null } else { Value::Int(*n) };
-        rows.push(single(alloc, value)?)?;
+        rows.push(single(alloc, number(*n))?)?;
+    }
+    Ok(List::from_vec(rows))
+}
+
+/// Rows of one text each.
+fn texts(alloc: Global, values: &[&str]) -> Result<List<Row>, AllocError> {
+    let mut rows = Vec::new(alloc);
+    for letters in values {
+        rows.push(single(alloc, text(alloc, letters)?)?)?;
     }
     Ok(List::from_vec(rows))
 }
@@ -50,20 +63,9 @@ fn attendances(alloc: Global) -> Result<List<Row>, AllocError> {
     Ok(List::from_vec(rows))
 }
 
-fn one_table(alloc: Global, rows: List<Row>) -> Result<RowSet, AllocError> {
-    let tables = List::from_vec(vec![in alloc; rows]?);
-    Ok(RowSet { tables })
-}
-
-fn two_tables(alloc: Global, first: List<Row>, second: List<Row>) -> Result<RowSet, AllocError> {
+fn tables(alloc: Global, first: List<Row>, second: List<Row>) -> Result<RowSet, AllocError> {
     let tables = List::from_vec(vec![in alloc; first, second]?);
     Ok(RowSet { tables })
-}
-
-fn no_parameters(alloc: Global) -> Context {
-    Context {
-        values: List::new(alloc),
-    }
 }
 
 fn atom(op: Op, left: Operand, right: Operand) -> Atom {
@@ -97,15 +99,38 @@ fn one_part(
     })
 }
 
-/// The first column of the first table where the comparison is true of that column and the value.
-fn compared(alloc: Global, op: Op, value: Value) -> Result<Query, AllocError> {
-    let from = vec![in alloc; 0]?;
-    let conds = vec![in alloc; atom(op, Operand::Col(0, 0), Operand::Val(value))]?;
-    one_part(alloc, from, conds, Operand::Col(0, 0))
+/// A question with what it is asked of.
+#[derive(Drop)]
+struct Question {
+    rows: RowSet,
+    ctx: Context,
+    query: Query,
 }
 
-/// The names of an event's users: `SELECT Name FROM Users, Attendances WHERE Users.UId = Attendances.UId AND EId = ?E`.
-fn names_of_event(alloc: Global) -> Result<Query, AllocError> {
+impl Question {
+    fn answer(&self, alloc: Global) -> Result<List<Row>, AllocError> {
+        answer(alloc, &self.rows, &self.ctx, &self.query)
+    }
+}
+
+fn without_parameters(alloc: Global, rows: RowSet, query: Query) -> Question {
+    let ctx = Context {
+        values: List::new(alloc),
+    };
+    Question { rows, ctx, query }
+}
+
+/// `SELECT Name FROM Users, Attendances WHERE Users.UId = Attendances.UId AND EId = ?E`, at the event 5.
+fn names_of_event(alloc: Global) -> Result<Question, AllocError> {
+    let rows = tables(alloc, users(alloc)?, attendances(alloc)?)?;
+    let query = event_query(alloc)?;
+    let ctx = Context {
+        values: single(alloc, Value::Int(5))?,
+    };
+    Ok(Question { rows, ctx, query })
+}
+
+fn event_query(alloc: Global) -> Result<Query, AllocError> {
     let from = vec![in alloc; 0, 1]?;
     let same_user = atom(Op::Eq, Operand::Col(0, 0), Operand::Col(1, 0));
     let of_event = atom(Op::Eq, Operand::Col(1, 1), Operand::Param(0));
@@ -115,77 +140,42 @@ fn names_of_event(alloc: Global) -> Result<Query, AllocError> {
 
 #[test]
 fn join_under_a_parameter(rt: HostRuntime) -> Result<(), Fail> {
-    let alloc = rt.alloc();
-    let rows = two_tables(alloc, users(alloc)?, attendances(alloc)?)?;
-    let query = names_of_event(alloc)?;
-    let ctx = Context {
-        values: single(alloc, Value::Int(5))?,
-    };
-    let names = answer(alloc, &rows, &ctx, &query)?;
-    assert_eq!(rt; names.len(), 2);
-    for (i, name) in ["ann", "bob"].iter().enumerate() {
-        assert_eq!(rt;
-            names.as_slice().get(i),
-            Some(&single(alloc, text(alloc, name)?)?)
-        );
-    }
+    let names = names_of_event(rt.alloc())?.answer(rt.alloc())?;
+    assert_eq!(rt; names, texts(rt.alloc(), &["ann", "bob"])?);
     Ok(())
 }
 
 #[test]
 fn rows_of_the_join(rt: HostRuntime) -> Result<(), Fail> {
-    let alloc = rt.alloc();
-    let rows = two_tables(alloc, users(alloc)?, attendances(alloc)?)?;
-    let query = names_of_event(alloc)?;
-    let ctx = Context {
-        values: single(alloc, Value::Int(5))?,
-    };
+    let question = names_of_event(rt.alloc())?;
     for (name, is_there) in [("ann", true), ("bob", true), ("cy", false), ("", false)] {
-        let row = single(alloc, text(alloc, name)?)?;
-        assert_eq!(rt;
-            contains(alloc, &rows, &ctx, &query, &row)?,
-            is_there,
-            "of {name}"
-        );
+        assert_eq!(rt; gives(rt.alloc(), &question, name)?, is_there, "of {name}");
     }
-    let pair = number_and_name(alloc, 1, "ann")?;
-    assert!(rt;
-        !contains(alloc, &rows, &ctx, &query, &pair)?,
-        "a longer row"
-    );
     Ok(())
 }
 
-/// Rows of one text each.
-fn texts(alloc: Global) -> Result<List<Row>, AllocError> {
-    let mut rows = Vec::new(alloc);
-    for name in ["b", "a", "aa", "b"] {
-        rows.push(single(alloc, text(alloc, name)?)?)?;
-    }
-    Ok(List::from_vec(rows))
+fn gives(alloc: Global, question: &Question, name: &str) -> Result<bool, AllocError> {
+    let row = single(alloc, text(alloc, name)?)?;
+    contains(alloc, &question.rows, &question.ctx, &question.query, &row)
 }
 
-#[test]
-fn union_in_order_without_duplicates(rt: HostRuntime) -> Result<(), Fail> {
-    let alloc = rt.alloc();
-    let numbers = numbers(alloc, &[10, 9, 0, -3, 9, 0])?;
-    let rows = two_tables(alloc, texts(alloc)?, numbers)?;
-    let names = part(
-        alloc,
-        vec![in alloc; 0]?,
-        Vec::new(alloc),
-        Operand::Col(0, 0),
-    )?;
-    let values = part(
-        alloc,
-        vec![in alloc; 1]?,
-        Vec::new(alloc),
-        Operand::Col(0, 0),
-    )?;
-    let parts = List::from_vec(vec![in alloc; names, values]?);
-    let list = answer(alloc, &rows, &no_parameters(alloc), &Query { parts })?;
-    assert_eq!(rt; list, in_order(alloc)?);
-    Ok(())
+/// The first column of both tables.
+fn both_columns(alloc: Global) -> Result<Query, AllocError> {
+    let mut parts = Vec::new(alloc);
+    for table in 0..2 {
+        let from = vec![in alloc; table]?;
+        parts.push(part(alloc, from, Vec::new(alloc), Operand::Col(0, 0))?)?;
+    }
+    Ok(Query {
+        parts: List::from_vec(parts),
+    })
+}
+
+fn union(alloc: Global) -> Result<Question, AllocError> {
+    let first = texts(alloc, &["b", "a", "aa", "b"])?;
+    let second = numbers(alloc, &[10, 9, 0, -3, 9, 0])?;
+    let rows = tables(alloc, first, second)?;
+    Ok(without_parameters(alloc, rows, both_columns(alloc)?))
 }
 
 /// NULL, numbers by value, texts by bytes.
@@ -198,66 +188,55 @@ fn in_order(alloc: Global) -> Result<List<Row>, AllocError> {
 }
 
 #[test]
+fn union_in_order_without_duplicates(rt: HostRuntime) -> Result<(), Fail> {
+    let list = union(rt.alloc())?.answer(rt.alloc())?;
+    assert_eq!(rt; list, in_order(rt.alloc())?);
+    Ok(())
+}
+
+/// The numbers of 4, 5, NULL and 6 of which the comparison with the value is true.
+fn compared(alloc: Global, op: Op, value: i64) -> Result<List<Row>, AllocError> {
+    let from = vec![in alloc; 0]?;
+    let conds = vec![in alloc; atom(op, Operand::Col(0, 0), Operand::Val(number(value)))]?;
+    let query = one_part(alloc, from, conds, Operand::Col(0, 0))?;
+    let rows = tables(alloc, numbers(alloc, &[4, 5, 0, 6])?, List::new(alloc))?;
+    without_parameters(alloc, rows, query).answer(alloc)
+}
+
+#[test]
 fn bounds_and_null(rt: HostRuntime) -> Result<(), Fail> {
-    let alloc = rt.alloc();
-    let rows = one_table(alloc, numbers(alloc, &[4, 5, 0, 6])?)?;
-    let ctx = no_parameters(alloc);
-    for (op, expected) in [
-        (Op::Eq, [5].as_slice()),
-        (Op::Ne, [4, 6].as_slice()),
-        (Op::Lt, [4].as_slice()),
-        (Op::Le, [4, 5].as_slice()),
-        (Op::IsNull, [0].as_slice()),
-        (Op::NotNull, [4, 5, 6].as_slice()),
+    for (op, value, expected) in [
+        (Op::Eq, 5, [5].as_slice()),
+        (Op::Ne, 5, [4, 6].as_slice()),
+        (Op::Lt, 5, [4].as_slice()),
+        (Op::Le, 5, [4, 5].as_slice()),
+        (Op::IsNull, 5, [0].as_slice()),
+        (Op::NotNull, 5, [4, 5, 6].as_slice()),
+        (Op::Eq, 0, [].as_slice()),
+        (Op::Ne, 0, [].as_slice()),
+        (Op::Lt, 0, [].as_slice()),
+        (Op::Le, 0, [].as_slice()),
     ] {
-        let list = answer(alloc, &rows, &ctx, &compared(alloc, op, Value::Int(5))?)?;
-        assert_eq!(rt; list, numbers(alloc, expected)?, "{op:?}");
+        let list = compared(rt.alloc(), op, value)?;
+        assert_eq!(rt; list, numbers(rt.alloc(), expected)?, "{op:?} {value}");
     }
     Ok(())
 }
 
-#[test]
-fn no_comparison_with_null_is_true(rt: HostRuntime) -> Result<(), Fail> {
-    let alloc = rt.alloc();
-    let rows = one_table(alloc, numbers(alloc, &[4, 0])?)?;
-    let ctx = no_parameters(alloc);
-    for op in [Op::Eq, Op::Ne, Op::Lt, Op::Le] {
-        let list = answer(alloc, &rows, &ctx, &compared(alloc, op, Value::Null)?)?;
-        assert_eq!(rt; list.len(), 0, "{op:?}");
-    }
-    Ok(())
+/// The numbers that stand in both tables, of which the comparison with the first number is true.
+fn in_both(alloc: Global, op: Op, bound: i64, rows: RowSet) -> Result<List<Row>, AllocError> {
+    let first = atom(op, Operand::Col(0, 0), Operand::Val(Value::Int(bound)));
+    let same = atom(Op::Eq, Operand::Col(0, 0), Operand::Col(1, 0));
+    let conds = vec![in alloc; first, same]?;
+    let query = one_part(alloc, vec![in alloc; 0, 1]?, conds, Operand::Col(1, 0))?;
+    without_parameters(alloc, rows, query).answer(alloc)
 }
 
 #[test]
 fn null_joins_with_nothing(rt: HostRuntime) -> Result<(), Fail> {
     let alloc = rt.alloc();
-    let rows = one_table(alloc, numbers(alloc, &[4, 0, 0])?)?;
-    let same = atom(Op::Eq, Operand::Col(0, 0), Operand::Col(1, 0));
-    let query = one_part(
-        alloc,
-        vec![in alloc; 0, 0]?,
-        vec![in alloc; same]?,
-        Operand::Col(1, 0),
-    )?;
-    let list = answer(alloc, &rows, &no_parameters(alloc), &query)?;
-    assert_eq!(rt; list, numbers(alloc, &[4])?);
-    Ok(())
-}
-
-/// Tables of 100,000 rows: the second one is never scanned where a condition fails on the first.
-#[test]
-fn scan_of_a_large_table(rt: HostRuntime) -> Result<(), Fail> {
-    let alloc = rt.alloc();
-    let rows = two_tables(alloc, up_to(alloc, 100_000)?, up_to(alloc, 100_000)?)?;
-    let last = atom(Op::Lt, Operand::Val(Value::Int(99_999)), Operand::Col(0, 0));
-    let same = atom(Op::Eq, Operand::Col(0, 0), Operand::Col(1, 0));
-    let conds = vec![in alloc; last, same]?;
-    let query = one_part(alloc, vec![in alloc; 0, 1]?, conds, Operand::Col(1, 0))?;
-    let ctx = no_parameters(alloc);
-    assert_eq!(rt;
-        answer(alloc, &rows, &ctx, &query)?,
-        numbers(alloc, &[100_000])?
-    );
+    let rows = tables(alloc, numbers(alloc, &[4, 0, 7])?, numbers(alloc, &[0, 4])?)?;
+    assert_eq!(rt; in_both(alloc, Op::IsNull, 0, rows)?, numbers(alloc, &[])?);
     Ok(())
 }
 
@@ -268,4 +247,13 @@ fn up_to(alloc: Global, most: i64) -> Result<List<Row>, AllocError> {
         rows.push(single(alloc, Value::Int(n + 1))?)?;
     }
     Ok(List::from_vec(rows))
+}
+
+/// The second table of 100,000 rows is scanned once: the bound fails on each other row of the first.
+#[test]
+fn large_tables(rt: HostRuntime) -> Result<(), Fail> {
+    let alloc = rt.alloc();
+    let rows = tables(alloc, up_to(alloc, 100_000)?, up_to(alloc, 100_000)?)?;
+    assert_eq!(rt; in_both(alloc, Op::Lt, 2, rows)?, numbers(alloc, &[1])?);
+    Ok(())
 }
