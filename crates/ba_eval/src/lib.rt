@@ -76,3 +76,6 @@ fn in_order(mut found: Vec<Row>) -> List<Row>
     found.dedup();
     List::from_vec(found)
 }
+
+#[cfg(test)]
+mod tests;
