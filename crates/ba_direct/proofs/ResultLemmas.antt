@@ -1,7 +1,7 @@
 -- Steps of the search over views and parts.
-use Rattle.std.proofs.Common.{◌≡◌, ℕ, ◌+◌, ◌<◌, ◌≤◌, List, [], ◌∷◌, ◌++◌, length, get_or, take, refl, sym, ap, ◌∙◌, subst, arith}
+use Rattle.std.proofs.Common.{◌≡◌, ℕ, suc, ◌+◌, ◌<◌, ◌≤◌, List, [], ◌∷◌, ◌++◌, length, get_or, take, refl, sym, ap, ◌∙◌, subst, arith}
 use Rattle.std.proofs.lemmas.List.{take_all, take_more}
-use Rattle.std.proofs.lemmas.Option.{slice_get_within}
+use Rattle.std.proofs.lemmas.Option.{get_or_from_slice_get, slice_get_within}
 use Rattle.std.specs.List.{AllZip}
 use Rattle.std.specs.Prelude.{MatchOption, None, Option, Some, slice_get}
 use Rattle.ba_model.specs.declared.policy.Context.{Context}
@@ -32,10 +32,13 @@ module _ (policy : Policy) (c : Context) (q : Part) (n : ℕ) (view : View) (lis
   none_of_parts many = record { none = λ other is h. many (ap length (parts_are other is h)) }
 
   module _ (part : Part) (one : length view.query.parts ≡ 1) (first : slice_get view.query.parts 0 ≡ Some part) where
-    by_part : (other : PartCover) → other.view ≡ n → CoversPart policy c q other → CoversBy c part q other.places
+    pub by_part : (other : PartCover) → other.view ≡ n → CoversPart policy c q other → CoversBy c part q other.places
     by_part other is h =
         let same : h.part ≡ part = (let k = sym (parts_are other is h) ∙ single view.query.parts part one first in cc) in
         subst (λ p. CoversBy c p q other.places) same h.by
+
+    pub covers_here : (to : List ℕ) → CoversBy c part q to → CoversPart policy c q (record { view = n; places = to })
+    covers_here to by = record { view = view; part = part; view_is = listed; part_is = single view.query.parts part one first; by = by }
 
     pub none_of_tables : (length part.from ≡ length q.from → ⊥) → NoneBy policy c q n
     none_of_tables differ =
@@ -52,7 +55,7 @@ module _ (policy : Policy) (c : Context) (q : Part) (n : ℕ) (view : View) (lis
     first_of_pairings to found =
         record {
           view_is = refl;
-          covers = record { view = view; part = part; view_is = listed; part_is = single view.query.parts part one first; by = found.covers };
+          covers = covers_here to found.covers;
           first = λ other is less h. found.first other.places less (by_part other is h);
         }
 
@@ -79,6 +82,19 @@ AllZip-push R (a ∷ xs) (b ∷ ys) x y h r = (h.0, AllZip-push R xs ys x y h.1 
 pub AllZip-more : {A B : Type 0} (R : A → B → Type 0) (xs : List A) (ys : List B) (i : ℕ) (x : A) (y : B) → i < length xs → x ≡ get_or xs i x → AllZip R (take i xs) ys → R x y → AllZip R (take (i + 1) xs) (ys ++ y ∷ [])
 AllZip-more R xs ys i x y below is h r =
     subst (λ zs. AllZip R zs (ys ++ y ∷ [])) (sym (take_more xs i x below ∙ ap (λ z. take i xs ++ z ∷ []) (sym is))) (AllZip-push R (take i xs) ys x y h r)
+
+pub AllZip-length : {A B : Type 0} (R : A → B → Type 0) (xs : List A) (ys : List B) → AllZip R xs ys → length xs ≡ length ys
+AllZip-length R [] [] h = refl
+AllZip-length R [] (y ∷ ys) h = absurd h
+AllZip-length R (x ∷ xs) [] h = absurd h
+AllZip-length R (x ∷ xs) (y ∷ ys) h = ap suc (AllZip-length R xs ys h.1)
+
+-- one further in both lists
+pub AllZip-further : {A B : Type 0} (R : A → B → Type 0) (xs : List A) (ys : List B) (i : ℕ) (x : A) (y : B) → slice_get xs i ≡ Some x → slice_get ys i ≡ Some y → AllZip R (take i xs) (take i ys) → R x y → AllZip R (take (i + 1) xs) (take (i + 1) ys)
+AllZip-further R xs ys i x y e f h r =
+    let ends : take i ys ++ y ∷ [] ≡ take (i + 1) ys = ap (λ z. take i ys ++ z ∷ []) (sym (get_or_from_slice_get ys i y y f)) ∙ sym (take_more ys i y (slice_get_within ys i y f)) in
+    subst (AllZip R (take (i + 1) xs)) ends
+    (AllZip-more R xs (take i ys) i x y (slice_get_within xs i x e) (sym (get_or_from_slice_get xs i x x e)) h r)
 
 pub AllZip-weaker : {A B : Type 0} (R S : A → B → Type 0) → ((x : A) (y : B) → R x y → S x y) → (xs : List A) (ys : List B) → AllZip R xs ys → AllZip S xs ys
 AllZip-weaker R S f [] [] h = tt

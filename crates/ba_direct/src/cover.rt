@@ -1,4 +1,8 @@
+ghost use Rattle.std.specs.Prelude.{◌≡◌, IfOk};
+
 use ba_model::list::List;
+use ba_model::same::Duplicate;
+use std::alloc::{AllocError, Global};
 
 /// A view of one part that covers a part of a query, and the pairing: for each table of the view's part its place among
 /// the tables of the query's part.
@@ -13,4 +17,22 @@ pub struct PartCover {
 #[derive(Debug, Drop)]
 pub struct Cover {
     pub parts: List<PartCover>,
+}
+
+impl Duplicate for PartCover {
+    fn copy(&self, alloc: Global) -> Result<PartCover, AllocError> {
+        let places = self.places.as_slice().to_vec(alloc)?;
+        Ok(PartCover {
+            view: self.view,
+            places: List::from_vec(places),
+        })
+    }
+}
+
+impl Duplicate for Cover {
+    fn copy(&self, alloc: Global) -> Result<Cover, AllocError> {
+        Ok(Cover {
+            parts: self.parts.copy(alloc)?,
+        })
+    }
 }

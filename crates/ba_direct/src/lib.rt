@@ -6,3 +6,5 @@ pub mod laws;
 mod pairing;
 pub mod search;
 mod test;
+#[cfg(test)]
+mod tests;

@@ -1,10 +1,10 @@
 //! The search for a cover.
-ghost use Rattle.std.specs.Prelude.{◌<◌, IfOk, IfSome, MatchOption, length};
-ghost use Rattle.ba_direct.specs.Cover.{AlwaysStrong, Covered, IsCover, IsFirst, IsFirstCover, PartCovered};
+ghost use Rattle.std.specs.Prelude.{◌<◌, ◌↔◌, IsTrue, IfOk, IfSome, MatchOption, length};
+ghost use Rattle.ba_direct.specs.Cover.{AlwaysStrong, Covered, CoversPart, IsCover, IsFirst, IsFirstCover, PartCovered};
 ghost use Rattle.ba_direct.specs.Search.{IsFirstBy, NoneBy};
 
 use crate::cover::{Cover, PartCover};
-use crate::pairing::pair;
+use crate::pairing::{covers_by, pair};
 use ba_model::list::List;
 use ba_model::policy::{Context, Policy};
 use ba_model::query::{Part, Query};
@@ -87,4 +87,32 @@ pub fn cover(
     Ok(Some(Cover {
         parts: List::from_vec(parts),
     }))
+}
+
+fn covers_part(policy: &Policy, ctx: &Context, part: &Part, cover: &PartCover) -> bool
+    ensures { IsTrue result ↔ CoversPart policy.now ctx.now part.now cover.now }
+{
+    let view = match policy.views.find(cover.view) {
+        Some(view) => view,
+        None => return false,
+    };
+    if view.query.parts.len() != 1 {
+        return false;
+    }
+    covers_by(ctx, view.query.parts.get(0), part, cover.places.as_slice())
+}
+
+/// Whether what is given covers the query, be it the first cover or another.
+pub fn is_cover(policy: &Policy, ctx: &Context, query: &Query, cover: &Cover) -> bool
+    ensures { IsTrue result ↔ IsCover policy.now ctx.now query.now cover.now }
+{
+    if query.parts.len() != cover.parts.len() {
+        return false;
+    }
+    for i in 0..query.parts.len() {
+        if !covers_part(policy, ctx, query.parts.get(i), cover.parts.get(i)) {
+            return false;
+        }
+    }
+    true
 }
