@@ -11,6 +11,8 @@ mod pass;
 mod plays;
 mod rule;
 mod storied;
+#[cfg(test)]
+mod tests;
 mod turn;
 
 pub use held::Held;

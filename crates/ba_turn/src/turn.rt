@@ -12,7 +12,6 @@ use std::alloc::{AllocError, Global};
 use std::marker::Brand;
 use std::snapshot::Snapshot;
 use std::sync::Wait;
-use std::thread;
 
 /// A value that threads call one at a time, in the order of the tickets that their passes draw.
 /// It keeps the number of each call's pass beside the value.
@@ -78,15 +77,31 @@ impl<S: Storied> Turn<S> {
         let shared = &self.table.shared;
         let ticket = shared.fetch_add::<Draw>(&mut pass.seat, TICKET, 1);
         for _ in rt.forever() {
-            if shared.load::<Look>(&mut pass.seat, SERVING) == ticket {
+            let serving = shared.load::<Look>(&mut pass.seat, SERVING);
+            if serving == ticket {
                 let Some(kept) = shared.exchange(&mut pass.seat, 0, None) else {
                     unreachable!()
                 };
                 return Held { kept };
             }
-            thread::yield_now();
+            self.wait_while(rt, serving);
         }
         unreachable!()
+    }
+
+    // Sleeps while this number is served. It may also return for no reason.
+    fn wait_while<R: Wait>(&self, rt: &R, serving: u64) {
+        self.table
+            .shared
+            .park(rt, SERVING, (serving % (1 << 32)) as u32);
+    }
+
+    // Wakes those that wait, after this number was served. Nobody waits where no later ticket was drawn:
+    // who draws one from here on finds the next number called.
+    fn wake_waiting(&self, served: u64) {
+        if self.table.shared.peek(TICKET).saturating_sub(served) > 1 {
+            self.table.shared.wake_all(SERVING);
+        }
     }
 
     /// Puts the value back with one entry more, and calls the next number. The call happens at that step:
@@ -96,6 +111,7 @@ impl<S: Storied> Turn<S> {
         requires grown { (e : S.Entry) × IsGrown S.opening S.history S.room (start_of self.now) (allowance_of self.now) (known pass.old).found held e }
         ensures free { IsFree self.now pass.new }
         ensures known { (e : S.Entry) → S.history (value_of held) ≡ map entry_of (known pass.old).found ++ e ∷ [] → known pass.new ≡ after_put e (known pass.old) }
+        ensures history { map entry_of (known pass.new).seen ≡ S.history (value_of held) }
         ensures seen { IsPrefix (known pass.old).seen (known pass.old).found }
         ensures own { calls_by (known pass.new).number (known pass.new).seen ≡ (known pass.new).made }
         ensures sums { SumsToAllowance (known pass.new) }
@@ -105,7 +121,8 @@ impl<S: Storied> Turn<S> {
         let shared = &self.table.shared;
         let nothing = shared.exchange(&mut pass.seat, 0, Some(kept));
         let None = nothing else { unreachable!() };
-        shared.fetch_add::<CallOn>(&mut pass.seat, SERVING, 1);
+        let served = shared.fetch_add::<CallOn>(&mut pass.seat, SERVING, 1);
+        self.wake_waiting(served);
     }
 
     // The allowance stands in the proof alone: it is the share.
