@@ -1,1 +1,7 @@
+pub mod BestLemmas
+pub mod ChainLemmas
 pub mod MergeLemmas
+pub mod RowLemmas
+pub mod StepLemmas
+pub mod BoundLemmas
+pub mod GridLemmas

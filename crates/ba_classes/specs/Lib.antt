@@ -1,1 +1,5 @@
+pub mod Best
+pub mod Chains
+pub mod Closure
+pub mod Grid
 pub mod Merged

@@ -1,0 +1,93 @@
+ghost use Rattle.std.specs.Prelude.{◌≡◌, ℕ, ◌+◌, ◌^◌, ◌<◌, ◌≤◌, [], length, slice_index_or, slice_set, pos, IfOk, OnOk, Some, nat_eq};
+ghost use Rattle.ba_classes.specs.Best.{IsWithin, better, joined, or_nothing};
+ghost use Rattle.ba_classes.specs.Grid.{IsGrid, IsWide, SameCells, between, cell_at, place_of};
+
+use super::best::Best;
+use super::row::Row;
+use std::alloc::{AllocError, Global};
+use std::collections::HashMap;
+
+/// The best chains between the nodes that were named. A named node has a place, which is the number
+/// of its row and of its column.
+#[derive(Drop)]
+pub struct Grid {
+    places: HashMap<u32, usize>,
+    rows: Vec<Row>,
+    ghost in_order: { IsGrid places rows.items },
+}
+
+impl Grid {
+    pub fn new(alloc: Global) -> Grid
+        ensures { (x y : ℕ) → between result.places result.rows.items x y ≡ Best.Absent }
+    {
+        Grid {
+            places: HashMap::new(alloc),
+            rows: Vec::new(alloc),
+        }
+    }
+
+    /// The place of a node, which gets one if it has none.
+    pub fn place(&mut self, node: u32) -> Result<usize, AllocError>
+        ensures place { IfOk result (λ p. place_of self.new.places node ≡ Some p) }
+        ensures kept { (x p : ℕ) →
+            place_of self.old.places x ≡ Some p → place_of self.new.places x ≡ Some p }
+        ensures same { (x y : ℕ) →
+            between self.new.places self.new.rows.items x y
+            ≡ between self.old.places self.old.rows.items x y }
+    {
+        if let Some(place) = self.places.get(&node).copied() {
+            return Ok(place);
+        }
+        let place = self.places.len();
+        widen(&mut self.rows, place + 1)?;
+        heighten(&mut self.rows, place + 1)?;
+        self.places.insert(node, place)?;
+        Ok(place)
+    }
+
+    /// The best chain of at least one fact from `x` to `y`.
+    pub fn between(&self, x: u32, y: u32) -> Best
+        ensures { result ≡ between self.now.places self.now.rows.items x y }
+    {
+        match (self.places.get(&x), self.places.get(&y)) {
+            (Some(row), Some(column)) => self.at(*row, *column),
+            _ => Best::Absent,
+        }
+    }
+
+    fn at(&self, row: usize, column: usize) -> Best
+        ensures { result ≡ cell_at self.now.rows.items row column }
+    {
+        match self.rows.get(row) {
+            Some(cells) => cells.at(column),
+            None => Best::Absent,
+        }
+    }
+}
+
+// Makes each row have at least `side` cells. Without memory some may be as they were.
+fn widen(rows: &mut [Row], side: usize) -> Result<(), AllocError>
+    ensures same { SameCells rows.old rows.new }
+    ensures kept { (w : ℕ) → IsWide w rows.old → IsWide w rows.new }
+    ensures wide { OnOk result (IsWide side rows.new) }
+{
+    for row in rows.iter_mut() {
+        row.widen(side)?;
+    }
+    Ok(())
+}
+
+// Adds empty rows until there are at least `side`. Without memory some may be missing.
+fn heighten(rows: &mut Vec<Row>, side: usize) -> Result<(), AllocError>
+    ensures same { SameCells rows.old.items rows.new.items }
+    ensures longer { length rows.old.items ≤ length rows.new.items }
+    ensures kept { (w : ℕ) → w ≤ side → IsWide w rows.old.items → IsWide w rows.new.items }
+    ensures tall { OnOk result (side ≤ length rows.new.items) }
+{
+    for _ in rows.len()..side {
+        let mut row = Row::new(*rows.allocator());
+        row.widen(side)?;
+        rows.push(row)?;
+    }
+    Ok(())
+}
