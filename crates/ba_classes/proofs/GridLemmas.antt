@@ -1,7 +1,8 @@
 -- Rows that are widened, added and raised, one after another.
-use Rattle.std.proofs.Common.{◌≡◌, ◌≢◌, ℕ, ◌+◌, ◌<◌, ◌≤◌, List, [], ◌∷◌, ◌++◌, length, get_or, set, refl, sym, ap, ◌∙◌, subst, ⊎_elim, arith, below_more}
-use Rattle.std.proofs.lemmas.Bool.{cases_lt, cases_eq}
+use Rattle.std.proofs.Common.{◌≡◌, ◌≢◌, ℕ, ◌+◌, ◌<◌, ◌≤◌, List, [], ◌∷◌, ◌++◌, length, get_or, set, refl, sym, ap, ◌∙◌, subst, ⊎_elim, arith, nat_eq, false}
+use Rattle.std.proofs.lemmas.Bool.{cases_lt, cases_eq, ne_eqb}
 use Rattle.std.proofs.lemmas.List.{get_or-set_same, get_or-set_other, get_or_past, get_or_append_left, get_or_push, length-set, length_push}
+use Rattle.ba_classes.specs.Best.{better, joined, or_nothing}
 use Rattle.ba_classes.specs.Grid.{IsWide, SameCells, cell_at}
 use Rattle.ba_classes.specs.declared.best.Best.{Best}
 use Rattle.ba_classes.specs.declared.best.Best.TheVariants.{Absent}
@@ -51,3 +52,38 @@ added_cells start rows row same empty =
 pub added_wide : (w : ℕ) (rows : List (List Best)) (row : List Best) → IsWide w rows → w ≤ length row → IsWide w (rows ++ row ∷ [])
 added_wide w rows row wide room k h =
     at_added rows row (λ n r. n < length rows + 1 → w ≤ length r) (λ n below _. wide n below) (λ _. room) (λ n past m. absurd (omega arith)) k (omega (arith, length_push rows row))
+
+module _ (start : List (List Best)) (low : ℕ) (by : Best) (onward : List Best) where
+  -- what comes to the place `low` and goes on by `by`
+  abbrev pub coming : ℕ → Best
+  coming i = joined (or_nothing (nat_eq i low) (cell_at start i low)) by
+
+  abbrev pub raised_cell : ℕ → ℕ → Best
+  raised_cell i j = better (cell_at start i j) (joined (coming i) (get_or onward j Absent))
+
+  pub raised_cells : (rows : List (List Best)) (p : ℕ) (row old : List Best) (comes : Best) → p < length rows → ((i j : ℕ) → i < p → cell_at rows i j ≡ raised_cell i j) → old ≡ get_or start p [] → comes ≡ coming p → ((j : ℕ) → get_or row j Absent ≡ better (get_or old j Absent) (joined comes (get_or onward j Absent))) → (i j : ℕ) → i < p + 1 → cell_at (set rows p row) i j ≡ raised_cell i j
+  raised_cells rows p row old comes within below old-is comes-is cells i j h =
+      at_written rows p row within (λ k r. k < p + 1 → get_or r j Absent ≡ raised_cell k j)
+      (λ _. cells j ∙ ap (λ (r : List Best). better (get_or r j Absent) (joined comes (get_or onward j Absent))) old-is ∙ ap (λ b. better (cell_at start p j) (joined b (get_or onward j Absent))) comes-is)
+      (λ k apart m. below k j (omega arith))
+      i h
+
+  pub unraised_rows : (rows : List (List Best)) (p : ℕ) (row : List Best) → p < length rows → ((i : ℕ) → p ≤ i → get_or rows i [] ≡ get_or start i []) → (i : ℕ) → p + 1 ≤ i → get_or (set rows p row) i [] ≡ get_or start i []
+  unraised_rows rows p row within above i h = at_written rows p row within (λ k r. p + 1 ≤ k → r ≡ get_or start k []) (λ m. absurd (omega arith)) (λ k apart m. above k (omega arith)) i h
+
+  pub raised_lengths : (rows : List (List Best)) (p : ℕ) (row old : List Best) → p < length rows → ((i : ℕ) → length (get_or rows i []) ≡ length (get_or start i [])) → old ≡ get_or start p [] → length row ≡ length old → (i : ℕ) → length (get_or (set rows p row) i []) ≡ length (get_or start i [])
+  raised_lengths rows p row old within same old-is len i = at_written rows p row within (λ k r. length r ≡ length (get_or start k [])) (len ∙ ap length old-is) (λ k apart. same k) i
+
+  -- past the last row there is nothing to raise
+  raised_past : (i j : ℕ) → low < length start → length start ≤ i → cell_at start i j ≡ Absent → cell_at start i low ≡ Absent → nat_eq i low ≡ false → raised_cell i j ≡ Absent
+  raised_past i j within past e f apart = rw (e, f, apart) refl
+
+  pub raised_all_cells : (rows : List (List Best)) (p : ℕ) → low < length start → length rows ≡ length start → length start ≤ p → ((i j : ℕ) → i < p → cell_at rows i j ≡ raised_cell i j) → (i j : ℕ) → cell_at rows i j ≡ raised_cell i j
+  raised_all_cells rows p within same done below i j =
+      ⊎_elim
+      (λ (h : i < length start). below i j (omega arith))
+      (λ (h : length start ≤ i).
+        let absent : (rs : List (List Best)) → length rs ≤ i → (k : ℕ) → cell_at rs i k ≡ Absent = λ rs past k. ap (λ (r : List Best). get_or r k Absent) (get_or_past rs i [] past) in
+        let apart : i ≡ low → ⊥ = λ e. absurd (omega (arith, e)) in
+        absent rows (omega arith) j ∙ sym (raised_past i j within h (absent start h j) (absent start h low) (ne_eqb i low apart)))
+      (cases_lt i (length start))

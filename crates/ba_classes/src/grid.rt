@@ -1,4 +1,5 @@
 ghost use Rattle.std.specs.Prelude.{◌≡◌, ℕ, ◌+◌, ◌^◌, ◌<◌, ◌≤◌, [], length, slice_index_or, slice_set, pos, IfOk, OnOk, Some, nat_eq};
+ghost use Rattle.std.specs.HashMap.{hash_map_len};
 ghost use Rattle.ba_classes.specs.Best.{IsWithin, better, joined, or_nothing};
 ghost use Rattle.ba_classes.specs.Grid.{IsGrid, IsWide, SameCells, between, cell_at, place_of};
 
@@ -55,6 +56,37 @@ impl Grid {
         }
     }
 
+    /// The best chains that go on from the node of a place, the empty one too.
+    pub fn onward(&self, place: usize) -> Result<Row, AllocError>
+        requires { place < hash_map_len self.now.places }
+        ensures { IfOk result (λ row. (j : ℕ) →
+            slice_index_or row j Best.Absent
+            ≡ or_nothing (nat_eq place j) (cell_at self.now.rows.items place j)) }
+    {
+        let mut row = self.rows[place].copy(*self.rows.allocator())?;
+        row.add_nothing(place);
+        Ok(row)
+    }
+
+    /// Adds the chains that come to the place `low`, go on by `by`, and go on from there by `onward`.
+    pub fn raise(&mut self, low: usize, by: Best, onward: &Row)
+        requires low { low < hash_map_len self.old.places }
+        requires comes { (i : ℕ) →
+            IsWithin (2 ^ 97) (or_nothing (nat_eq i low) (cell_at self.old.rows.items i low)) }
+        requires by { IsWithin (2 ^ 65) by }
+        requires goes { (j : ℕ) → IsWithin (2 ^ 97) (slice_index_or onward.now j Best.Absent) }
+        requires room { (j : ℕ) → hash_map_len self.old.places ≤ j →
+            slice_index_or onward.now j Best.Absent ≡ Best.Absent }
+        ensures places { (x : ℕ) → place_of self.new.places x ≡ place_of self.old.places x }
+        ensures cells { (i j : ℕ) →
+            cell_at self.new.rows.items i j
+            ≡ better (cell_at self.old.rows.items i j)
+                (joined (joined (or_nothing (nat_eq i low) (cell_at self.old.rows.items i low)) by)
+                    (slice_index_or onward.now j Best.Absent)) }
+    {
+        raise(&mut self.rows, low, by, onward);
+    }
+
     fn at(&self, row: usize, column: usize) -> Best
         ensures { result ≡ cell_at self.now.rows.items row column }
     {
@@ -90,4 +122,28 @@ fn heighten(rows: &mut Vec<Row>, side: usize) -> Result<(), AllocError>
         rows.push(row)?;
     }
     Ok(())
+}
+
+// Each row with the chains that come to the place `low`, go on by `by`, and go on from there by
+// `onward`.
+fn raise(rows: &mut [Row], low: usize, by: Best, onward: &Row)
+    requires low { low < length rows.old }
+    requires comes { (i : ℕ) →
+        IsWithin (2 ^ 97) (or_nothing (nat_eq i low) (cell_at rows.old i low)) }
+    requires by { IsWithin (2 ^ 65) by }
+    requires goes { (j : ℕ) → IsWithin (2 ^ 97) (slice_index_or onward.now j Best.Absent) }
+    requires room { (i j : ℕ) → i < length rows.old → length (slice_index_or rows.old i []) ≤ j →
+        slice_index_or onward.now j Best.Absent ≡ Best.Absent }
+    ensures lengths { (i : ℕ) →
+        length (slice_index_or rows.new i []) ≡ length (slice_index_or rows.old i []) }
+    ensures cells { (i j : ℕ) →
+        cell_at rows.new i j
+        ≡ better (cell_at rows.old i j)
+            (joined (joined (or_nothing (nat_eq i low) (cell_at rows.old i low)) by)
+                (slice_index_or onward.now j Best.Absent)) }
+{
+    for (place, row) in rows.iter_mut().enumerate() {
+        let comes = row.at(low).or_nothing(place == low).joined(by);
+        row.raise(comes, onward);
+    }
 }
