@@ -1,7 +1,7 @@
 -- What the best of two sets of chains, and of chains that go on, reaches.
-use Rattle.std.proofs.Common.{◌≡◌, ℕ, ℤ, pos, neg_ℤ, ◌+ℤ◌, ◌≤ℤ◌, refl, ◌⊎◌, inl, inr, arith}
+use Rattle.std.proofs.Common.{◌≡◌, ℤ, pos, neg_ℤ, ◌+ℤ◌, ◌≤ℤ◌, refl, ◌⊎◌, inl, inr, arith}
 use Rattle.std.proofs.lemmas.Int.{ints, clamps, by_lt_z}
-use Rattle.ba_classes.specs.Best.{Reaches, IsWithin, better, joined, or_nothing}
+use Rattle.ba_classes.specs.Best.{Reaches, better, joined}
 use Rattle.ba_classes.specs.declared.best.Best.{Best}
 use Rattle.ba_classes.specs.declared.best.Best.TheVariants.{Absent, Sum, Unbounded}
 

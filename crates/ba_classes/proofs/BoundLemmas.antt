@@ -1,7 +1,7 @@
 -- The best sum of chains is that of a chain which visits no node twice, so it isn't large.
-use Rattle.std.proofs.Common.{◌≡◌, ℕ, ◌*◌, ◌^◌, ◌<◌, ◌≤◌, ℤ, pos, neg_ℤ, ◌+ℤ◌, ◌≤ℤ◌, ◌<ℤ◌, List, [], ◌∷◌, length, All, Contains, Bool, true, false, eqb, refl, sym, ap, ◌∙◌, subst, ◌⊎◌, inl, inr, ⊎_elim, arith}
+use Rattle.std.proofs.Common.{◌≡◌, ℕ, ◌*◌, ◌^◌, ◌<◌, ℤ, pos, neg_ℤ, ◌+ℤ◌, ◌≤ℤ◌, ◌<ℤ◌, List, [], ◌∷◌, length, All, Contains, Bool, true, false, eqb, refl, sym, subst, ◌⊎◌, inl, inr, ⊎_elim, arith}
 use Rattle.std.specs.List.{list_any, AllByRecursion, IsDistinct}
-use Rattle.std.proofs.lemmas.Bool.{cases_Bool, or_cases, or_parts, eqb-true, eqb-false}
+use Rattle.std.proofs.lemmas.Bool.{or_cases, or_parts, eqb-true}
 use Rattle.std.proofs.lemmas.Int.{ints, by_lt_z}
 use Rattle.std.proofs.lemmas.List.Elements.{All-contains}
 use Rattle.std.proofs.lemmas.Map.Keys.{IsDistinct-cons}
@@ -12,7 +12,7 @@ use Rattle.ba_classes.specs.Closure.{reach, IsExact, IsInRange}
 use Rattle.ba_classes.specs.declared.best.Best.{Best}
 use Rattle.ba_classes.specs.declared.best.Best.TheVariants.{Absent, Sum, Unbounded}
 use Rattle.ba_classes.specs.declared.order.Difference.{Difference}
-use Rattle.ba_classes.proofs.ChainLemmas.{summing, then}
+use Rattle.ba_classes.proofs.ChainLemmas.{then}
 
 -- a chain that visits the listed nodes, none of them twice
 data Simple (facts : List Difference) : List ℕ → ℕ → ℤ → ℕ → Type 0 where

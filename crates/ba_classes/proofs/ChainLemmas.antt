@@ -1,8 +1,8 @@
 -- Chains one after another, round a circle, and of more facts.
-use Rattle.std.proofs.Common.{◌≡◌, ℕ, suc, zero, ◌*◌, ℤ, pos, negsuc, neg_ℤ, ◌+ℤ◌, ◌≤ℤ◌, ◌<ℤ◌, List, [], ◌∷◌, ◌++◌, Contains, refl, sym, subst, ◌⊎◌, inl, inr, ⊎_elim, arith}
+use Rattle.std.proofs.Common.{◌≡◌, ℕ, suc, zero, ℤ, pos, negsuc, ◌+ℤ◌, ◌≤ℤ◌, List, ◌++◌, Contains, subst, arith}
 use Rattle.std.proofs.lemmas.Int.{ints}
-use Rattle.std.proofs.lemmas.List.Elements.{Contains-append_left, Contains-push, Contains-push_cases}
-use Rattle.ba_classes.specs.Chains.{Chain, none, first, Shows, IsAbsurd}
+use Rattle.std.proofs.lemmas.List.Elements.{Contains-append_left}
+use Rattle.ba_classes.specs.Chains.{Chain, none, first, Shows}
 use Rattle.ba_classes.specs.declared.order.Difference.{Difference}
 
 -- the same chain, where its sum is written otherwise

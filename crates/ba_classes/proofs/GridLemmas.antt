@@ -34,10 +34,10 @@ at_added rows row P old new past k =
     ⊎_elim
     (λ (h : k < length rows). subst (P k) (sym (get_or_append_left rows _ [] k h)) (old k h))
     (λ (h : length rows ≤ k).
-      ⊎_elim
-      (λ (e : k ≡ length rows). subst (λ n. P n (get_or (rows ++ row ∷ []) n [])) (sym e) (subst (P (length rows)) (sym (get_or_push rows row [] (length rows) refl)) new))
-      (λ (apart : k ≡ length rows → ⊥). subst (P k) (sym (get_or_past (rows ++ row ∷ []) k [] (omega (arith, length_push rows row)))) (past k (omega arith)))
-      (cases_eq k (length rows)))
+    ⊎_elim
+    (λ (e : k ≡ length rows). subst (λ n. P n (get_or (rows ++ row ∷ []) n [])) (sym e) (subst (P (length rows)) (sym (get_or_push rows row [] (length rows) refl)) new))
+    (λ (apart : k ≡ length rows → ⊥). subst (P k) (sym (get_or_past (rows ++ row ∷ []) k [] (omega (arith, length_push rows row)))) (past k (omega arith)))
+    (cases_eq k (length rows)))
     (cases_lt k (length rows))
 
 pub added_cells : (start rows : List (List Best)) (row : List Best) → SameCells start rows → ((j : ℕ) → get_or row j Absent ≡ Absent) → SameCells start (rows ++ row ∷ [])
@@ -83,7 +83,7 @@ module _ (start : List (List Best)) (low : ℕ) (by : Best) (onward : List Best)
       ⊎_elim
       (λ (h : i < length start). below i j (omega arith))
       (λ (h : length start ≤ i).
-        let absent : (rs : List (List Best)) → length rs ≤ i → (k : ℕ) → cell_at rs i k ≡ Absent = λ rs past k. ap (λ (r : List Best). get_or r k Absent) (get_or_past rs i [] past) in
-        let apart : i ≡ low → ⊥ = λ e. absurd (omega (arith, e)) in
-        absent rows (omega arith) j ∙ sym (raised_past i j within h (absent start h j) (absent start h low) (ne_eqb i low apart)))
+      let absent : (rs : List (List Best)) → length rs ≤ i → (k : ℕ) → cell_at rs i k ≡ Absent = λ rs past k. ap (λ (r : List Best). get_or r k Absent) (get_or_past rs i [] past) in
+      let apart : i ≡ low → ⊥ = λ e. absurd (omega (arith, e)) in
+      absent rows (omega arith) j ∙ sym (raised_past i j within h (absent start h j) (absent start h low) (ne_eqb i low apart)))
       (cases_lt i (length start))

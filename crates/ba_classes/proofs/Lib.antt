@@ -5,3 +5,4 @@ pub mod RowLemmas
 pub mod StepLemmas
 pub mod BoundLemmas
 pub mod GridLemmas
+pub mod ClosureLemmas

@@ -9,7 +9,7 @@ use Rattle.ba_classes.specs.Closure.{reach, through, IsExact}
 use Rattle.ba_classes.specs.declared.best.Best.{Best}
 use Rattle.ba_classes.specs.declared.best.Best.TheVariants.{Absent, Sum, Unbounded}
 use Rattle.ba_classes.specs.declared.order.Difference.{Difference}
-use Rattle.ba_classes.proofs.BestLemmas.{reaches_left, reaches_right, reaches_either, reaches_joined, Parts, parts_of}
+use Rattle.ba_classes.proofs.BestLemmas.{reaches_left, reaches_right, reaches_either, reaches_joined, parts_of}
 use Rattle.ba_classes.proofs.ChainLemmas.{weaken, Chain-more, Shows-none, Shows-then, Shows-more, Shows-fact, any_number}
 
 -- what is reached is reached of any lesser number
@@ -57,27 +57,27 @@ module _ (facts : List Difference) (cell : ℕ → ℕ → Best) (exact : IsExac
 
   starts_with_fact : {k : ℤ} {y : ℕ} → Shows facts fact.high k y ⊎ Passes fact.high k y → Passes fact.low (fact.gap +ℤ k) y
   starts_with_fact {k} {y} (inl s) = record {
-      before = pos 0;
-      between = fact.gap;
-      beyond = k;
-      comes = Shows-none fact.low;
-      crosses = by_fact_once gains;
-      goes = s;
-      enough = omega (arith, ints);
-    }
+    before = pos 0;
+    between = fact.gap;
+    beyond = k;
+    comes = Shows-none fact.low;
+    crosses = by_fact_once gains;
+    goes = s;
+    enough = omega (arith, ints);
+  }
     where
       by_fact_once : (r : Bool) → Reaches (through r fact.gap) fact.gap
       by_fact_once true = tt
       by_fact_once false = omega (arith, ints)
   starts_with_fact {k} {y} (inr p) = record {
-      before = pos 0;
-      between = (fact.gap +ℤ p.before) +ℤ p.between;
-      beyond = p.beyond;
-      comes = Shows-none fact.low;
-      crosses = again gains refl p.crosses;
-      goes = p.goes;
-      enough = omega (arith, ints, p.enough);
-    }
+    before = pos 0;
+    between = (fact.gap +ℤ p.before) +ℤ p.between;
+    beyond = p.beyond;
+    comes = Shows-none fact.low;
+    crosses = again gains refl p.crosses;
+    goes = p.goes;
+    enough = omega (arith, ints, p.enough);
+  }
     where
       again : (r : Bool) → gains ≡ r → Reaches (through r fact.gap) p.between → Reaches (through r fact.gap) ((fact.gap +ℤ p.before) +ℤ p.between)
       again true e c = tt
@@ -86,14 +86,14 @@ module _ (facts : List Difference) (cell : ℕ → ℕ → Best) (exact : IsExac
   starts_with_old : {k : ℤ} {y : ℕ} (f : Difference) → Contains facts f → Shows facts f.high k y ⊎ Passes f.high k y → Shows facts f.low (f.gap +ℤ k) y ⊎ Passes f.low (f.gap +ℤ k) y
   starts_with_old {k} f h (inl s) = inl (Shows-then _ (omega (arith, ints)) (Shows-fact f h) s)
   starts_with_old {k} f h (inr p) = inr record {
-      before = f.gap +ℤ p.before;
-      between = p.between;
-      beyond = p.beyond;
-      comes = Shows-then _ (omega (arith, ints)) (Shows-fact f h) p.comes;
-      crosses = p.crosses;
-      goes = p.goes;
-      enough = omega (arith, ints, p.enough);
-    }
+    before = f.gap +ℤ p.before;
+    between = p.between;
+    beyond = p.beyond;
+    comes = Shows-then _ (omega (arith, ints)) (Shows-fact f h) p.comes;
+    crosses = p.crosses;
+    goes = p.goes;
+    enough = omega (arith, ints, p.enough);
+  }
 
   -- a chain of the facts and the new one is a chain of the old facts, or passes through the new one
   pub passes_or_not : {x y : ℕ} {k : ℤ} → Chain after x k y → Shows facts x k y ⊎ Passes x k y
@@ -154,18 +154,18 @@ module _ (facts : List Difference) (cell : ℕ → ℕ → Best) (exact : IsExac
   module _ (new : ℕ → ℕ → Best) (raised : (x y : ℕ) → new x y ≡ better (cell x y) (raised_by x y)) where
     pub IsExact-raised : IsExact after new
     IsExact-raised = record {
-        sound = λ x y k h.
+      sound = λ x y k h.
           ⊎_elim
           (λ old. Shows-more (fact ∷ []) (exact.sound x y k old))
           (λ through_it. passed (passes_from x y k through_it))
           (raised_either (nat_eq x y) (cell x y) (raised_by x y) k (subst (λ b. Reaches (or_nothing (nat_eq x y) b) k) (raised x y) h));
-        complete = λ x y k s.
+      complete = λ x y k s.
           subst (λ b. Reaches (or_nothing (nat_eq x y) b) k) (sym (raised x y))
           (⊎_elim
-            (λ old. raised_left (nat_eq x y) (cell x y) (raised_by x y) k (exact.complete x y k old))
-            (λ p. raised_right (nat_eq x y) (cell x y) (raised_by x y) k (raised_from x y k p))
-            (shown_before s));
-      }
+          (λ old. raised_left (nat_eq x y) (cell x y) (raised_by x y) k (exact.complete x y k old))
+          (λ p. raised_right (nat_eq x y) (cell x y) (raised_by x y) k (raised_from x y k p))
+          (shown_before s));
+    }
 
   -- a circle through the fact gains only where its way back does
   circle_gains : {x : ℕ} {k : ℤ} → pos 0 <ℤ k → (p : Passes x k x) → (r : Bool) → gains ≡ r → Reaches (through r fact.gap) p.between → r ≡ true
@@ -175,12 +175,13 @@ module _ (facts : List Difference) (cell : ℕ → ℕ → Best) (exact : IsExac
       absurd (omega (arith, ints, no_gain _ e back, p.enough))
 
   pub IsAbsurd-after : (flag : Bool) → IsTrue flag ↔ IsAbsurd facts → IsTrue (flag || gains) ↔ IsAbsurd after
-  IsAbsurd-after flag flag_is =
-      ( λ h. ⊎_elim
-          (λ before. let a = flag_is.0 before in record { node = a.node; sum = a.sum; above = a.above; chain = Chain-more (fact ∷ []) a.chain })
-          (λ now. let s = circle now in record { node = fact.low; sum = s.sum; above = omega (arith, ints, s.enough); chain = s.chain })
-          (or_cases flag gains h),
-      λ a. ⊎_elim
-          (λ s. or_left flag gains (flag_is.1 (record { node = a.node; sum = s.sum; above = omega (arith, ints, a.above, s.enough); chain = s.chain })))
-          (λ p. or_right flag gains (circle_gains a.above p gains refl p.crosses))
-          (passes_or_not a.chain) )
+  IsAbsurd-after flag flag_is = (
+    λ h. ⊎_elim
+        (λ before. let a = flag_is.0 before in record { node = a.node; sum = a.sum; above = a.above; chain = Chain-more (fact ∷ []) a.chain })
+        (λ now. let s = circle now in record { node = fact.low; sum = s.sum; above = omega (arith, ints, s.enough); chain = s.chain })
+        (or_cases flag gains h),
+    λ a. ⊎_elim
+        (λ s. or_left flag gains (flag_is.1 (record { node = a.node; sum = s.sum; above = omega (arith, ints, a.above, s.enough); chain = s.chain })))
+        (λ p. or_right flag gains (circle_gains a.above p gains refl p.crosses))
+        (passes_or_not a.chain),
+  )

@@ -1,5 +1,5 @@
 -- Facts `low + gap <= high` over whole numbers, and what follows from them by addition.
-use Rattle.std.specs.Prelude.{ℕ, ℤ, pos, neg_ℤ, ◌+ℤ◌, ◌≤ℤ◌, ◌<ℤ◌, ◌<◌, ◌^◌, List, Contains}
+use Rattle.std.specs.Prelude.{ℕ, ℤ, pos, ◌+ℤ◌, ◌≤ℤ◌, ◌<ℤ◌, List, Contains}
 use Rattle.ba_classes.specs.declared.order.Difference.{Difference}
 
 -- a chain of the facts from one node to another: each of its facts begins where the one before it ends. Its sum is that of their gaps

@@ -1,7 +1,9 @@
 -- The best sum of the chains between any two nodes, kept in cells.
-use Rattle.std.specs.Prelude.{◌≡◌, ℕ, ℤ, pos, neg_ℤ, ◌+ℤ◌, ◌≤ℤ◌, ◌<◌, ◌^◌, List, All, IsTrue, Bool, ◌↔◌, nat_eq, if◌then◌else◌}
+use Rattle.std.specs.Prelude.{◌≡◌, ℕ, ℤ, pos, neg_ℤ, ◌≤ℤ◌, ◌<◌, ◌^◌, List, All, IsTrue, Bool, Some, ◌↔◌, nat_eq, if◌then◌else◌}
 use Rattle.ba_classes.specs.Best.{Reaches, or_nothing}
 use Rattle.ba_classes.specs.Chains.{Shows, IsAbsurd}
+use Rattle.ba_classes.specs.Grid.{Places, place_of, between}
+use Rattle.std.specs.HashMap.{hash_map_len}
 use Rattle.ba_classes.specs.declared.best.Best.{Best}
 use Rattle.ba_classes.specs.declared.best.Best.TheVariants.{Sum, Unbounded}
 use Rattle.ba_classes.specs.declared.order.Difference.{Difference}
@@ -22,12 +24,19 @@ pub record IsInRange (f : Difference) : Type 0 where
   pub above : neg_ℤ (pos (2 ^ 65)) ≤ℤ f.gap
   pub below : f.gap ≤ℤ pos (2 ^ 65)
 
--- the cells and the flag say what follows from the facts, which are in range
-pub record IsClosure (facts : List Difference) (cell : ℕ → ℕ → Best) (absurd_flag : Bool) : Type 0 where
-  pub in_range : All IsInRange facts
-  pub exact : IsExact facts cell
-  pub flag : IsTrue absurd_flag ↔ IsAbsurd facts
-
 -- the best of the chains that begin and end with a fact of this gap: there are ones of any sum where it gains with a way back
 abbrev pub through : Bool → ℤ → Best
 through gains gap = if gains then Unbounded else Sum gap
+
+-- a node that has the place
+pub record HasPlace (places : Places) (p : ℕ) : Type 0 where
+  pub node : ℕ
+  pub small : node < 2 ^ 32
+  pub placed : place_of places node ≡ Some p
+
+-- the cells and the flag say what follows from the facts, which are in range, and each place is a node's
+pub record IsClosure (facts : List Difference) (places : Places) (rows : List (List Best)) (is_absurd : Bool) : Type 0 where
+  pub in_range : All IsInRange facts
+  pub named : (p : ℕ) → p < hash_map_len places → HasPlace places p
+  pub exact : IsExact facts (between places rows)
+  pub flag : IsTrue is_absurd ↔ IsAbsurd facts

@@ -52,6 +52,10 @@ impl Best {
     pub fn or_nothing(self, one_node: bool) -> Best
         ensures { result ≡ or_nothing one_node self }
     {
-        if one_node { self.better(Best::Sum(0)) } else { self }
+        if one_node {
+            self.better(Best::Sum(0))
+        } else {
+            self
+        }
     }
 }

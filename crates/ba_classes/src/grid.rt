@@ -1,4 +1,4 @@
-ghost use Rattle.std.specs.Prelude.{◌≡◌, ℕ, ◌+◌, ◌^◌, ◌<◌, ◌≤◌, [], length, slice_index_or, slice_set, pos, IfOk, OnOk, Some, nat_eq};
+ghost use Rattle.std.specs.Prelude.{◌≡◌, ℕ, ◌+◌, ◌^◌, ◌<◌, ◌≤◌, [], length, slice_index_or, slice_set, pos, IfOk, OnOk, Some, nat_eq, ◌⊎◌};
 ghost use Rattle.std.specs.HashMap.{hash_map_len};
 ghost use Rattle.ba_classes.specs.Best.{IsWithin, better, joined, or_nothing};
 ghost use Rattle.ba_classes.specs.Grid.{IsGrid, IsWide, SameCells, between, cell_at, place_of};
@@ -19,7 +19,8 @@ pub struct Grid {
 
 impl Grid {
     pub fn new(alloc: Global) -> Grid
-        ensures { (x y : ℕ) → between result.places result.rows.items x y ≡ Best.Absent }
+        ensures unnamed { hash_map_len result.places ≡ 0 }
+        ensures absent { (x y : ℕ) → between result.places result.rows.items x y ≡ Best.Absent }
     {
         Grid {
             places: HashMap::new(alloc),
@@ -32,6 +33,8 @@ impl Grid {
         ensures place { IfOk result (λ p. place_of self.new.places node ≡ Some p) }
         ensures kept { (x p : ℕ) →
             place_of self.old.places x ≡ Some p → place_of self.new.places x ≡ Some p }
+        ensures named { (p : ℕ) → p < hash_map_len self.new.places →
+            (p < hash_map_len self.old.places) ⊎ (place_of self.new.places node ≡ Some p) }
         ensures same { (x y : ℕ) →
             between self.new.places self.new.rows.items x y
             ≡ between self.old.places self.old.rows.items x y }
@@ -77,12 +80,13 @@ impl Grid {
         requires goes { (j : ℕ) → IsWithin (2 ^ 97) (slice_index_or onward.now j Best.Absent) }
         requires room { (j : ℕ) → hash_map_len self.old.places ≤ j →
             slice_index_or onward.now j Best.Absent ≡ Best.Absent }
+        ensures len { hash_map_len self.new.places ≡ hash_map_len self.old.places }
         ensures places { (x : ℕ) → place_of self.new.places x ≡ place_of self.old.places x }
         ensures cells { (i j : ℕ) →
             cell_at self.new.rows.items i j
             ≡ better (cell_at self.old.rows.items i j)
-                (joined (joined (or_nothing (nat_eq i low) (cell_at self.old.rows.items i low)) by)
-                    (slice_index_or onward.now j Best.Absent)) }
+            (joined (joined (or_nothing (nat_eq i low) (cell_at self.old.rows.items i low)) by)
+            (slice_index_or onward.now j Best.Absent)) }
     {
         raise(&mut self.rows, low, by, onward);
     }
@@ -139,8 +143,8 @@ fn raise(rows: &mut [Row], low: usize, by: Best, onward: &Row)
     ensures cells { (i j : ℕ) →
         cell_at rows.new i j
         ≡ better (cell_at rows.old i j)
-            (joined (joined (or_nothing (nat_eq i low) (cell_at rows.old i low)) by)
-                (slice_index_or onward.now j Best.Absent)) }
+        (joined (joined (or_nothing (nat_eq i low) (cell_at rows.old i low)) by)
+        (slice_index_or onward.now j Best.Absent)) }
 {
     for (place, row) in rows.iter_mut().enumerate() {
         let comes = row.at(low).or_nothing(place == low).joined(by);

@@ -6,9 +6,8 @@
 //! them by addition.
 #![tactic(auto)]
 
-pub mod classes;
-pub mod order;
-
 mod best;
+pub mod classes;
 mod grid;
+pub mod order;
 mod row;

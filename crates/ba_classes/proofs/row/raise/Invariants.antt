@@ -1,4 +1,4 @@
-use Rattle.std.proofs.Common.{◌≡◌, ◌<◌, ◌≤◌, ℕ, length, get_or}
+use Rattle.std.proofs.Common.{◌≡◌, ◌<◌, ◌≤◌, ℕ, get_or}
 use Rattle.ba_classes.specs.Best.{better, joined}
 use Rattle.ba_classes.specs.declared.best.Best.TheVariants.{Absent}
 use Rattle.ba_classes.proofs.row.raise.Given as goal
