@@ -6,3 +6,4 @@ pub mod StepLemmas
 pub mod BoundLemmas
 pub mod GridLemmas
 pub mod ClosureLemmas
+pub mod UnusedLemmas

@@ -9,5 +9,6 @@
 mod best;
 pub mod classes;
 mod grid;
+mod image;
 pub mod order;
 mod row;
