@@ -2,7 +2,13 @@
 //! is at least another.
 //!
 //! [`classes::Classes`] keeps the equations that were made, as labels of the terms.
-//! [`order::Order`] keeps facts `x + k <= y` over whole numbers, and what follows from them.
+//! [`order::Order`] keeps facts `low + gap <= high` over whole numbers, and all that follows from
+//! them by addition.
 #![tactic(auto)]
 
+mod best;
 pub mod classes;
+mod grid;
+mod image;
+pub mod order;
+mod row;
