@@ -4,3 +4,4 @@ pub mod Meaning
 pub mod Conform
 pub mod Fit
 pub mod QueryFaults
+pub mod SchemaFaults

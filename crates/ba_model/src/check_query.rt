@@ -184,7 +184,7 @@ fn same_operand(left: &Operand, right: &Operand) -> bool
     }
 }
 
-fn agree(left: Option<Kind>, right: Option<Kind>) -> bool
+pub(crate) fn agree(left: Option<Kind>, right: Option<Kind>) -> bool
     ensures { result ≡ faults.agree left right }
 {
     match (left, right) {

@@ -2,6 +2,7 @@
 #![tactic(auto)]
 
 pub mod check_query;
+pub mod check_schema;
 pub mod holds;
 pub mod laws;
 pub mod limits;
@@ -11,5 +12,7 @@ pub mod policy;
 pub mod query;
 pub mod same;
 pub mod schema;
+#[cfg(test)]
+mod tests;
 pub mod text;
 pub mod value;
