@@ -1,5 +1,5 @@
 //! The search for the rows of one part.
-ghost use Rattle.std.specs.Prelude.{◌≡◌, ◌↔◌, ◌++◌, IsTrue, IfOk, OnOk, All, Any, Some, map};
+ghost use Rattle.std.specs.Prelude.{◌≡◌, ◌↔◌, IsTrue, IfOk, OnOk, All, Any, Some, map};
 ghost use Rattle.ba_model.specs.Meaning.{value_of, rows_of, Holds, Gives};
 ghost use Rattle.ba_eval.specs.Search.{Adds, Fails, GivesFrom, IsHead};
 
