@@ -23,6 +23,7 @@ rows_whole [] = refl
 rows_whole (r ∷ rs) = rw (row_whole r) (rows_whole rs)
 
 pub json_whole : (p : Printed) → has_float (json_of p) ≡ false
+unfolding json_of
 json_whole (begin request line version) = refl
 json_whole (answer by line request rows version) = rw (rows_whole rows) refl
 json_whole (block why line request version) = refl
@@ -40,6 +41,7 @@ rows_flat [] = omega arith
 rows_flat (r ∷ rs) = let first = row_flat r in let rest = rows_flat rs in omega arith
 
 pub json_shallow : (p : Printed) → depth (json_of p) ≤ max_depth
+unfolding json_of
 json_shallow (begin request line version) = omega arith
 json_shallow (answer by line request rows version) = let flat = rows_flat rows in omega arith
 json_shallow (block why line request version) = omega arith

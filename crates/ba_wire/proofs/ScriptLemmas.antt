@@ -14,7 +14,7 @@ under : Bool → Option Data → Result ScriptLine LineReason
 under b d = cond b (line_or d) (Err Json)
 
 under_is : (bytes : List ℕ) → script_line_of bytes ≡ under (is_utf8 bytes) (read bytes)
-unfolding under
+unfolding under script_line_of
 under_is bytes = refl
 
 pub line_of_json : (bytes : List ℕ) (d : Data) → IsUtf8 bytes → read bytes ≡ Some d → script_line_of bytes ≡ line_at d

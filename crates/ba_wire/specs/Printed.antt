@@ -69,7 +69,7 @@ row_json row = array (items_of (map value_json row))
 abbrev pub rows_json : List (List Value) → Data
 rows_json rows = array (items_of (map row_json rows))
 
-abbrev pub json_of : Printed → Data
+unfoldable pub json_of : Printed → Data
 json_of (begin request line version) =
     object (member (codes "begin") (string request)
     (member (codes "line") (count line)
@@ -94,7 +94,7 @@ json_of (memory line) =
     object (member (codes "line") (count line)
     (member (codes "memory") (boolean true) no_members))
 
-abbrev pub summary_json : Summary → Data
+unfoldable pub summary_json : Summary → Data
 summary_json s =
     object (member (codes "answered") (count s.answered)
     (member (codes "blocked") (count s.blocked)
@@ -105,7 +105,7 @@ summary_json s =
     (member (codes "unread") (count s.unread) no_members)))))))
 
 -- each with the exit status of the program
-abbrev pub fault_json : Fault → Data
+unfoldable pub fault_json : Fault → Data
 fault_json fault.Words =
     object (member (codes "fault") (string (codes "words"))
     (member (codes "status") (count 2)

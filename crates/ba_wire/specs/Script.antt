@@ -95,7 +95,7 @@ line_or None = Err Json
 line_or (Some d) = line_at d
 
 -- the line that the bytes are
-abbrev pub script_line_of : List ℕ → Result ScriptLine LineReason
+unfoldable pub script_line_of : List ℕ → Result ScriptLine LineReason
 script_line_of bytes = if is_utf8 bytes then line_or (read bytes) else Err Json
 
 -- ---- What a reading means, apart from how it is found

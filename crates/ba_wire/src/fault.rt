@@ -1,4 +1,6 @@
 //! The one line of a run that a fault ended.
+#![tactic(auto, unfolding(crate::specs::Printed::fault_json))]
+
 ghost use Rattle.std.specs.Prelude.{◌≡◌, IfOk, string_bytes};
 ghost use Rattle.ba_wire.specs.Object.{made};
 ghost use Rattle.ba_wire.specs.Printed.{ReadsBack, reason_name, what_name, fault_json, fault_bytes};

@@ -1,4 +1,6 @@
 //! The lines of a run.
+#![tactic(auto, unfolding(crate::specs::Printed::json_of))]
+
 ghost use Rattle.std.specs.Prelude.{◌≡◌, IfOk, string_bytes};
 ghost use Rattle.serde_json.specs.View.{view};
 ghost use Rattle.ba_wire.specs.Object.{made};

@@ -1,4 +1,6 @@
 //! The last line of a run.
+#![tactic(auto, unfolding(crate::specs::Printed::summary_json))]
+
 ghost use Rattle.std.specs.Prelude.{◌≡◌, IfOk, string_bytes};
 ghost use Rattle.ba_wire.specs.Object.{made};
 ghost use Rattle.ba_wire.specs.Printed.{ReadsBack, summary_json, summary_bytes};
