@@ -1,6 +1,7 @@
 //! The tables of a database: the rows of a table's file, and rows that conform to their schema.
 #![tactic(auto)]
 
+pub mod broken;
 pub mod fault;
 mod field;
 pub mod file;
