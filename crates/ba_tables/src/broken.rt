@@ -11,7 +11,7 @@ use ba_model::list::List;
 use ba_model::same::Duplicate;
 use ba_model::schema::{Link, Table};
 use ba_model::value::{Row, RowSet, Value};
-use std::alloc::{AllocError, Global};
+use std::alloc::{AllocError, AllocFailed, Global};
 use std::collections::{BTreeMap, BTreeSet};
 use thiserror::Error;
 
@@ -49,6 +49,14 @@ impl From<AllocError> for TablesError {
     ghost from_gives = { λ _ e. e ≡ NoMemory };
 
     fn from(_e: AllocError) -> TablesError {
+        TablesError::NoMemory
+    }
+}
+
+impl<T: Drop> From<AllocFailed<T>> for TablesError {
+    ghost from_gives = { λ _ e. e ≡ NoMemory };
+
+    fn from(_e: AllocFailed<T>) -> TablesError {
         TablesError::NoMemory
     }
 }

@@ -14,3 +14,5 @@ pub const ROW_LIMIT: u64 = 100_000;
 
 #[cfg(test)]
 mod tests;
+#[cfg(test)]
+mod tests_tables;
