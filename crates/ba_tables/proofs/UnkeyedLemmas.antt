@@ -9,7 +9,7 @@ use Rattle.ba_model.specs.declared.value.RowSet.{RowSet}
 use Rattle.ba_model.specs.declared.value.Value.{Value}
 use Rattle.ba_tables.specs.TableSet.{HasNoKeys, IsUnkeyed, RowsFit}
 
-none : {X : Type 0} (P : X → Type 0) (xs : List X) → xs ≡ [] → All P xs
+pub none : {X : Type 0} (P : X → Type 0) (xs : List X) → xs ≡ [] → All P xs
 none P xs e = subst (All P) (sym e) (All-nil P)
 
 tables_conform : (d : RowSet) (tables : List Table) (lists : List (List (List Value))) → All HasNoKeys tables → AllZip (λ table list. All (RowFits table) list) tables lists → AllZip (TableConforms d) tables lists

@@ -1,6 +1,7 @@
 //! The tables of a database: the rows of a table's file, and rows that conform to their schema.
 #![tactic(auto)]
 
+pub mod broken;
 pub mod fault;
 mod field;
 pub mod file;
@@ -13,3 +14,5 @@ pub const ROW_LIMIT: u64 = 100_000;
 
 #[cfg(test)]
 mod tests;
+#[cfg(test)]
+mod tests_tables;
