@@ -12,7 +12,7 @@ import subprocess
 import sys
 import tempfile
 
-ROWS = [(1, 2_000_000), (2, 200_000), (4, 100_000), (16, 20_000)]
+ROWS = [(1, 2_000_000), (2, 200_000), (4, 100_000), (16, 50_000)]
 
 COUNT = """//! A value that keeps its calls.
 ghost use Rattle.std.specs.Prelude.{◌≡◌, ◌-◌, ◌<◌, [], ◌∷◌, ◌++◌, vec_len, vec_capacity};
@@ -62,7 +62,7 @@ impl Count {
 
 LANE = """//! Passes that know how many calls they may make.
 ghost use Rattle.std.specs.Prelude.{◌≡◌, ◌+◌, ◌≤◌, ◌<◌, ◌^◌};
-ghost use Rattle.ba_turn.specs.Passes.{known, IsFree};
+ghost use Rattle.ba_turn.specs.Passes.{known_by, IsFree};
 
 use crate::count::Count;
 use ba_turn::{Pass, Turn};
@@ -74,7 +74,7 @@ pub struct Lane<'a> {
     pass: Pass<Count, u32>,
     left: u32,
     ghost free: { IsFree turn.now pass },
-    ghost enough: { left ≤ (known pass).left },
+    ghost enough: { left ≤ (known_by pass).left },
 }
 
 #[derive(Drop)]
@@ -84,9 +84,9 @@ pub struct Opener<'a> {
     left: u32,
     splits: u32,
     ghost free: { IsFree turn.now pass },
-    ghost enough: { left ≤ (known pass).left },
-    ghost first: { (known pass).number ≡ 0 },
-    ghost few: { (known pass).splits ≡ splits },
+    ghost enough: { left ≤ (known_by pass).left },
+    ghost first: { (known_by pass).number ≡ 0 },
+    ghost few: { (known_by pass).splits ≡ splits },
 }
 
 impl<'a> Lane<'a> {
@@ -109,8 +109,8 @@ impl<'a> Lane<'a> {
 impl<'a> Opener<'a> {
     pub fn new(turn: &'a Turn<Count>, pass: Pass<Count, u32>, left: u32) -> Opener<'a>
         requires free { IsFree turn.now pass }
-        requires left { left ≤ (known pass).left }
-        requires first { ((known pass).number ≡ 0) × ((known pass).splits ≡ 0) }
+        requires left { left ≤ (known_by pass).left }
+        requires first { ((known_by pass).number ≡ 0) × ((known_by pass).splits ≡ 0) }
     {
         Opener {
             turn,
