@@ -5,7 +5,7 @@ use Rattle.std.specs.List.{filter}
 use Rattle.std.proofs.lemmas.List.{map-append}
 use Rattle.std.proofs.lemmas.List.Elements.{filter-append}
 use Rattle.std.proofs.lemmas.Bool.Decides.{leb_tells}
-use Rattle.ba_turn.specs.History.{calls_by, number_of, entry_of, HasCalls, longer, shorter}
+use Rattle.ba_turn.specs.History.{calls_by, number_of, entry_of, HasCalls, longer_of, shorter_of}
 use Rattle.ba_turn.specs.Rule.{Scene, IsJoined, AllJoined}
 use Rattle.ba_turn.proofs.Lists.{prefix_self}
 
@@ -26,14 +26,14 @@ module _ {E : Type 0} where
   pub numbers_more : (l : List (ℕ × E)) (n : ℕ) (e : E) → map number_of (l ++ (n, e) ∷ []) ≡ map number_of l ++ n ∷ []
   numbers_more l n e = map-append number_of l ((n, e) ∷ [])
 
-  pub longer_either : (P : List (ℕ × E) → List (ℕ × E) → Type 0) (a b : List (ℕ × E)) → (length a ≤ length b → P b a) → (length b < length a → P a b) → P (longer a b) (shorter a b)
+  pub longer_either : (P : List (ℕ × E) → List (ℕ × E) → Type 0) (a b : List (ℕ × E)) → (length a ≤ length b → P b a) → (length b < length a → P a b) → P (longer_of a b) (shorter_of a b)
   longer_either P a b small large = ⊎_elim
       (λ t. subst (λ (c : Bool). P (cond c b a) (cond c a b)) (sym t.0) (small t.1))
       (λ t. subst (λ (c : Bool). P (cond c b a) (cond c a b)) (sym t.0) (large t.1))
       (leb_tells (length a) (length b))
 
   -- both histories begin the longer one, where the shorter does
-  pub both_begin : (a b : List (ℕ × E)) → (length (shorter a b) ≤ length (longer a b) → IsPrefix (shorter a b) (longer a b)) → IsPrefix a (longer a b) × IsPrefix b (longer a b)
+  pub both_begin : (a b : List (ℕ × E)) → (length (shorter_of a b) ≤ length (longer_of a b) → IsPrefix (shorter_of a b) (longer_of a b)) → IsPrefix a (longer_of a b) × IsPrefix b (longer_of a b)
   both_begin a b = longer_either (λ l m. (length m ≤ length l → IsPrefix m l) → IsPrefix a l × IsPrefix b l) a b
       (λ h f. (f h, prefix_self b))
       (λ h f. (prefix_self a, f (omega arith)))

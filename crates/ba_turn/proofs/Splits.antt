@@ -10,8 +10,8 @@ use Rattle.atomic_table.specs.Table.{State, Me, Splits, Joins}
 use Rattle.atomic_table.proofs.Lists.{at_set, set_here, set_else, at_longer}
 use Rattle.ba_turn.specs.declared.known.Kept.{Kept}
 use Rattle.ba_turn.specs.declared.known.Known.{Known}
-use Rattle.ba_turn.specs.History.{longer}
-use Rattle.ba_turn.specs.Knowing.{after_split, split_off, after_join, spent_known}
+use Rattle.ba_turn.specs.History.{longer_of}
+use Rattle.ba_turn.specs.Knowing.{after_split, split_known, after_join, spent_known}
 use Rattle.ba_turn.specs.Rule.{Scene, IsTrueOf, AllJoined, left_of, live_of, HoldsTicket, SomeHasSeen, TakesTurns}
 use Rattle.ba_turn.proofs.Lists.{sum_set, same_at, is_within, at_end, prefix_length, replaced, replaced_here, replaced_else}
 use Rattle.ba_turn.proofs.Histories.{longer_either, joined_map}
@@ -39,14 +39,14 @@ module _ {S E O : Type 0} (opening : S → O) (history : S → List E) (room : S
   longer_knows : (vs : List V) (u : V) (n : ℕ) → SomeHasSeen vs n → SomeHasSeen (vs ++ u ∷ []) n
   longer_knows vs u n h = record { seat = h.seat; view = h.view; at = at_longer vs (u ∷ []) h.seat h.view h.at; live = h.live; seen = h.seen }
 
-  pub splits : (id : ℕ) (v : V) (a : ℕ) → v.live ≡ true → v.has_ticket ≡ false → v.has_turn ≡ false → v.number ≡ 0 → a ≤ v.left → Splits Rule id v (after_split a v) (split_off a v)
+  pub splits : (id : ℕ) (v : V) (a : ℕ) → v.live ≡ true → v.has_ticket ≡ false → v.has_turn ≡ false → v.number ≡ 0 → a ≤ v.left → Splits Rule id v (after_split a v) (split_known a v)
   splits id v a live idle idle' zero_is fits s r at =
       let x : Scene S E = r.x in
       let f = r.each id v at live in
       let o = f.opens zero_is in
       let o0 = o.0 in
       let w : V = after_split a v in
-      let u : V = split_off a v in
+      let u : V = split_known a v in
       let here : ℕ = length s.views in
       let n : ℕ = x.last + 1 in
       let vs : List V = set s.views id w in
@@ -141,7 +141,7 @@ module _ {S E O : Type 0} (opening : S → O) (history : S → List E) (room : S
       let lengths = longer_either (λ l m. (length v.seen ≤ length l) × (length w.seen ≤ length l) × IsPrefix l x.log × IsPrefix m x.log) v.seen w.seen (λ q. (q, omega arith, h.seen, f.seen)) (λ q. (omega arith, omega arith, f.seen, h.seen)) in
       let lv = lengths.0 in
       let lw = lengths.1 in
-      let most = prefix_length (longer v.seen w.seen) x.log lengths.2 in
+      let most = prefix_length (longer_of v.seen w.seen) x.log lengths.2 in
       let logged = r.logged in
       record {
         x = y;

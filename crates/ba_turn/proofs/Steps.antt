@@ -13,11 +13,13 @@ use Rattle.atomic_table.proofs.Lists.{at_set, set_here, set_else}
 use Rattle.ba_turn.specs.declared.held.Held.{Held}
 use Rattle.ba_turn.specs.declared.known.Kept.{Kept}
 use Rattle.ba_turn.specs.declared.known.Known.{Known}
+use Rattle.ba_turn.specs.declared.pass.Pass.{Pass}
+use Rattle.ba_turn.specs.declared.turn.Turn.{Turn}
 use Rattle.ba_turn.specs.History.{calls_by, entry_of}
 use Rattle.ba_turn.specs.Knowing.{opening_known, with_ticket, with_turn, after_take, after_put, SumsToAllowance}
 use Rattle.ba_turn.specs.Rule.{Scene, slot_of, IsTrueOf, AllJoined, left_of, live_of, HoldsTicket, SomeHasSeen, StandsAt, TakesTurns}
 use Rattle.ba_turn.specs.Steps.{Draws, Looks, CallsOn, IsTaken}
-use Rattle.ba_turn.specs.Passes.{IsGrown}
+use Rattle.ba_turn.specs.Passes.{known_by, start_of, allowance_of, HasTurn, IsGrown}
 use Rattle.ba_turn.proofs.Lists.{sum_set, sum_at, same_at, is_within, at_only, snoc_same, alone_weighs, alone_is, prefix_more, prefix_self, replaced, replaced_here, replaced_else}
 use Rattle.ba_turn.proofs.Histories.{calls_here, calls_else, entries_more, numbers_more, joined_map}
 
@@ -408,27 +410,6 @@ module _ {S E O : Type 0} (opening : S → O) (history : S → List E) (room : S
     });
   }
 
-  -- a value that has grown by e, with its number
-  pub grown_stands : (found : List (ℕ × E)) (h : Held S) (k : Kept S) (n : ℕ) (e : E) → IsGrown opening history room start allowance found h e → k.value ≡ h.kept.value → k.by.items ≡ h.kept.by.items ++ n ∷ [] → vec_capacity k.by ≡ vec_capacity h.kept.by
-      → StandsAt opening history room start allowance (found ++ (n, e) ∷ []) k
-  grown_stands found h k n e g same items width = record {
-    opening_is = ap opening same ∙ g.opening_is;
-    history_is = ap history same ∙ (g.history_is ∙ sym (entries_more found n e));
-    numbers_are = items ∙ (ap (λ (l : List ℕ). l ++ n ∷ []) g.numbers_are ∙ sym (numbers_more found n e));
-    room_is = (let r = g.room_is in let q = ap room same in omega (arith, length-append found ((n, e) ∷ [])));
-    numbers_room = (let r = g.numbers_room in omega arith);
-  }
-
-  -- the same of a seat that has laid the grown value back
-  pub puts : (slots id : ℕ) (v : V) (c : List (ℕ × Option (Kept S))) (me : M) (e : E) (h : Held S) (k : Kept S) (n : ℕ) → me ≡ (v, (0, Some k) ∷ rest c) → c ≡ (0, None) ∷ []
-      → v.live ≡ true → v.has_turn ≡ true → IsGrown opening history room start allowance v.found h e → k.value ≡ h.kept.value → k.by.items ≡ h.kept.by.items ++ n ∷ [] → n ≡ v.number → vec_capacity k.by ≡ vec_capacity h.kept.by
-      → Allows Rule slots id me 1 (λ n. (n + 1) % 2 ^ 64) (CallsOn history (step slots 1 1 0 none) me)
-  puts slots id v c me e h k n is bare live turn g same items number width =
-      let m : M = (v, (0, Some k) ∷ []) in
-      let is' : me ≡ m = is ∙ ap (λ (l : List (ℕ × Option (Kept S))). (v, (0, Some k) ∷ rest l)) bare in
-      subst (λ (z : M). Allows Rule slots id z 1 (λ n. (n + 1) % 2 ^ 64) (CallsOn history (step slots 1 1 0 none) z)) (sym is')
-      (calls slots id m e k live turn refl (grown_stands v.found h k v.number e g same (items ∙ ap (λ (a : ℕ). h.kept.by.items ++ a ∷ []) number) width))
-
   pub looks_on : (slots id : ℕ) (v : V) (t : ℕ) (me : M) → me ≡ (with_ticket t v, []) → v.live ≡ true → v.has_turn ≡ false → Allows Rule slots id me 1 (λ n. n) (Looks opening history room (step slots 1 0 0 none) me)
   looks_on slots id v t me is live idle = subst (λ (z : M). Allows Rule slots id z 1 (λ n. n) (Looks opening history room (step slots 1 0 0 none) z)) (sym is) (looks slots id (with_ticket t v, []) live refl idle refl)
 
@@ -451,6 +432,30 @@ module _ {S E O : Type 0} (opening : S → O) (history : S → List E) (room : S
 
   pub has_room : (log : List (ℕ × E)) (k : Kept S) → StandsAt opening history room start allowance log k → length log < allowance → 0 < room k.value
   has_room log k stands below = let r = stands.room_is in omega arith
+
+-- a pass that has laid the grown value back, with its number, may call the next one
+module _ {S E O : Type 0} (opening : S → O) (history : S → List E) (room : S → ℕ) (t : Turn S O E) (p : Pass S E) where
+  grown_stands : (h : Held S) (k : Kept S) (n : ℕ) (e : E) → IsGrown opening history room t p h e → k.value ≡ h.kept.value → k.by.items ≡ h.kept.by.items ++ n ∷ [] → vec_capacity k.by ≡ vec_capacity h.kept.by
+      → StandsAt opening history room (start_of t) (allowance_of t) ((known_by p).found ++ (n, e) ∷ []) k
+  grown_stands h k n e g same items width = record {
+    opening_is = ap opening same ∙ g.opening_is;
+    history_is = ap history same ∙ (g.history_is ∙ sym (entries_more (known_by p).found n e));
+    numbers_are = items ∙ (ap (λ (l : List ℕ). l ++ n ∷ []) g.numbers_are ∙ sym (numbers_more (known_by p).found n e));
+    room_is = (let r = g.room_is in let q = ap room same in omega (arith, length-append (known_by p).found ((n, e) ∷ [])));
+    numbers_room = (let r = g.numbers_room in omega arith);
+  }
+
+  abbrev Rests : (k : Kept S) → Me (Option (Kept S)) (Known S E) → Type 0
+  Rests k me = me ≡ (known_by p, (0, Some k) ∷ rest p.seat.me.1)
+
+  pub puts : (slots id : ℕ) (me : Me (Option (Kept S)) (Known S E)) (e : E) (h : Held S) (k : Kept S) (n : ℕ) → Rests k me → HasTurn t p → IsGrown opening history room t p h e
+      → k.value ≡ h.kept.value → k.by.items ≡ h.kept.by.items ++ n ∷ [] → n ≡ (known_by p).number → vec_capacity k.by ≡ vec_capacity h.kept.by
+      → Allows (TakesTurns opening history room (start_of t) (allowance_of t)) slots id me 1 (λ n. (n + 1) % 2 ^ 64) (CallsOn history (step slots 1 1 0 none) me)
+  puts slots id me e h k n is turn g same items number width =
+      let m : Me (Option (Kept S)) (Known S E) = (known_by p, (0, Some k) ∷ []) in
+      let is' : me ≡ m = is ∙ ap (λ (l : List (ℕ × Option (Kept S))). (known_by p, (0, Some k) ∷ rest l)) turn.slot in
+      subst (λ (z : Me (Option (Kept S)) (Known S E)). Allows (TakesTurns opening history room (start_of t) (allowance_of t)) slots id z 1 (λ n. (n + 1) % 2 ^ 64) (CallsOn history (step slots 1 1 0 none) z)) (sym is')
+      (calls opening history room (start_of t) (allowance_of t) slots id m e k turn.of.live turn.turn refl (grown_stands h k (known_by p).number e g same (items ∙ ap (λ (a : ℕ). h.kept.by.items ++ a ∷ []) number) width))
 
 pub rest_is : {S : Type 0} (l : List (ℕ × S)) (x : ℕ × S) → l ≡ x ∷ [] → l ≡ x ∷ rest l
 rest_is {S} l x e = e ∙ ap (λ (cs : List (ℕ × S)). x ∷ rest cs) (sym e)

@@ -1,7 +1,7 @@
 -- What a pass knows after each call of a turn.
 use Rattle.std.specs.Prelude.{◌≡◌, ℕ, ◌+◌, ◌-◌, true, false, List, [], ◌∷◌, ◌++◌, length, Some, None}
 use Rattle.ba_turn.specs.declared.known.Known.{Known}
-use Rattle.ba_turn.specs.History.{longer, shorter}
+use Rattle.ba_turn.specs.History.{longer_of, shorter_of}
 
 module _ {S E : Type 0} where
   -- of the opening pass of a new turn
@@ -29,12 +29,12 @@ module _ {S E : Type 0} where
   after_split a v = record v { splits = v.splits + 1; left = v.left - a }
 
   -- of the pass that is split off: it has the next number, and has seen as much
-  abbrev pub split_off : ℕ → Known S E → Known S E
-  split_off a v = record { live = true; number = v.splits + 1; splits = 0; start = v.start; allowance = v.allowance; left = a; has_ticket = false; has_turn = false; ticket = 0; found = []; seen = v.seen; behind = []; made = []; joined = [] }
+  abbrev pub split_known : ℕ → Known S E → Known S E
+  split_known a v = record { live = true; number = v.splits + 1; splits = 0; start = v.start; allowance = v.allowance; left = a; has_ticket = false; has_turn = false; ticket = 0; found = []; seen = v.seen; behind = []; made = []; joined = [] }
 
   -- after `join`: the longer history, both allowances, and the calls of the joined number
   abbrev pub after_join : Known S E → Known S E → Known S E
-  after_join v w = record v { left = v.left + w.left; seen = longer v.seen w.seen; behind = shorter v.seen w.seen; joined = (w.number, w.made) ∷ v.joined }
+  after_join v w = record v { left = v.left + w.left; seen = longer_of v.seen w.seen; behind = shorter_of v.seen w.seen; joined = (w.number, w.made) ∷ v.joined }
 
   -- of a pass that was joined into another
   abbrev pub spent_known : Known S E

@@ -2,7 +2,15 @@
 //!
 //! Threads share a [`Turn`] and make their calls on its value one at a time, in the order of the tickets that they draw.
 //! Each thread has a [`Pass`], which knows the history that it has seen and the calls that it made.
-//! A call is `take`, one method of the value, and `put`: it stands in the history from the step on that calls the next number.
+//! A call is in three parts, and stands in the history from the step of `put` on that calls the next number:
+//!
+//! ```text
+//! let mut held = turn.take(rt, &mut pass);
+//! let answer = held.value().method();
+//! turn.put(&mut pass, held);
+//! ```
+//!
+//! Nothing is said of progress: not that a turn comes, nor when.
 #![tactic(auto)]
 
 mod held;

@@ -1,6 +1,6 @@
 //! The kinds of atomic step, by what each tells its pass.
 ghost use Rattle.std.specs.Prelude.{ℕ};
-ghost use Rattle.ba_turn.specs.Knowing.{after_split, split_off, after_join, spent_known};
+ghost use Rattle.ba_turn.specs.Knowing.{after_split, split_known, after_join, spent_known};
 ghost use Rattle.ba_turn.specs.Steps.{Draws, Looks, CallsOn, Settles};
 
 use crate::known::{Kept, Known};
@@ -53,7 +53,7 @@ pub struct Cut<N> {
 impl<S, E, N: Share> Split<Known<S, E>> for Cut<N> {
     ghost left = { after_split N.share };
 
-    ghost right = { split_off N.share };
+    ghost right = { split_known N.share };
 }
 
 /// Joins a pass into another.

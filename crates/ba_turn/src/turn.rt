@@ -25,9 +25,8 @@ impl<S: Storied> Turn<S> {
     ghost use mathlib.Core.List.{IsPrefix};
     ghost use Rattle.std.specs.Prelude.{ℕ, ◌+◌, ◌^◌, ◌<◌, ◌≤◌, [], ◌∷◌, ◌++◌, map, length, IfOk};
     ghost use Rattle.ba_turn.specs.History.{number_of, entry_of, calls_by, HasCalls};
-    ghost use Rattle.ba_turn.specs.Knowing.{opening_known, after_take, after_put, after_split, split_off, after_join, SumsToAllowance};
-    ghost use Rattle.ba_turn.specs.Rule.{StandsAt};
-    ghost use Rattle.ba_turn.specs.Passes.{known, start_of, allowance_of, value_of, IsFree, HasTurn, IsGrown};
+    ghost use Rattle.ba_turn.specs.Knowing.{opening_known, after_take, after_put, after_split, split_known, after_join, SumsToAllowance};
+    ghost use Rattle.ba_turn.specs.Passes.{known_by, start_of, allowance_of, value_of, IsFree, HasTurn, IsHeldAt, IsGrown};
 
     /// A turn over a value with no history, for `allowance` calls, and its opening pass, which has the number 0.
     /// All memory that the calls will need is asked for here.
@@ -39,9 +38,11 @@ impl<S: Storied> Turn<S> {
     where
         S: Drop,
         requires no_history { S.history value ≡ [] }
-        ensures turn { IfOk result (λ r. (S.opening (start_of r.0) ≡ S.opening value) × (allowance_of r.0 ≡ allowance)) }
-        ensures pass { IfOk result (λ r. IsFree r.0 r.1 × (known r.1 ≡ opening_known (start_of r.0) allowance)) }
-        ensures sums { IfOk result (λ r. SumsToAllowance (known r.1)) }
+        ensures opening { IfOk result (λ r. S.opening (start_of r.0) ≡ S.opening value) }
+        ensures allowance { IfOk result (λ r. allowance_of r.0 ≡ allowance) }
+        ensures free { IfOk result (λ r. IsFree r.0 r.1) }
+        ensures known { IfOk result (λ r. known_by r.1 ≡ opening_known (start_of r.0) allowance) }
+        ensures sums { IfOk result (λ r. SumsToAllowance (known_by r.1)) }
     {
         value.reserve(allowance)?;
         let terms = Terms {
@@ -66,12 +67,13 @@ impl<S: Storied> Turn<S> {
     /// The value then stands at a history that begins with all that the pass has seen.
     pub fn take<R: Wait>(&self, rt: &R, pass: &mut Pass<S, S::Entry>) -> Held<S>
         requires free { IsFree self.now pass.old }
-        requires left { 0 < (known pass.old).left }
+        requires left { 0 < (known_by pass.old).left }
         ensures turn { HasTurn self.now pass.new }
-        ensures known { known pass.new ≡ after_take (known pass.new).ticket (known pass.new).found (known pass.old) }
-        ensures seen { IsPrefix (known pass.old).seen (known pass.new).found }
-        ensures below { length (known pass.new).found < allowance_of self.now }
-        ensures value { StandsAt S.opening S.history S.room (start_of self.now) (allowance_of self.now) (known pass.new).found result.kept }
+        ensures known { known_by pass.new
+            ≡ after_take (known_by pass.new).ticket (known_by pass.new).found (known_by pass.old) }
+        ensures seen { IsPrefix (known_by pass.old).seen (known_by pass.new).found }
+        ensures below { length (known_by pass.new).found < allowance_of self.now }
+        ensures value { IsHeldAt S.opening S.history S.room self.now pass.new result }
         ensures room { 0 < S.room (value_of result) }
     {
         let shared = &self.table.shared;
@@ -96,8 +98,8 @@ impl<S: Storied> Turn<S> {
             .park(rt, SERVING, (serving % (1 << 32)) as u32);
     }
 
-    // Wakes those that wait, after this number was served. Nobody waits where no later ticket was drawn:
-    // who draws one from here on finds the next number called.
+    // Wakes those that wait, once this number was served. Nobody sleeps on it where no later ticket is drawn:
+    // who draws one after this look sees the next number.
     fn wake_waiting(&self, served: u64) {
         if self.table.shared.peek(TICKET).saturating_sub(served) > 1 {
             self.table.shared.wake_all(SERVING);
@@ -108,13 +110,14 @@ impl<S: Storied> Turn<S> {
     /// the pass has then seen the whole history up to its entry, and of its number the history has just its own calls.
     pub fn put(&self, pass: &mut Pass<S, S::Entry>, held: Held<S>)
         requires turn { HasTurn self.now pass.old }
-        requires grown { (e : S.Entry) × IsGrown S.opening S.history S.room (start_of self.now) (allowance_of self.now) (known pass.old).found held e }
+        requires grown { (e : S.Entry) × IsGrown S.opening S.history S.room self.now pass.old held e }
         ensures free { IsFree self.now pass.new }
-        ensures known { (e : S.Entry) → S.history (value_of held) ≡ map entry_of (known pass.old).found ++ e ∷ [] → known pass.new ≡ after_put e (known pass.old) }
-        ensures history { map entry_of (known pass.new).seen ≡ S.history (value_of held) }
-        ensures seen { IsPrefix (known pass.old).seen (known pass.old).found }
-        ensures own { calls_by (known pass.new).number (known pass.new).seen ≡ (known pass.new).made }
-        ensures sums { SumsToAllowance (known pass.new) }
+        ensures known { (e : S.Entry) → S.history (value_of held) ≡ map entry_of (known_by pass.old).found ++ e ∷ []
+            → known_by pass.new ≡ after_put e (known_by pass.old) }
+        ensures history { map entry_of (known_by pass.new).seen ≡ S.history (value_of held) }
+        ensures seen { IsPrefix (known_by pass.old).seen (known_by pass.old).found }
+        ensures own { calls_by (known_by pass.new).number (known_by pass.new).seen ≡ (known_by pass.new).made }
+        ensures sums { SumsToAllowance (known_by pass.new) }
     {
         let Held { mut kept } = held;
         kept.by.push_reserved(pass.number);
@@ -133,12 +136,13 @@ impl<S: Storied> Turn<S> {
     ) -> Pass<S, S::Entry>
         requires share { allowance ≡ N.share }
         requires free { IsFree self.now pass.old }
-        requires opening { (known pass.old).number ≡ 0 }
-        requires splits { (known pass.old).splits + 1 < 2 ^ 32 }
-        requires left { allowance ≤ (known pass.old).left }
+        requires opening { (known_by pass.old).number ≡ 0 }
+        requires splits { (known_by pass.old).splits + 1 < 2 ^ 32 }
+        requires left { allowance ≤ (known_by pass.old).left }
         ensures free { IsFree self.now pass.new }
-        ensures known { known pass.new ≡ after_split allowance (known pass.old) }
-        ensures new { IsFree self.now result × (known result ≡ split_off allowance (known pass.old)) }
+        ensures known { known_by pass.new ≡ after_split allowance (known_by pass.old) }
+        ensures new { IsFree self.now result }
+        ensures new_known { known_by result ≡ split_known allowance (known_by pass.old) }
     {
         let _ = allowance;
         let seat = self.table.shared.split_seat::<Cut<N>>(&mut pass.seat);
@@ -153,12 +157,13 @@ impl<S: Storied> Turn<S> {
     /// Splits a pass off the opening pass: it gets this much of the allowance and the next number, and has seen as much.
     pub fn split(&self, pass: &mut Pass<S, S::Entry>, allowance: u32) -> Pass<S, S::Entry>
         requires free { IsFree self.now pass.old }
-        requires opening { (known pass.old).number ≡ 0 }
-        requires splits { (known pass.old).splits + 1 < 2 ^ 32 }
-        requires left { allowance ≤ (known pass.old).left }
+        requires opening { (known_by pass.old).number ≡ 0 }
+        requires splits { (known_by pass.old).splits + 1 < 2 ^ 32 }
+        requires left { allowance ≤ (known_by pass.old).left }
         ensures free { IsFree self.now pass.new }
-        ensures known { known pass.new ≡ after_split allowance (known pass.old) }
-        ensures new { IsFree self.now result × (known result ≡ split_off allowance (known pass.old)) }
+        ensures known { known_by pass.new ≡ after_split allowance (known_by pass.old) }
+        ensures new { IsFree self.now result }
+        ensures new_known { known_by result ≡ split_known allowance (known_by pass.old) }
     {
         self.split_share::<Brand>(pass, allowance)
     }
@@ -166,11 +171,12 @@ impl<S: Storied> Turn<S> {
     /// Joins a pass into the opening pass, which keeps the longer of the two histories and the joined number's calls.
     pub fn join(&self, pass: &mut Pass<S, S::Entry>, other: Pass<S, S::Entry>)
         requires free { IsFree self.now pass.old × IsFree self.now other }
-        requires opening { (known pass.old).number ≡ 0 }
+        requires opening { (known_by pass.old).number ≡ 0 }
         ensures free { IsFree self.now pass.new }
-        ensures known { known pass.new ≡ after_join (known pass.old) (known other) }
-        ensures seen { IsPrefix (known pass.old).seen (known pass.new).seen × IsPrefix (known other).seen (known pass.new).seen }
-        ensures sums { SumsToAllowance (known pass.new) }
+        ensures known { known_by pass.new ≡ after_join (known_by pass.old) (known_by other) }
+        ensures seen { IsPrefix (known_by pass.old).seen (known_by pass.new).seen }
+        ensures other { IsPrefix (known_by other).seen (known_by pass.new).seen }
+        ensures sums { SumsToAllowance (known_by pass.new) }
     {
         let Pass { seat, .. } = other;
         let shared = &self.table.shared;
@@ -181,12 +187,12 @@ impl<S: Storied> Turn<S> {
     /// Gives the value with all calls, and the number of each call's pass, once the whole allowance was spent or has come back to this pass.
     pub fn close(self, pass: Pass<S, S::Entry>) -> (S, Vec<u32>)
         requires free { IsFree self pass }
-        requires all { (known pass).left + length (known pass).seen ≡ allowance_of self }
+        requires all { (known_by pass).left + length (known_by pass).seen ≡ allowance_of self }
         ensures opening { S.opening result.0 ≡ S.opening (start_of self) }
-        ensures history { S.history result.0 ≡ map entry_of (known pass).seen }
-        ensures numbers { result.1.items ≡ map number_of (known pass).seen }
-        ensures own { calls_by (known pass).number (known pass).seen ≡ (known pass).made }
-        ensures joined { HasCalls (known pass).seen (known pass).joined }
+        ensures history { S.history result.0 ≡ map entry_of (known_by pass).seen }
+        ensures numbers { result.1.items ≡ map number_of (known_by pass).seen }
+        ensures own { calls_by (known_by pass).number (known_by pass).seen ≡ (known_by pass).made }
+        ensures joined { HasCalls (known_by pass).seen (known_by pass).joined }
     {
         let Turn { table } = self;
         let Pass { seat, .. } = pass;

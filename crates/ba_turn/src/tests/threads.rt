@@ -1,7 +1,7 @@
 //! Calls by several threads.
 ghost use Rattle.std.specs.Prelude.{◌≡◌, ℕ, ◌≤◌, true, false, List, [], ◌∷◌, map, IfOk};
 ghost use Rattle.ba_turn.specs.History.{calls_by, entry_of, number_of};
-ghost use Rattle.ba_turn.specs.Passes.{known, IsFree};
+ghost use Rattle.ba_turn.specs.Passes.{known_by, IsFree};
 ghost use Rattle.ba_turn.specs.declared.tests.versions.Call.{Call};
 
 use super::calls::call_twice;
@@ -24,7 +24,7 @@ pub fn by_two<R: Threads + Wait + Sync>(
     (Pass<Versions, Call>, u64, u64),
 )
     requires free { IsFree turn.now one × IsFree turn.now two }
-    requires left { (2 ≤ (known one).left) × (2 ≤ (known two).left) }
+    requires left { (2 ≤ (known_by one).left) × (2 ≤ (known_by two).left) }
     ensures free { IsFree turn.now result.0.0 × IsFree turn.now result.1.0 }
 {
     thread::join(

@@ -15,8 +15,8 @@ fetch_add-served-requires g c =
     let pushed = c.push_reserved.ensures in (
       x.0 ∙ t.of.table,
       search rules,
-      puts g.S.Storied.opening g.S.Storied.history g.S.Storied.room _ _ _ _ c.args.pass.now.seat.me.0 c.args.pass.now.seat.me.1 c.exchange-nothing.new.seat.me grown.0 c.args.held
-          (record { value = c.args.held.kept.value; by = c.push_reserved.new.self }) c.args.pass.now.number x.3 t.slot t.of.live t.turn grown.1 refl pushed.items c.args.pass.now.same.0 pushed.capacity,
+      puts g.S.Storied.opening g.S.Storied.history g.S.Storied.room c.args.self.now c.args.pass.now _ _ c.exchange-nothing.new.seat.me grown.0 c.args.held
+          (record { value = c.args.held.kept.value; by = c.push_reserved.new.self }) c.args.pass.now.number x.3 t grown.1 refl pushed.items c.args.pass.now.same.0 pushed.capacity,
     )
 
 pub invariant_of-pass : goal.invariant_of-pass
