@@ -64,6 +64,21 @@ impl Order {
             (self.new ≡ self.old ++ record { low = low; gap = gap; high = high } ∷ []) }
         ensures err { OnErr result (self.new ≡ self.old) }
     {
+        if !self.shows(low, gap, high) {
+            return self.extend(low, gap, high);
+        }
+        self.facts.push(Difference { low, gap, high })?;
+        Ok(())
+    }
+
+    // Adds a fact, and the chains through it.
+    fn extend(&mut self, low: u32, gap: i128, high: u32) -> Result<(), AllocError>
+        requires above { neg_ℤ (pos (2 ^ 65)) ≤ℤ gap }
+        requires below { gap ≤ℤ pos (2 ^ 65) }
+        ensures ok { OnOk result
+            (self.new ≡ self.old ++ record { low = low; gap = gap; high = high } ∷ []) }
+        ensures err { OnErr result (self.new ≡ self.old) }
+    {
         let from = self.grid.place(low)?;
         let to = self.grid.place(high)?;
         let onward = self.grid.onward(to)?;
