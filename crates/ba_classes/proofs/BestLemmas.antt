@@ -64,3 +64,9 @@ parts_of (Sum s) Unbounded k h = record { first = s; second = k +ℤ neg_ℤ s; 
 parts_of Unbounded Absent k h = absurd h
 parts_of Unbounded (Sum t) k h = record { first = k +ℤ neg_ℤ t; second = t; reached_first = tt; reached_second = omega (arith, ints); enough = omega (arith, ints) }
 parts_of Unbounded Unbounded k h = record { first = k; second = pos 0; reached_first = tt; reached_second = tt; enough = omega (arith, ints) }
+
+-- chains whose best sum is neither a number nor without a bound reach nothing
+pub reaches_nothing : (b : Best) → ((s : ℤ) → b ≡ Sum s → ⊥) → (b ≡ Unbounded → ⊥) → (k : ℤ) → Reaches b k → ⊥
+reaches_nothing Absent number bound k h = h
+reaches_nothing (Sum s) number bound k h = number s refl
+reaches_nothing Unbounded number bound k h = bound refl

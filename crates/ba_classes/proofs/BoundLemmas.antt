@@ -1,5 +1,5 @@
 -- The best sum of chains is that of a chain which visits no node twice, so it isn't large.
-use Rattle.std.proofs.Common.{◌≡◌, ℕ, ◌*◌, ◌^◌, ◌<◌, ℤ, pos, neg_ℤ, ◌+ℤ◌, ◌≤ℤ◌, ◌<ℤ◌, List, [], ◌∷◌, length, All, Contains, Bool, true, false, eqb, refl, sym, subst, ◌⊎◌, inl, inr, ⊎_elim, arith}
+use Rattle.std.proofs.Common.{◌≡◌, ℕ, ◌+◌, ◌*◌, ◌^◌, ◌<◌, ℤ, pos, neg_ℤ, ◌+ℤ◌, ◌≤ℤ◌, ◌<ℤ◌, List, [], ◌∷◌, length, All, Contains, Bool, true, false, eqb, refl, sym, subst, ◌⊎◌, inl, inr, ⊎_elim, arith}
 use Rattle.std.specs.List.{list_any, AllByRecursion, IsDistinct}
 use Rattle.std.proofs.lemmas.Bool.{or_cases, or_parts, eqb-true}
 use Rattle.std.proofs.lemmas.Int.{ints, by_lt_z}
@@ -7,7 +7,7 @@ use Rattle.std.proofs.lemmas.List.Elements.{All-contains}
 use Rattle.std.proofs.lemmas.Map.Keys.{IsDistinct-cons}
 use Rattle.std.proofs.lemmas.Map.Steps.{length-le_from_distinct_below}
 use Rattle.ba_classes.specs.Best.{Reaches, IsWithin}
-use Rattle.ba_classes.specs.Chains.{Chain, none, first, Shows}
+use Rattle.ba_classes.specs.Chains.{Chain, none, first, Shows, IsAbsurd}
 use Rattle.ba_classes.specs.Closure.{reach, IsExact, IsInRange}
 use Rattle.ba_classes.specs.declared.best.Best.{Best}
 use Rattle.ba_classes.specs.declared.best.Best.TheVariants.{Absent, Sum, Unbounded}
@@ -50,11 +50,12 @@ record Direct (facts : List Difference) (x : ℕ) (k : ℤ) (y : ℕ) : Type 0 w
   enough : k ≤ℤ sum
   simple : Simple facts visited x sum y
 
--- a chain that sums to more than k
+-- a chain that sums to more than k, and a circle that gains
 record Exceeds (facts : List Difference) (x : ℕ) (k : ℤ) (y : ℕ) : Type 0 where
   sum : ℤ
   more : k <ℤ sum
   chain : Chain facts x sum y
+  circle : IsAbsurd facts
 
 -- a fact before a direct chain: a circle that doesn't gain is left out, one that gains is gone round twice
 before_direct : {facts : List Difference} {y : ℕ} {k : ℤ} (f : Difference) → Contains facts f → (d : Direct facts f.high k y) → (visits : Bool) → list_any (eqb f.low) d.visited ≡ visits → Direct facts f.low (f.gap +ℤ k) y ⊎ Exceeds facts f.low (f.gap +ℤ k) y
@@ -62,7 +63,7 @@ before_direct f h d false e = inl record { visited = f.low ∷ d.visited; sum = 
 before_direct {facts} {y} {k} f h d true e =
     let s = suffix f.low d.simple e in
     by_lt_z {P = Direct facts f.low (f.gap +ℤ k) y ⊎ Exceeds facts f.low (f.gap +ℤ k) y} (pos 0) (f.gap +ℤ s.way)
-    (λ gains. inr record { sum = f.gap +ℤ (s.way +ℤ (f.gap +ℤ d.sum)); more = omega (arith, ints, d.enough); chain = first f h (then s.reaching (first f h (chain_of d.simple))) })
+    (λ gains. inr record { sum = f.gap +ℤ (s.way +ℤ (f.gap +ℤ d.sum)); more = omega (arith, ints, d.enough); chain = first f h (then s.reaching (first f h (chain_of d.simple))); circle = record { node = f.low; sum = f.gap +ℤ s.way; above = gains; chain = first f h s.reaching } })
     (λ loses. inl record { visited = s.visited; sum = s.rest; enough = omega (arith, ints, d.enough, s.sum); simple = s.simple })
 
 direct : {facts : List Difference} {x y : ℕ} {k : ℤ} → Chain facts x k y → Direct facts x k y ⊎ Exceeds facts x k y
@@ -70,7 +71,7 @@ direct {facts} {x} none = inl record { visited = x ∷ []; sum = pos 0; enough =
 direct (first f h c) =
     ⊎_elim
     (λ d. before_direct f h d _ refl)
-    (λ o. inr record { sum = f.gap +ℤ o.sum; more = omega (arith, ints, o.more); chain = first f h o.chain })
+    (λ o. inr record { sum = f.gap +ℤ o.sum; more = omega (arith, ints, o.more); chain = first f h o.chain; circle = o.circle })
     (direct c)
 
 apart_from_all : (x : ℕ) (ys : List ℕ) → list_any (eqb x) ys ≡ false → AllByRecursion (λ y. eqb x y ≡ false) ys
@@ -124,6 +125,22 @@ module _ (facts : List Difference) (in_range : All IsInRange facts) where
     within (Sum s) is = let shown = attained s is in sum_of_direct s shown.sum is shown.enough (direct shown.chain)
     within Unbounded is = tt
 
+    large : Direct facts x (pos (2 ^ 97 + 1)) y ⊎ Exceeds facts x (pos (2 ^ 97 + 1)) y → IsAbsurd facts
+    large (inl d) = absurd (omega (arith, ints, d.enough, direct_within end d.simple))
+    large (inr o) = o.circle
+
+    unbounded : reach cell x y ≡ Unbounded → Direct facts x (pos (2 ^ 97 + 1)) y ⊎ Exceeds facts x (pos (2 ^ 97 + 1)) y
+    unbounded is =
+        let shown = exact.sound x y (pos (2 ^ 97 + 1)) (subst (λ b. Reaches b (pos (2 ^ 97 + 1))) (sym is) tt) in
+        ⊎_elim
+        (λ d. inl record { visited = d.visited; sum = d.sum; enough = omega (arith, ints, d.enough, shown.enough); simple = d.simple })
+        (λ o. inr record { sum = o.sum; more = omega (arith, ints, o.more, shown.enough); chain = o.chain; circle = o.circle })
+        (direct shown.chain)
+
   -- no best sum is large
   pub reach_within : (cell : ℕ → ℕ → Best) → IsExact facts cell → (x y : ℕ) → y < 2 ^ 32 → IsWithin (2 ^ 97) (reach cell x y)
   reach_within cell exact x y end = within cell exact x y end (reach cell x y) refl
+
+  -- chains of any sum between two nodes go through a circle that gains
+  pub unbounded_is_absurd : (cell : ℕ → ℕ → Best) → IsExact facts cell → (x y : ℕ) → y < 2 ^ 32 → reach cell x y ≡ Unbounded → IsAbsurd facts
+  unbounded_is_absurd cell exact x y end is = large cell exact x y end (unbounded cell exact x y end is)

@@ -3,7 +3,7 @@ use Rattle.std.proofs.Common.{◌≡◌, ◌≢◌, ℕ, ◌^◌, ◌<◌, ◌�
 use Rattle.std.specs.HashMap.{hash_map_len}
 use Rattle.std.proofs.lemmas.Bool.{cases_lt, cases_eq, ne_eqb, eq-eqb, eqb-true, false≢true}
 use Rattle.std.proofs.lemmas.Int.{ints}
-use Rattle.std.proofs.lemmas.List.Elements.{All-push, All-nil}
+use Rattle.std.proofs.lemmas.List.Elements.{All-push, All-nil, Contains-push_cases}
 use Rattle.ba_classes.specs.Best.{Reaches, IsWithin, better, joined, or_nothing}
 use Rattle.ba_classes.specs.Chains.{Chain, none, first, Shows}
 use Rattle.ba_classes.specs.Closure.{reach, through, IsExact, IsInRange, IsClosure}
@@ -13,7 +13,7 @@ use Rattle.ba_classes.specs.declared.best.Best.TheVariants.{Absent}
 use Rattle.ba_classes.specs.declared.order.Difference.{Difference}
 use Rattle.ba_classes.proofs.BestLemmas.{joined-Absent}
 use Rattle.ba_classes.proofs.BoundLemmas.{reach_within}
-use Rattle.ba_classes.proofs.ChainLemmas.{weaken, Shows-none}
+use Rattle.ba_classes.proofs.ChainLemmas.{weaken, Chain-more, Shows-none, Shows-then, Shows-more, Shows-fact}
 use Rattle.ba_classes.proofs.StepLemmas.{IsExact-raised, IsAbsurd-after}
 
 module _ (places : Places) (rows : List (List Best)) (grid : IsGrid places rows) where
@@ -177,3 +177,30 @@ IsClosure-step facts places rows is_absurd grid closure fact range from to low_p
     IsClosure-raised facts places rows is_absurd grid closure fact range from to low_placed high_placed gains gains_is onward onward_is after raised same_places
     (λ i j. cells i j ∙ ap (λ b. better (cell_at rows i j) (joined (joined (or_nothing (nat_eq i from) (cell_at rows i from)) b) (get_or onward j Absent))) by_is)
     len
+
+-- a fact that is shown already adds nothing
+module _ (facts : List Difference) (fact : Difference) (already : Shows facts fact.low fact.gap fact.high) where
+  chain_without : {x y : ℕ} {k : ℤ} → Chain (facts ++ fact ∷ []) x k y → Shows facts x k y
+  chain_without {x} none = Shows-none x
+  chain_without {y = y} (first f {k = k} h c) =
+      ⊎_elim
+      (λ old. Shows-then _ (omega (arith, ints)) (Shows-fact f old) (chain_without c))
+      (λ new. subst (λ g. Shows facts g.low (g.gap +ℤ k) y) new (Shows-then _ (omega (arith, ints)) already (subst (λ g. Shows facts g.high k y) (sym new) (chain_without c))))
+      (Contains-push_cases facts fact f h)
+
+  shown_without : {x y : ℕ} {k : ℤ} → Shows (facts ++ fact ∷ []) x k y → Shows facts x k y
+  shown_without {k = k} s = weaken k s.enough (chain_without s.chain)
+
+  pub IsClosure-shown : (places : Places) (rows : List (List Best)) (is_absurd : Bool) → IsInRange fact → IsClosure facts places rows is_absurd → IsClosure (facts ++ fact ∷ []) places rows is_absurd
+  IsClosure-shown places rows is_absurd range closure = record {
+    in_range = All-push IsInRange facts fact closure.in_range range;
+    named = closure.named;
+    exact = record {
+      sound = λ x y k h. Shows-more (fact ∷ []) (closure.exact.sound x y k h);
+      complete = λ x y k s. closure.exact.complete x y k (shown_without s);
+    };
+    flag = (
+      λ e. let a = closure.flag.0 e in record { node = a.node; sum = a.sum; above = a.above; chain = Chain-more (fact ∷ []) a.chain },
+      λ a. let s = chain_without a.chain in closure.flag.1 (record { node = a.node; sum = s.sum; above = omega (arith, ints, a.above, s.enough); chain = s.chain }),
+    );
+  }

@@ -7,3 +7,4 @@ pub mod BoundLemmas
 pub mod GridLemmas
 pub mod ClosureLemmas
 pub mod UnusedLemmas
+pub mod ImageLemmas

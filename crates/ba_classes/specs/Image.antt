@@ -1,5 +1,6 @@
 -- Values for nodes, one after another, as the facts and the values before it allow.
 use Rattle.std.specs.Prelude.{◌≡◌, ℕ, ◌<◌, ℤ, pos, ◌+ℤ◌, ◌≤ℤ◌, ◌<ℤ◌, List, ◌∷◌, ◌++◌, Contains, length, take, slice_index, slice_index_or, Option, None, Some, ◌⊎◌}
+use Rattle.std.specs.Int.{int_max, int_min}
 use Rattle.std.specs.List.{zip}
 use Rattle.ba_classes.specs.Chains.{Shows}
 use Rattle.ba_classes.specs.declared.order.Difference.{Difference}
@@ -77,3 +78,12 @@ pub record IsImage (facts : List Difference) (used : List ℤ) (nodes : List ℕ
 -- the values make true what the facts show of their nodes
 abbrev pub Meets : List Difference → List (ℕ × ℤ) → Type 0
 Meets facts valued = (x y : ℕ) (v w k : ℤ) → Contains valued (x, v) → Contains valued (y, w) → Shows facts x k y → (v +ℤ k) ≤ℤ w
+
+-- the greater or the lesser of a bound, if there is one, and a number
+abbrev pub greater_of : Option ℤ → ℤ → ℤ
+greater_of None n = n
+greater_of (Some m) n = int_max m n
+
+abbrev pub lesser_of : Option ℤ → ℤ → ℤ
+lesser_of None n = n
+lesser_of (Some m) n = int_min m n

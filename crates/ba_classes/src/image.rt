@@ -1,5 +1,5 @@
-ghost use Rattle.std.specs.Prelude.{◌≡◌, ℤ, ◌+ℤ◌, ◌≤ℤ◌, ◌↔◌, IsTrue, IfOk, Contains};
-ghost use Rattle.ba_classes.specs.Image.{IsLeastUnused, IsGreatestUnused, IsValueBetween};
+ghost use Rattle.std.specs.Prelude.{◌≡◌, ℤ, ◌+ℤ◌, ◌≤ℤ◌, ◌↔◌, IsTrue, IfOk, Contains, Some};
+ghost use Rattle.ba_classes.specs.Image.{IsLeastUnused, IsGreatestUnused, IsValueBetween, greater_of, lesser_of};
 
 use std::alloc::AllocError;
 
@@ -22,6 +22,26 @@ pub fn difference(left: i128, right: i128) -> Result<i128, AllocError>
     ensures { IfOk result (λ it. it +ℤ right ≡ left) }
 {
     left.checked_sub(right).ok_or(AllocError)
+}
+
+/// The greater of a bound, if there is one, and a number.
+pub fn greater(bound: Option<i128>, number: i128) -> Option<i128>
+    ensures { result ≡ Some (greater_of bound number) }
+{
+    match bound {
+        None => Some(number),
+        Some(other) => Some(other.max(number)),
+    }
+}
+
+/// The lesser of a bound, if there is one, and a number.
+pub fn lesser(bound: Option<i128>, number: i128) -> Option<i128>
+    ensures { result ≡ Some (lesser_of bound number) }
+{
+    match bound {
+        None => Some(number),
+        Some(other) => Some(other.min(number)),
+    }
 }
 
 // The least unused number from `low` on. `AllocError` where it is past 128 bits.

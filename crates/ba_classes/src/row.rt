@@ -75,6 +75,9 @@ impl Row {
             slice_index_or self.new j Best.Absent
             ≡ better (slice_index_or self.old j Best.Absent) (joined left (slice_index_or onward.now j Best.Absent)) }
     {
+        if let Best::Absent = left {
+            return;
+        }
         raise(&mut self.cells, left, &onward.cells);
     }
 }

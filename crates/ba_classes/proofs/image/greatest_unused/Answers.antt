@@ -1,4 +1,4 @@
-use Rattle.std.proofs.Common.{◌≡◌, ℤ, pos, ◌+ℤ◌, ◌<ℤ◌, refl, ap, ◌∙◌, arith, rules}
+use Rattle.std.proofs.Common.{◌≡◌, ℤ, pos, ◌+ℤ◌, refl, ap, ◌∙◌, arith, rules}
 use Rattle.std.proofs.lemmas.Int.{ints, to_z-of_z}
 use Rattle.std.specs.Int.{w128}
 use mir.Val.{SFits, to_z, of_z}
@@ -18,6 +18,7 @@ loop-number-preserved c =
     let v : ℤ = to_z w128 c.loop-number.number-bits in
     let w : ℤ = to_z w128 (of_z w128 c.in_ok-number.number) in
     let fits : SFits w128 c.in_ok-number.number = search rules in
-    let next : w +ℤ pos 1 ≡ v = ap (λ z. z +ℤ pos 1) (to_z-of_z w128 c.in_ok-number.number fits) ∙ c.in_ok-number.ensures in
-    ( omega (arith, ints, next, c.loop-number.invariant.0),
-    passed_less c.args.used.now (to_z w128 (of_z w128 c.args.high)) v w next (c.loop-number-test.ensures.0 refl) c.loop-number.invariant.1 )
+    let next : w +ℤ pos 1 ≡ v = ap (λ z. z +ℤ pos 1) (to_z-of_z w128 c.in_ok-number.number fits) ∙ c.in_ok-number.ensures in (
+      omega (arith, ints, next, c.loop-number.invariant.0),
+      passed_less c.args.used.now (to_z w128 (of_z w128 c.args.high)) v w next (c.loop-number-test.ensures.0 refl) c.loop-number.invariant.1,
+    )
