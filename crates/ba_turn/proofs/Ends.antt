@@ -7,6 +7,7 @@ use Rattle.atomic_table.specs.Table.{State, Me, step, keeps, Allows, Final, Seen
 use Rattle.ba_turn.specs.declared.known.Kept.{Kept}
 use Rattle.ba_turn.specs.declared.known.Known.{Known}
 use Rattle.ba_turn.specs.History.{calls_by, HasCalls}
+use Rattle.ba_turn.specs.Knowing.{after_join}
 use Rattle.ba_turn.specs.Rule.{Scene, left_of, StandsAt, TakesTurns}
 use Rattle.ba_turn.specs.Steps.{Settles}
 use Rattle.ba_turn.proofs.Lists.{sum_at, same_at, prefix_both, prefix_whole, prefix_length}
@@ -31,7 +32,7 @@ module _ {S E O : Type 0} (opening : S → O) (history : S → List E) (room : S
   Rule = TakesTurns opening history room start allowance
 
   -- a look that tells of two beginnings, and of the sums
-  pub settles : (slots id : ℕ) (me : M) → me.0.live ≡ true → me.0.has_ticket ≡ false → Allows Rule slots id me 0 (λ n. n) (Settles (step slots 0 0 0 none) me)
+  settles : (slots id : ℕ) (me : M) → me.0.live ≡ true → me.0.has_ticket ≡ false → Allows Rule slots id me 0 (λ n. n) (Settles (step slots 0 0 0 none) me)
   settles slots id me live idle s r _ at _ =
       let x : Scene S E = r.x in
       let n : ℕ = get_or s.words 0 0 in
@@ -44,13 +45,16 @@ module _ {S E O : Type 0} (opening : S → O) (history : S → List E) (room : S
         (refl, (λ h. prefix_both me.0.behind me.0.seen f.behind.0 f.seen.0 (f.behind.1 ∙ sym f.seen.1) h), sums opening history room start allowance s r id me.0 at live idle),
       )
 
+  pub settles_joined : (slots id : ℕ) (v w : V) (c : List (ℕ × Option (Kept S))) (me : M) → me ≡ (after_join v w, c) → v.live ≡ true → v.has_ticket ≡ false → Allows Rule slots id me 0 (λ n. n) (Settles (step slots 0 0 0 none) me)
+  settles_joined slots id v w c me is live idle = settles slots id me (ap (λ (m : M). m.0.live) is ∙ live) (ap (λ (m : M). m.0.has_ticket) is ∙ idle)
+
   -- what is in the table at the end
   pub record Ends (v : V) (k : Kept S) : Type 0 where
     pub stands : StandsAt opening history room start allowance v.seen k
     pub made : calls_by v.number v.seen ≡ v.made
     pub joined : HasCalls v.seen v.joined
 
-  pub closes : (id : ℕ) (v : V) (ws : List ℕ) (xs : List (Option (Kept S))) → v.live ≡ true → v.left + length v.seen ≡ allowance → Final (Seen Rule id v) ws xs → (k : Kept S) × (get_elem? xs 0 ≡ some (Some k)) × Ends v k
+  closes : (id : ℕ) (v : V) (ws : List ℕ) (xs : List (Option (Kept S))) → v.live ≡ true → v.left + length v.seen ≡ allowance → Final (Seen Rule id v) ws xs → (k : Kept S) × (get_elem? xs 0 ≡ some (Some k)) × Ends v k
   closes id v ws xs live spent_all end =
       let s : St = end.0 in
       let r : Rule s = end.1.0 in
@@ -78,5 +82,9 @@ module _ {S E O : Type 0} (opening : S → O) (history : S → List E) (room : S
   pub closed : (id : ℕ) (v : V) (ws : List ℕ) (xs : List (Option (Kept S))) (res : Option (Kept S)) → v.live ≡ true → v.left + length v.seen ≡ allowance → Final (Seen Rule id v) ws xs → get_elem? xs 0 ≡ some res → (k : Kept S) × (res ≡ Some k) × Ends v k
   closed id v ws xs res live all end at = let c = closes id v ws xs live all end in (c.0, same_at xs 0 res (Some c.0) at c.1, c.2)
 
-  pub closed_is : (v : V) (k k' : Kept S) (res : Option (Kept S)) → res ≡ Some k → res ≡ Some k' → Ends v k → Ends v k'
-  closed_is v k k' res p q e = let same : k ≡ k' = (let s : Some k ≡ Some k' = sym p ∙ q in cc) in subst (λ (z : Kept S). Ends v z) same e
+  -- the same of the value as it was matched
+  pub closes_with : (id : ℕ) (v : V) (ws : List ℕ) (xs : List (Option (Kept S))) (res : Option (Kept S)) (kept : Kept S) → v.live ≡ true → v.left + length v.seen ≡ allowance → Final (Seen Rule id v) ws xs → get_elem? xs 0 ≡ some res → res ≡ Some kept → Ends v kept
+  closes_with id v ws xs res kept live all end at is =
+      let c = closed id v ws xs res live all end at in
+      let same : c.0 ≡ kept = (let s : Some c.0 ≡ Some kept = sym c.1 ∙ is in cc) in
+      subst (λ (k : Kept S). Ends v k) same c.2

@@ -19,7 +19,7 @@ use Rattle.ba_turn.specs.History.{calls_by, entry_of}
 use Rattle.ba_turn.specs.Knowing.{opening_known, with_ticket, with_turn, after_take, after_put, SumsToAllowance}
 use Rattle.ba_turn.specs.Rule.{Scene, slot_of, IsTrueOf, AllJoined, left_of, live_of, HoldsTicket, SomeHasSeen, StandsAt, TakesTurns}
 use Rattle.ba_turn.specs.Steps.{Draws, Looks, CallsOn, IsTaken}
-use Rattle.ba_turn.specs.Passes.{known_by, start_of, allowance_of, HasTurn, IsGrown}
+use Rattle.ba_turn.specs.Passes.{known_by, start_of, allowance_of, value_of, HasTurn, IsGrown}
 use Rattle.ba_turn.proofs.Lists.{sum_set, sum_at, same_at, is_within, at_only, snoc_same, alone_weighs, alone_is, prefix_more, prefix_self, replaced, replaced_here, replaced_else}
 use Rattle.ba_turn.proofs.Histories.{calls_here, calls_else, entries_more, numbers_more, joined_map}
 
@@ -433,6 +433,9 @@ module _ {S E O : Type 0} (opening : S → O) (history : S → List E) (room : S
   pub has_room : (log : List (ℕ × E)) (k : Kept S) → StandsAt opening history room start allowance log k → length log < allowance → 0 < room k.value
   has_room log k stands below = let r = stands.room_is in omega arith
 
+pub rest_is : {S : Type 0} (l : List (ℕ × S)) (x : ℕ × S) → l ≡ x ∷ [] → l ≡ x ∷ rest l
+rest_is {S} l x e = e ∙ ap (λ (cs : List (ℕ × S)). x ∷ rest cs) (sym e)
+
 -- a pass that has laid the grown value back, with its number, may call the next one
 module _ {S E O : Type 0} (opening : S → O) (history : S → List E) (room : S → ℕ) (t : Turn S O E) (p : Pass S E) where
   grown_stands : (h : Held S) (k : Kept S) (n : ℕ) (e : E) → IsGrown opening history room t p h e → k.value ≡ h.kept.value → k.by.items ≡ h.kept.by.items ++ n ∷ [] → vec_capacity k.by ≡ vec_capacity h.kept.by
@@ -457,18 +460,45 @@ module _ {S E O : Type 0} (opening : S → O) (history : S → List E) (room : S
       subst (λ (z : Me (Option (Kept S)) (Known S E)). Allows (TakesTurns opening history room (start_of t) (allowance_of t)) slots id z 1 (λ n. (n + 1) % 2 ^ 64) (CallsOn history (step slots 1 1 0 none) z)) (sym is')
       (calls opening history room (start_of t) (allowance_of t) slots id m e k turn.of.live turn.turn refl (grown_stands h k (known_by p).number e g same (items ∙ ap (λ (a : ℕ). h.kept.by.items ++ a ∷ []) number) width))
 
-pub rest_is : {S : Type 0} (l : List (ℕ × S)) (x : ℕ × S) → l ≡ x ∷ [] → l ≡ x ∷ rest l
-rest_is {S} l x e = e ∙ ap (λ (cs : List (ℕ × S)). x ∷ rest cs) (sym e)
+  -- what the pass knows once it has called the next number
+  pub record HasPut (h : Held S) (m : Me (Option (Kept S)) (Known S E)) : Type 0 where
+    pub known : (e : E) → history (value_of h) ≡ map entry_of (known_by p).found ++ e ∷ [] → m.0 ≡ after_put e (known_by p)
+    pub history_is : map entry_of m.0.seen ≡ history (value_of h)
+    pub seen : IsPrefix (known_by p).seen (known_by p).found
+    pub own : calls_by m.0.number m.0.seen ≡ m.0.made
+    pub sums : SumsToAllowance m.0
+    pub number : m.0.number ≡ (known_by p).number
+    pub splits : m.0.splits ≡ (known_by p).splits
+    pub start : m.0.start ≡ (known_by p).start
+    pub allowance : m.0.allowance ≡ (known_by p).allowance
+    pub live : m.0.live ≡ (known_by p).live
+    pub no_ticket : m.0.has_ticket ≡ false
+    pub no_turn : m.0.has_turn ≡ false
+    pub no_slot : m.1 ≡ []
 
--- what a seat that has put knows
-module _ {S E : Type 0} (history : S → List E) where
-  abbrev M' : Type 0
-  M' = Me (Option (Kept S)) (Known S E)
+  called : (st : Step (Option (Kept S))) (me m : Me (Option (Kept S)) (Known S E)) (r : ℕ) (h : Held S) (k : Kept S) (e : E) → Rests k me → HasTurn t p → k.value ≡ h.kept.value → CallsOn history st me r m → history (value_of h) ≡ map entry_of (known_by p).found ++ e ∷ []
+      → (m ≡ (after_put e (known_by p), [])) × IsPrefix (known_by p).seen (known_by p).found × (calls_by (known_by p).number (after_put e (known_by p)).seen ≡ (after_put e (known_by p)).made) × SumsToAllowance (after_put e (known_by p))
+  called st me m r h k e is turn same did grown =
+      let z : Me (Option (Kept S)) (Known S E) = (known_by p, (0, Some k) ∷ []) in
+      let is' : me ≡ z = is ∙ ap (λ (l : List (ℕ × Option (Kept S))). (known_by p, (0, Some k) ∷ rest l)) turn.slot in
+      let did' : CallsOn history st z r m = subst (λ (y : Me (Option (Kept S)) (Known S E)). CallsOn history st y r m) is' did in
+      did' e k refl (ap history same ∙ grown)
 
-  pub has_put : (st : Step (Option (Kept S))) (v : Known S E) (c : List (ℕ × Option (Kept S))) (me m' : M') (r : ℕ) (k k' : Kept S) (e : E) → me ≡ (v, (0, Some k') ∷ rest c) → c ≡ (0, None) ∷ [] → CallsOn history st me r m'
-      → k'.value ≡ k.value → history k.value ≡ map entry_of v.found ++ e ∷ [] → (m' ≡ (after_put e v, [])) × IsPrefix v.seen v.found × (calls_by v.number (after_put e v).seen ≡ (after_put e v).made) × SumsToAllowance (after_put e v)
-  has_put st v c me m' r k k' e is bare did same grown =
-      let m : M' = (v, (0, Some k') ∷ []) in
-      let is' : me ≡ m = is ∙ ap (λ (l : List (ℕ × Option (Kept S))). (v, (0, Some k') ∷ rest l)) bare in
-      let did' : CallsOn history st m r m' = subst (λ (z : M'). CallsOn history st z r m') is' did in
-      did' e k' refl (ap history same ∙ grown)
+  pub has_put : (st : Step (Option (Kept S))) (me m : Me (Option (Kept S)) (Known S E)) (r : ℕ) (h : Held S) (k : Kept S) (e : E) → Rests k me → HasTurn t p → k.value ≡ h.kept.value → IsGrown opening history room t p h e → CallsOn history st me r m → HasPut h m
+  has_put st me m r h k e is turn same g did =
+      let c = called st me m r h k e is turn same did g.history_is in
+      subst (λ (y : Me (Option (Kept S)) (Known S E)). HasPut h y) (sym c.0) (record {
+        known = (λ e' is'. let other = called st me m r h k e' is turn same did is' in ap (λ (y : Me (Option (Kept S)) (Known S E)). y.0) (sym c.0 ∙ other.0));
+        history_is = entries_more (known_by p).found (known_by p).number e ∙ sym g.history_is;
+        seen = c.1;
+        own = c.2;
+        sums = c.3;
+        number = refl;
+        splits = refl;
+        start = refl;
+        allowance = refl;
+        live = refl;
+        no_ticket = refl;
+        no_turn = refl;
+        no_slot = refl;
+      })

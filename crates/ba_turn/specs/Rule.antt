@@ -9,7 +9,7 @@ use Rattle.ba_turn.specs.declared.known.Kept.{Kept}
 use Rattle.ba_turn.specs.declared.known.Known.{Known}
 use Rattle.ba_turn.specs.History.{calls_by, number_of, entry_of}
 
--- What lies behind a table. Seats are counted as the table counts its views
+-- What lies behind a table. A seat is named by the place of its view among all views
 pub record Scene (S E : Type 0) : Type 0 where
   pub ticket : ℕ
   pub serving : ℕ
@@ -41,7 +41,7 @@ abbrev pub AllJoined : {S E : Type 0} → Scene S E → List (ℕ × List E) →
 AllJoined x [] = Unit {0}
 AllJoined x (k ∷ ks) = IsJoined x k.0 k.1 × AllJoined x ks
 
--- What the pass of the seat id knows is true
+-- What the live seat id knows is true
 pub record IsTrueOf {S E : Type 0} (start : S) (allowance : ℕ) (x : Scene S E) (id : ℕ) (v : Known S E) : Type 0 where
   pub seen : IsPrefix v.seen x.log
   pub behind : IsPrefix v.behind x.log
@@ -90,6 +90,7 @@ module _ {S E O : Type 0} (opening : S → O) (history : S → List E) (room : S
     pub room_is : allowance ≤ room k.value + length log
     pub numbers_room : allowance ≤ vec_capacity k.by
 
+  -- The rule. The words are ticket and serving, the slot has the value, and a pass that was joined counts nowhere
   pub record TakesTurns (start : S) (allowance : ℕ) (s : State (Option (Kept S)) (Known S E)) : Type 0 where
     pub x : Scene S E
     pub words : s.words ≡ x.ticket ∷ x.serving ∷ []
@@ -108,5 +109,6 @@ module _ {S E O : Type 0} (opening : S → O) (history : S → List E) (room : S
     -- every number up to the last has a seat or was joined, and no greater number made a call
     pub alive : sum_by live_of s.views + x.gone ≡ x.last + 1
     pub fresh : (n : ℕ) → x.last < n → calls_by n x.log ≡ []
+    -- some pass has seen the whole log, and what each knows is true
     pub known : SomeHasSeen s.views x.serving
     pub each : (id : ℕ) (v : Known S E) → get_elem? s.views id ≡ some v → v.live ≡ true → IsTrueOf start allowance x id v

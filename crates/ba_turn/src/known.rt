@@ -30,9 +30,11 @@ pub struct Known<S, E> {
     pub allowance: u64,
     /// How many calls the pass may still make.
     pub left: u64,
+    /// Whether it has drawn a ticket and not yet called the next number.
     pub has_ticket: bool,
     /// Whether its ticket is served. It then has the value.
     pub has_turn: bool,
+    /// The last ticket that it drew.
     pub ticket: u64,
     /// The whole history at the moment when it got the turn.
     pub found: LinkedList<(u32, E)>,

@@ -29,7 +29,7 @@ impl<S: Storied> Turn<S> {
     ghost use Rattle.ba_turn.specs.Passes.{known_by, start_of, allowance_of, value_of, IsFree, HasTurn, IsHeldAt, IsGrown};
 
     /// A turn over a value with no history, for `allowance` calls, and its opening pass, which has the number 0.
-    /// All memory that the calls will need is asked for here.
+    /// All memory that the calls will need is asked for here. Where it is refused, the value is dropped.
     pub fn new(
         alloc: Global,
         mut value: S,

@@ -1,6 +1,6 @@
-use Rattle.std.proofs.Common.{rules, ◌∙◌, ap}
+use Rattle.std.proofs.Common.{rules, ◌∙◌}
 use Rattle.ba_turn.proofs.Splits.{joins}
-use Rattle.ba_turn.proofs.Ends.{settles}
+use Rattle.ba_turn.proofs.Ends.{settles_joined}
 use Rattle.ba_turn.proofs.turn.Turn.join.Goals as goal
 
 pub join_seat-requires : goal.join_seat-requires
@@ -13,4 +13,4 @@ pub load-requires : goal.load-requires
 load-requires g c =
     let f = c.requires.free.0 in
     let x = c.join_seat.ensures in
-    (x.0 ∙ f.of.table, search rules, settles g.S.Storied.opening g.S.Storied.history g.S.Storied.room c.args.self.now.table.shared.key.start.value c.args.self.now.table.shared.key.allowance _ _ _ (ap (λ m. m.0.live) x.2 ∙ f.of.live) (ap (λ m. m.0.has_ticket) x.2 ∙ f.no_ticket))
+    (x.0 ∙ f.of.table, search rules, settles_joined g.S.Storied.opening g.S.Storied.history g.S.Storied.room c.args.self.now.table.shared.key.start.value c.args.self.now.table.shared.key.allowance _ _ c.args.pass.now.seat.me.0 c.args.other.seat.me.0 c.args.pass.now.seat.me.1 c.join_seat.new.seat.me x.2 f.of.live f.no_ticket)

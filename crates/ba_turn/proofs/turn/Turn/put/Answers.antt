@@ -1,9 +1,6 @@
-use Rattle.std.proofs.Common.{rules, ◌≡◌, ◌∙◌, sym, ap, refl, subst, map}
+use Rattle.std.proofs.Common.{rules, ◌∙◌, sym, refl}
 use mathlib.Core.Option.{none}
 use Rattle.atomic_table.specs.Table.{step}
-use Rattle.ba_turn.specs.History.{calls_by, entry_of}
-use Rattle.ba_turn.specs.Knowing.{SumsToAllowance}
-use Rattle.ba_turn.proofs.Histories.{entries_more}
 use Rattle.ba_turn.proofs.Steps.{puts, has_put}
 use Rattle.ba_turn.proofs.turn.Turn.put.Goals as goal
 
@@ -21,72 +18,61 @@ fetch_add-served-requires g c =
 
 pub invariant_of-pass : goal.invariant_of-pass
 invariant_of-pass g c =
-    let t = c.requires.turn in
-    let grown = c.requires.grown in
     let x = c.exchange-nothing.ensures in
-    let did = has_put g.S.Storied.history (step 1 1 1 0 none) c.args.pass.now.seat.me.0 c.args.pass.now.seat.me.1 c.exchange-nothing.new.seat.me c.fetch_add-served.new.seat.me c.fetch_add-served.result c.args.held.kept
-    (record { value = c.args.held.kept.value; by = c.push_reserved.new.self }) grown.0 x.3 t.slot c.fetch_add-served.ensures.2 refl grown.1.history_is in
-    record { same = (c.args.pass.now.same.0 ∙ sym (ap (λ m. m.0.number) did.0), c.args.pass.now.same.1 ∙ sym (ap (λ m. m.0.splits) did.0)) }
+    let t = c.requires.turn in
+    let put = has_put g.S.Storied.opening g.S.Storied.history g.S.Storied.room c.args.self.now c.args.pass.now (step 1 1 1 0 none) c.exchange-nothing.new.seat.me c.fetch_add-served.new.seat.me c.fetch_add-served.result c.args.held
+    (record { value = c.args.held.kept.value; by = c.push_reserved.new.self }) c.requires.grown.0 x.3 t refl c.requires.grown.1 c.fetch_add-served.ensures.2 in
+    record { same = (c.args.pass.now.same.0 ∙ sym put.number, c.args.pass.now.same.1 ∙ sym put.splits) }
 
 pub returns-clause-free : goal.returns-clause-free
 returns-clause-free g c =
-    let t = c.requires.turn in
-    let grown = c.requires.grown in
     let x = c.exchange-nothing.ensures in
-    let did = has_put g.S.Storied.history (step 1 1 1 0 none) c.args.pass.now.seat.me.0 c.args.pass.now.seat.me.1 c.exchange-nothing.new.seat.me c.fetch_add-served.new.seat.me c.fetch_add-served.result c.args.held.kept
-    (record { value = c.args.held.kept.value; by = c.push_reserved.new.self }) grown.0 x.3 t.slot c.fetch_add-served.ensures.2 refl grown.1.history_is in
+    let t = c.requires.turn in
+    let put = has_put g.S.Storied.opening g.S.Storied.history g.S.Storied.room c.args.self.now c.args.pass.now (step 1 1 1 0 none) c.exchange-nothing.new.seat.me c.fetch_add-served.new.seat.me c.fetch_add-served.result c.args.held
+    (record { value = c.args.held.kept.value; by = c.push_reserved.new.self }) c.requires.grown.0 x.3 t refl c.requires.grown.1 c.fetch_add-served.ensures.2 in
     record {
-      of = record {
-        table = c.fetch_add-served.ensures.0 ∙ (x.0 ∙ t.of.table);
-        start = ap (λ m. m.0.start) did.0 ∙ t.of.start;
-        allowance = ap (λ m. m.0.allowance) did.0 ∙ t.of.allowance;
-        live = ap (λ m. m.0.live) did.0 ∙ t.of.live;
-      };
-      no_ticket = ap (λ m. m.0.has_ticket) did.0;
-      no_turn = ap (λ m. m.0.has_turn) did.0;
-      no_slot = ap (λ m. m.1) did.0;
+      of = record { table = c.fetch_add-served.ensures.0 ∙ (x.0 ∙ t.of.table); start = put.start ∙ t.of.start; allowance = put.allowance ∙ t.of.allowance; live = put.live ∙ t.of.live };
+      no_ticket = put.no_ticket;
+      no_turn = put.no_turn;
+      no_slot = put.no_slot;
     }
 
 pub returns-clause-known : goal.returns-clause-known
-returns-clause-known g c = λ e is.
-    let t = c.requires.turn in
+returns-clause-known g c =
     let x = c.exchange-nothing.ensures in
-    let did = has_put g.S.Storied.history (step 1 1 1 0 none) c.args.pass.now.seat.me.0 c.args.pass.now.seat.me.1 c.exchange-nothing.new.seat.me c.fetch_add-served.new.seat.me c.fetch_add-served.result c.args.held.kept
-    (record { value = c.args.held.kept.value; by = c.push_reserved.new.self }) e x.3 t.slot c.fetch_add-served.ensures.2 refl is in
-    ap (λ m. m.0) did.0
-
-pub returns-clause-seen : goal.returns-clause-seen
-returns-clause-seen g c =
     let t = c.requires.turn in
-    let grown = c.requires.grown in
-    let x = c.exchange-nothing.ensures in
-    let did = has_put g.S.Storied.history (step 1 1 1 0 none) c.args.pass.now.seat.me.0 c.args.pass.now.seat.me.1 c.exchange-nothing.new.seat.me c.fetch_add-served.new.seat.me c.fetch_add-served.result c.args.held.kept
-    (record { value = c.args.held.kept.value; by = c.push_reserved.new.self }) grown.0 x.3 t.slot c.fetch_add-served.ensures.2 refl grown.1.history_is in
-    did.1
-
-pub returns-clause-own : goal.returns-clause-own
-returns-clause-own g c =
-    let t = c.requires.turn in
-    let grown = c.requires.grown in
-    let x = c.exchange-nothing.ensures in
-    let did = has_put g.S.Storied.history (step 1 1 1 0 none) c.args.pass.now.seat.me.0 c.args.pass.now.seat.me.1 c.exchange-nothing.new.seat.me c.fetch_add-served.new.seat.me c.fetch_add-served.result c.args.held.kept
-    (record { value = c.args.held.kept.value; by = c.push_reserved.new.self }) grown.0 x.3 t.slot c.fetch_add-served.ensures.2 refl grown.1.history_is in
-    subst (λ m. calls_by m.0.number m.0.seen ≡ m.0.made) (sym did.0) did.2
-
-pub returns-clause-sums : goal.returns-clause-sums
-returns-clause-sums g c =
-    let t = c.requires.turn in
-    let grown = c.requires.grown in
-    let x = c.exchange-nothing.ensures in
-    let did = has_put g.S.Storied.history (step 1 1 1 0 none) c.args.pass.now.seat.me.0 c.args.pass.now.seat.me.1 c.exchange-nothing.new.seat.me c.fetch_add-served.new.seat.me c.fetch_add-served.result c.args.held.kept
-    (record { value = c.args.held.kept.value; by = c.push_reserved.new.self }) grown.0 x.3 t.slot c.fetch_add-served.ensures.2 refl grown.1.history_is in
-    subst (λ m. SumsToAllowance m.0) (sym did.0) did.3
+    let put = has_put g.S.Storied.opening g.S.Storied.history g.S.Storied.room c.args.self.now c.args.pass.now (step 1 1 1 0 none) c.exchange-nothing.new.seat.me c.fetch_add-served.new.seat.me c.fetch_add-served.result c.args.held
+    (record { value = c.args.held.kept.value; by = c.push_reserved.new.self }) c.requires.grown.0 x.3 t refl c.requires.grown.1 c.fetch_add-served.ensures.2 in
+    put.known
 
 pub returns-clause-history : goal.returns-clause-history
 returns-clause-history g c =
-    let t = c.requires.turn in
-    let grown = c.requires.grown in
     let x = c.exchange-nothing.ensures in
-    let did = has_put g.S.Storied.history (step 1 1 1 0 none) c.args.pass.now.seat.me.0 c.args.pass.now.seat.me.1 c.exchange-nothing.new.seat.me c.fetch_add-served.new.seat.me c.fetch_add-served.result c.args.held.kept
-    (record { value = c.args.held.kept.value; by = c.push_reserved.new.self }) grown.0 x.3 t.slot c.fetch_add-served.ensures.2 refl grown.1.history_is in
-    ap (λ m. map entry_of m.0.seen) did.0 ∙ (entries_more c.args.pass.now.seat.me.0.found c.args.pass.now.seat.me.0.number grown.0 ∙ sym grown.1.history_is)
+    let t = c.requires.turn in
+    let put = has_put g.S.Storied.opening g.S.Storied.history g.S.Storied.room c.args.self.now c.args.pass.now (step 1 1 1 0 none) c.exchange-nothing.new.seat.me c.fetch_add-served.new.seat.me c.fetch_add-served.result c.args.held
+    (record { value = c.args.held.kept.value; by = c.push_reserved.new.self }) c.requires.grown.0 x.3 t refl c.requires.grown.1 c.fetch_add-served.ensures.2 in
+    put.history_is
+
+pub returns-clause-seen : goal.returns-clause-seen
+returns-clause-seen g c =
+    let x = c.exchange-nothing.ensures in
+    let t = c.requires.turn in
+    let put = has_put g.S.Storied.opening g.S.Storied.history g.S.Storied.room c.args.self.now c.args.pass.now (step 1 1 1 0 none) c.exchange-nothing.new.seat.me c.fetch_add-served.new.seat.me c.fetch_add-served.result c.args.held
+    (record { value = c.args.held.kept.value; by = c.push_reserved.new.self }) c.requires.grown.0 x.3 t refl c.requires.grown.1 c.fetch_add-served.ensures.2 in
+    put.seen
+
+pub returns-clause-own : goal.returns-clause-own
+returns-clause-own g c =
+    let x = c.exchange-nothing.ensures in
+    let t = c.requires.turn in
+    let put = has_put g.S.Storied.opening g.S.Storied.history g.S.Storied.room c.args.self.now c.args.pass.now (step 1 1 1 0 none) c.exchange-nothing.new.seat.me c.fetch_add-served.new.seat.me c.fetch_add-served.result c.args.held
+    (record { value = c.args.held.kept.value; by = c.push_reserved.new.self }) c.requires.grown.0 x.3 t refl c.requires.grown.1 c.fetch_add-served.ensures.2 in
+    put.own
+
+pub returns-clause-sums : goal.returns-clause-sums
+returns-clause-sums g c =
+    let x = c.exchange-nothing.ensures in
+    let t = c.requires.turn in
+    let put = has_put g.S.Storied.opening g.S.Storied.history g.S.Storied.room c.args.self.now c.args.pass.now (step 1 1 1 0 none) c.exchange-nothing.new.seat.me c.fetch_add-served.new.seat.me c.fetch_add-served.result c.args.held
+    (record { value = c.args.held.kept.value; by = c.push_reserved.new.self }) c.requires.grown.0 x.3 t refl c.requires.grown.1 c.fetch_add-served.ensures.2 in
+    put.sums
