@@ -10,4 +10,5 @@ pub mod NumberLemmas
 pub mod PositionLemmas
 pub mod RecordLemmas
 pub mod RowsLemmas
+pub mod SpellLemmas
 pub mod UnkeyedLemmas

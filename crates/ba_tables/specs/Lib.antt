@@ -1,5 +1,6 @@
 pub mod Broken
 pub mod Index
 pub mod Left
+pub mod Spelling
 pub mod TableFile
 pub mod TableSet
