@@ -3,7 +3,9 @@ pub mod ClashLemmas
 pub mod ConformLemmas
 pub mod FieldLemmas
 pub mod FileFitLemmas
+pub mod FirstBrokenLemmas
 pub mod FirstLemmas
+pub mod FoundLemmas
 pub mod FrontLemmas
 pub mod IndexLemmas
 pub mod NumberLemmas

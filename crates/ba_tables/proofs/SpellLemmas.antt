@@ -1,6 +1,6 @@
 -- A file reads as rows exactly where it spells them.
-use Rattle.std.proofs.Common.{◌≡◌, ◌≢◌, ℕ, zero, suc, ◌+◌, ◌-◌, ◌<◌, ◌≤◌, ◌^◌, ◌==◌, ◌&&◌, ◌⊎◌, inl, inr, Bool, true, false, cond, nat_le, List, [], ◌∷◌, length, drop, slice_index, Option, Some, None, Result, Ok, Err, refl, arith, ◌∙◌, sym, ap, subst, ℤ, pos, neg_ℤ}
-use Rattle.std.proofs.lemmas.Bool.{cases_Bool, eqb-true, ne_eqb}
+use Rattle.std.proofs.Common.{◌≡◌, ◌≢◌, ℕ, zero, suc, ◌+◌, ◌-◌, ◌<◌, ◌≤◌, ◌^◌, ◌==◌, inl, inr, Bool, true, false, cond, nat_le, List, [], ◌∷◌, length, drop, slice_index, Option, Some, None, Ok, Err, refl, arith, ◌∙◌, sym, ap, subst, ℤ, pos, neg_ℤ}
+use Rattle.std.proofs.lemmas.Bool.{eqb-true}
 use Rattle.std.proofs.lemmas.Bool.Decides.{nat_tests}
 use Rattle.std.proofs.lemmas.Fmt.{IsAscii-from_digits}
 use Rattle.std.proofs.lemmas.Slice.Eq.{bytes_eq-Decides}
@@ -8,23 +8,22 @@ use Rattle.std.proofs.lemmas.Str.{IsUtf8-from_ascii, IsUtf8-from_is_utf8, is_utf
 use Rattle.std.specs.Cmp.Lexicographic.{pointwise_decides}
 use Rattle.std.specs.List.{AllZip, list_all}
 use Rattle.std.specs.Option.{ok_or, option_map}
-use Rattle.std.specs.Str.{IsAscii, IsUtf8, all_ascii_digits, is_utf8}
-use Rattle.std.specs.Str.Parse.{digits_value}
+use Rattle.std.specs.Str.{IsAscii, IsUtf8, is_utf8}
 use Rattle.csv.specs.Reading.{default_config, records, strip_bom}
 use Rattle.ba_model.specs.declared.schema.Column.{Column}
 use Rattle.ba_model.specs.declared.schema.Kind.{Kind}
 use Rattle.ba_model.specs.declared.schema.Kind.TheVariants.{Int as IntKind, Text as TextKind}
 use Rattle.ba_model.specs.declared.schema.Table.{Table}
 use Rattle.ba_model.specs.declared.value.Value.{Value}
-use Rattle.ba_model.specs.declared.value.Value.TheVariants.{Int, Text}
-use Rattle.ba_tables.specs.Spelling.{IsDigits, ReadsAsSpelled, Spells, SpellsMinus, SpellsNumber, SpellsPlain, SpellsRow, SpellsTable}
+use Rattle.ba_model.specs.declared.value.Value.TheVariants.{Int}
+use Rattle.ba_tables.specs.Spelling.{IsDigits, ReadsAsSpelled, Spells, SpellsNumber, SpellsRow, SpellsTable}
 use Rattle.ba_tables.specs.TableFile.{◌>>=◌, digits_up_to, is_header, names_of, number_of, row_at, row_limit, rows_from, rows_of_file, rows_of_lines, rows_of_rest, value_at, values_from, within_limit}
 use Rattle.ba_tables.specs.declared.fault.TableFault.{TableFault}
 use Rattle.ba_tables.specs.declared.fault.TableFault.TheVariants.{BadHeader, BadNumber, TooMany}
 use Rattle.ba_tables.proofs.AgreeLemmas.{both, halves}
-use Rattle.ba_tables.proofs.FileFitLemmas.{limit_passed, row_told, went_through}
+use Rattle.ba_tables.proofs.FileFitLemmas.{row_told, went_through}
 use Rattle.ba_tables.proofs.FrontLemmas.{row_is}
-use Rattle.ba_tables.proofs.NumberLemmas.{SpellsUpTo, minus_is, own, plain_is, spelled, spelled_told}
+use Rattle.ba_tables.proofs.NumberLemmas.{minus_is, own, plain_is, spelled, spelled_told}
 use Rattle.ba_tables.proofs.RowsLemmas.{file_is, lines_are, within}
 
 mapped : {X Y : Type 0} (f : X → Y) (o : Option X) (y : Y) → option_map f o ≡ Some y → (x : X) × (o ≡ Some x) × (f x ≡ y)

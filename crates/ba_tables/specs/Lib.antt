@@ -1,3 +1,4 @@
+pub mod Breaks
 pub mod Broken
 pub mod Index
 pub mod Left
