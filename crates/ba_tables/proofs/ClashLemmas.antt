@@ -1,9 +1,8 @@
 -- The first clash of rows on a key, and the first broken key or link, as loops find them.
-use Rattle.std.proofs.Common.{◌≡◌, ◌≢◌, ℕ, zero, suc, ◌+◌, ◌<◌, ◌≤◌, Bool, true, false, cond, not, List, [], ◌∷◌, ◌++◌, length, drop, take, Option, Some, None, refl, sym, ap, ◌∙◌, arith}
+use Rattle.std.proofs.Common.{◌≡◌, ℕ, zero, suc, ◌+◌, ◌≤◌, cond, List, [], ◌∷◌, ◌++◌, length, drop, take, Option, Some, None, refl, sym, ap, ◌∙◌, arith}
 use Rattle.std.proofs.lemmas.List.{drop_all}
-use Rattle.std.specs.BTreeMap.{BTreeMap, get}
+use Rattle.std.specs.BTreeMap.{BTreeMap, IsEmpty, get}
 use Rattle.std.specs.List.{position_from}
-use Rattle.std.specs.Option.{option_map, option_or}
 use Rattle.std.specs.Ordering.{eq_by_cmp}
 use Rattle.std.specs.Prelude.{slice_get}
 use Rattle.ba_model.specs.Order.{row_cmp}
@@ -19,7 +18,7 @@ pub record Clear (key : List ℕ) (rows : List (List Value)) (i : ℕ) (seen : B
   pub seen_before : Seen key (take i rows) seen
   pub rest : clash_after key (take i rows) (drop i rows) ≡ clash_after key [] rows
 
-pub none_clear : (key : List ℕ) (rows : List (List Value)) (seen : BTreeMap (List Value) ℕ) → Rattle.std.specs.BTreeMap.IsEmpty seen → Clear key rows 0 seen
+pub none_clear : (key : List ℕ) (rows : List (List Value)) (seen : BTreeMap (List Value) ℕ) → IsEmpty seen → Clear key rows 0 seen
 none_clear key rows seen e = record { seen_before = none_seen key seen e; rest = refl }
 
 next_clash : (key : List ℕ) (before : List (List Value)) (row : List Value) (rows : List (List Value)) → position_from (clashes key row) 1 before ≡ None → clash_after key before (row ∷ rows) ≡ clash_after key (before ++ row ∷ []) rows

@@ -1,13 +1,13 @@
 -- Rows that fit conform where no key and no link is broken and there are no rules.
-use Rattle.std.proofs.Common.{◌≡◌, ℕ, zero, suc, ◌+◌, ◌<◌, ◌≤◌, ◌⊎◌, inl, inr, Bool, true, false, not, ◌&&◌, nat_lt, List, [], ◌∷◌, ◌++◌, length, Option, Some, None, refl, sym, ap, ◌∙◌, arith, append_assoc, length-append, subst}
+use Rattle.std.proofs.Common.{◌≡◌, ℕ, zero, suc, ◌+◌, ◌<◌, Bool, true, false, not, ◌&&◌, nat_lt, List, [], ◌∷◌, ◌++◌, length, Option, Some, None, refl, sym, ◌∙◌, arith, append_assoc, length-append, subst}
 use Rattle.std.proofs.lemmas.Bool.Decides.{nat_tests}
 use Rattle.std.proofs.lemmas.List.Elements.{All-cons, All-nil}
 use Rattle.std.proofs.lemmas.Option.{slice_get_read}
-use Rattle.std.specs.List.{All, AllZip, Contains, list_any, position_from}
+use Rattle.std.specs.List.{All, AllZip, list_any, position_from}
 use Rattle.std.specs.Option.{option_map, option_or}
 use Rattle.std.specs.Prelude.{slice_get}
 use Rattle.ba_model.proofs.TestLemmas.{any_decides}
-use Rattle.ba_model.specs.Conform.{Conforms, KeyHolds, LinkHolds, Match, NoNull, RowFits, RuleHolds, TableConforms}
+use Rattle.ba_model.specs.Conform.{Conforms, KeyHolds, LinkHolds, Match, RowFits, RuleHolds, TableConforms}
 use Rattle.ba_model.specs.Meaning.{rows_of}
 use Rattle.ba_model.specs.declared.schema.Link.{Link}
 use Rattle.ba_model.specs.declared.schema.Schema.{Schema}
@@ -21,21 +21,21 @@ use Rattle.ba_tables.proofs.AgreeLemmas.{agrees_decides, both, no_null_along, no
 use Rattle.ba_tables.proofs.PositionLemmas.{position-none}
 use Rattle.ba_tables.proofs.UnkeyedLemmas.{none}
 
-or_none : {X : Type 0} (a b : Option X) → option_or a b ≡ None → (a ≡ None) × (b ≡ None)
+pub or_none : {X : Type 0} (a b : Option X) → option_or a b ≡ None → (a ≡ None) × (b ≡ None)
 or_none None b e = (refl, e)
 or_none (Some x) b e = cc e
 
-map_none : {X Y : Type 0} (f : X → Y) (o : Option X) → option_map f o ≡ None → o ≡ None
+pub map_none : {X Y : Type 0} (f : X → Y) (o : Option X) → option_map f o ≡ None → o ≡ None
 map_none f None e = refl
 map_none f (Some x) e = cc e
 
-get_before : {X : Type 0} (xs ys : List X) (i : ℕ) (x : X) → i < length xs → slice_get (xs ++ ys) i ≡ Some x → slice_get xs i ≡ Some x
+pub get_before : {X : Type 0} (xs ys : List X) (i : ℕ) (x : X) → i < length xs → slice_get (xs ++ ys) i ≡ Some x → slice_get xs i ≡ Some x
 get_before [] ys i x h e = absurd (omega arith)
 get_before (y ∷ xs) ys zero x h e = e
 get_before (y ∷ xs) ys (suc i) x h e = get_before xs ys i x (omega arith) e
 
 -- no row clashes with an earlier one
-none_clashes : (key : List ℕ) (before rows : List (List Value)) (i j : ℕ) (earlier row : List Value) → clash_after key before rows ≡ None → i < length before + j → slice_get (before ++ rows) i ≡ Some earlier → slice_get rows j ≡ Some row → clashes key row earlier ≡ false
+pub none_clashes : (key : List ℕ) (before rows : List (List Value)) (i j : ℕ) (earlier row : List Value) → clash_after key before rows ≡ None → i < length before + j → slice_get (before ++ rows) i ≡ Some earlier → slice_get rows j ≡ Some row → clashes key row earlier ≡ false
 unfolding clash_after
 none_clashes key before [] i j earlier row h less e f = cc f
 none_clashes key before (first ∷ rows) i zero earlier row h less e f =
@@ -83,7 +83,7 @@ and_first : (a b : Bool) → a ≡ true → (a && b) ≡ false → b ≡ false
 and_first true b e f = f
 and_first false b e f = cc e
 
-link_holds : (d : RowSet) (rows : List (List Value)) (link : Link) → position_from (dangles link (rows_of d link.target)) 1 rows ≡ None → LinkHolds d rows link
+pub link_holds : (d : RowSet) (rows : List (List Value)) (link : Link) → position_from (dangles link (rows_of d link.target)) 1 rows ≡ None → LinkHolds d rows link
 link_holds d rows link h r (i, i_in, i_is) no_null =
     let at_i = slice_get_read rows (length rows) i r refl i_in (sym i_is) in
     let targets = rows_of d link.target in

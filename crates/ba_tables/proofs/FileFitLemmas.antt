@@ -20,7 +20,7 @@ use Rattle.ba_tables.specs.declared.fault.TableFault.{TableFault}
 use Rattle.ba_tables.specs.declared.fault.TableFault.TheVariants.{BadHeader, BadWidth, BadUtf8, BadNumber}
 
 -- what a step gave that went through
-went_through : {A B : Type 0} (read : Result A TableFault) (f : A → Result B TableFault) (y : B) → (read >>= f) ≡ Ok y → (x : A) × (read ≡ Ok x) × (f x ≡ Ok y)
+pub went_through : {A B : Type 0} (read : Result A TableFault) (f : A → Result B TableFault) (y : B) → (read >>= f) ≡ Ok y → (x : A) × (read ≡ Ok x) × (f x ≡ Ok y)
 went_through (Ok x) f y h = (x, refl, h)
 went_through (Err e) f y h = cc h
 
@@ -50,14 +50,19 @@ values_fit row i (c ∷ cs) (f ∷ fs) vs w h =
     let whole : v.0 ∷ us.0 ≡ vs = cc us.2 in
     subst (λ x. AllZip IsOfColumn (c ∷ cs) x) whole (value_fits row i c f v.0 v.1, values_fit row (i + 1) cs fs us.0 shorter us.1)
 
-row_fits : (row : ℕ) (cs : List Column) (fs : List (List ℕ)) (vs : List Value) → row_at row cs fs ≡ Ok vs → AllZip IsOfColumn cs vs
+-- what a row says that went through
+pub row_told : (row : ℕ) (cs : List Column) (fs : List (List ℕ)) (vs : List Value) → row_at row cs fs ≡ Ok vs → (length fs ≡ length cs) × (list_all is_utf8 fs ≡ true) × (values_from row 0 cs fs ≡ Ok vs)
 unfolding row_at
-row_fits row cs fs vs h = by (length fs == length cs) (list_all is_utf8 fs) refl h
+row_told row cs fs vs h = by (length fs == length cs) refl (list_all is_utf8 fs) refl h
   where
-    by : (b d : Bool) → (length fs == length cs) ≡ b → cond (not b) (Err (BadWidth row)) (cond (not d) (Err (BadUtf8 row)) (values_from row 0 cs fs)) ≡ Ok vs → AllZip IsOfColumn cs vs
-    by true true e g = values_fit row 0 cs fs vs (eqb-true _ _ e) g
-    by true false e g = cc g
-    by false d e g = cc g
+    by : (b : Bool) → (length fs == length cs) ≡ b → (d : Bool) → list_all is_utf8 fs ≡ d → cond (not b) (Err (BadWidth row)) (cond (not d) (Err (BadUtf8 row)) (values_from row 0 cs fs)) ≡ Ok vs
+        → (length fs ≡ length cs) × (list_all is_utf8 fs ≡ true) × (values_from row 0 cs fs ≡ Ok vs)
+    by true e true t g = (eqb-true _ _ e, t, g)
+    by true e false t g = cc g
+    by false e d t g = cc g
+
+row_fits : (row : ℕ) (cs : List Column) (fs : List (List ℕ)) (vs : List Value) → row_at row cs fs ≡ Ok vs → AllZip IsOfColumn cs vs
+row_fits row cs fs vs h = let told = row_told row cs fs vs h in values_fit row 0 cs fs vs told.0 told.2
 
 rows_fit : (row : ℕ) (cs : List Column) (lines : List (List (List ℕ))) (rows : List (List Value)) → rows_from row cs lines ≡ Ok rows → All (AllZip IsOfColumn cs) rows
 unfolding rows_from
@@ -68,7 +73,7 @@ rows_fit row cs (line ∷ lines) rows h =
     let whole : v.0 ∷ us.0 ≡ rows = cc us.2 in
     subst (λ x. All (AllZip IsOfColumn cs) x) whole (All-cons (AllZip IsOfColumn cs) v.0 us.0 (row_fits row cs line v.0 v.1) (rows_fit (row + 1) cs lines us.0 us.1))
 
-limit_passed : (b : Bool) (rows all : List (List Value)) (fault : TableFault) → cond b (Ok all) (Err fault) ≡ Ok rows → all ≡ rows
+pub limit_passed : (b : Bool) (rows all : List (List Value)) (fault : TableFault) → cond b (Ok all) (Err fault) ≡ Ok rows → all ≡ rows
 limit_passed true rows all fault h = cc h
 limit_passed false rows all fault h = cc h
 

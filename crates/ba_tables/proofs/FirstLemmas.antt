@@ -1,5 +1,5 @@
 -- The first broken key or link, as loops over keys, links and tables find it.
-use Rattle.std.proofs.Common.{◌≡◌, ℕ, ◌+◌, ◌≤◌, List, [], ◌∷◌, length, drop, Option, Some, None, refl, sym, ◌∙◌}
+use Rattle.std.proofs.Common.{◌≡◌, ℕ, ◌+◌, ◌≤◌, List, [], ◌∷◌, length, drop, Some, None, refl, sym}
 use Rattle.std.proofs.lemmas.List.{drop_all}
 use Rattle.std.specs.List.{position_from}
 use Rattle.std.specs.Prelude.{slice_get}

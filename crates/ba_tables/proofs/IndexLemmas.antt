@@ -1,23 +1,22 @@
 -- The values of rows on some columns, as loops gather them.
-use Rattle.std.proofs.Common.{◌≡◌, ◌≢◌, ℕ, zero, suc, ◌+◌, ◌<◌, ◌≤◌, Bool, true, false, cond, not, ◌&&◌, ◌||◌, List, [], ◌∷◌, ◌++◌, length, drop, take, Option, Some, None, refl, sym, ap, ◌∙◌, arith, append_assoc, length-append}
+use Rattle.std.proofs.Common.{◌≡◌, ℕ, zero, suc, ◌+◌, ◌≤◌, Bool, true, false, cond, not, ◌||◌, List, [], ◌∷◌, ◌++◌, length, drop, take, Option, Some, None, refl, sym, ap, ◌∙◌, append_assoc, add-one}
 use Rattle.std.proofs.lemmas.List.{append-nil, drop_all}
-use Rattle.std.proofs.lemmas.List.Folds.{list_any-append}
-use Rattle.std.specs.BTreeMap.{BTreeMap, get}
+use Rattle.std.specs.BTreeMap.{BTreeMap, IsEmpty, get}
 use Rattle.std.specs.BTreeSet.{BTreeSet}
 use Rattle.std.specs.BTreeSet as set
 use Rattle.std.specs.List.{list_any, position_from}
-use Rattle.std.specs.Option.{option_map, option_or, unwrap_or}
+use Rattle.std.specs.Option.{option_or, unwrap_or}
 use Rattle.std.specs.Ordering.{eq_by_cmp}
 use Rattle.std.specs.Prelude.{slice_get}
 use Rattle.ba_model.specs.Order.{row_cmp}
 use Rattle.ba_model.specs.declared.schema.Link.{Link}
 use Rattle.ba_model.specs.declared.value.Value.{Value}
 use Rattle.ba_model.specs.declared.value.Value.TheVariants.{Null}
-use Rattle.ba_tables.specs.Broken.{agrees, clash_after, clashes, dangles, has_no_null, is_null}
+use Rattle.ba_tables.specs.Broken.{agrees, clashes, dangles, has_no_null, is_null}
 use Rattle.ba_tables.specs.Index.{IsIndex, has_values, key_values, values_on}
-use Rattle.ba_tables.proofs.AgreeLemmas.{agrees_is, halves, row_told, same_bool}
+use Rattle.ba_tables.proofs.AgreeLemmas.{agrees_is, row_told}
 use Rattle.ba_tables.proofs.FieldLemmas.{drop_element}
-use Rattle.ba_tables.proofs.PositionLemmas.{position-false, position-push, position-same}
+use Rattle.ba_tables.proofs.PositionLemmas.{position-push, position-same}
 
 -- the values on the columns, of which those before a place were gathered and none is NULL
 pub record Gathered (row : List Value) (columns : List ℕ) (i : ℕ) (values : List Value) : Type 0 where
@@ -68,7 +67,7 @@ take_next (y ∷ xs) zero x e = let same : y ≡ x = cc e in cc
 take_next (y ∷ xs) (suc i) x e = ap (λ ys. y ∷ ys) (take_next xs i x e)
 
 pub take_one : {X : Type 0} (xs : List X) (i : ℕ) (x : X) → slice_get xs i ≡ Some x → take (i + 1) xs ≡ take i xs ++ x ∷ []
-take_one xs i x e = rw Rattle.std.proofs.Common.add-one (take_next xs i x e)
+take_one xs i x e = rw add-one (take_next xs i x e)
 
 -- the index of a link's target
 pub none_indexed : (rows : List (List Value)) (columns : List ℕ) (index : BTreeSet (List Value)) → set.IsEmpty index → IsIndex (take 0 rows) columns index
@@ -129,7 +128,7 @@ null_dangles link targets row none = rw (null_told row link.columns none) refl
 pub record Seen (key : List ℕ) (before : List (List Value)) (seen : BTreeMap (List Value) ℕ) : Type 0 where
   pub at : (values : List Value) → get row_cmp seen values ≡ position_from (has_values key values) 1 before
 
-pub none_seen : (key : List ℕ) (seen : BTreeMap (List Value) ℕ) → Rattle.std.specs.BTreeMap.IsEmpty seen → Seen key [] seen
+pub none_seen : (key : List ℕ) (seen : BTreeMap (List Value) ℕ) → IsEmpty seen → Seen key [] seen
 none_seen key seen e = record { at = λ values. rw e refl }
 
 or_nothing : {X : Type 0} (o : Option X) → option_or o None ≡ o

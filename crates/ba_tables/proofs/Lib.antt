@@ -3,11 +3,14 @@ pub mod ClashLemmas
 pub mod ConformLemmas
 pub mod FieldLemmas
 pub mod FileFitLemmas
+pub mod FirstBrokenLemmas
 pub mod FirstLemmas
+pub mod FoundLemmas
 pub mod FrontLemmas
 pub mod IndexLemmas
 pub mod NumberLemmas
 pub mod PositionLemmas
 pub mod RecordLemmas
 pub mod RowsLemmas
+pub mod SpellLemmas
 pub mod UnkeyedLemmas

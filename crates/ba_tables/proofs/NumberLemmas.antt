@@ -9,14 +9,14 @@ use Rattle.std.specs.Str.{all_ascii_digits}
 use Rattle.std.specs.Str.Parse.{ParsesSigned, digits_value}
 use Rattle.ba_tables.specs.TableFile.{digits_up_to, number_of}
 
-own : IsNumeralModel (λ text. all_ascii_digits text ≡ true) (digits_value 10)
+pub own : IsNumeralModel (λ text. all_ascii_digits text ≡ true) (digits_value 10)
 own = numerals_by_value _ tells_all_ascii_digits
 
 -- a text of digits, one or more, whose number is at most `most`
-record Spells (most : ℕ) (text : List ℕ) : Type 0 where
-  digits : all_ascii_digits text ≡ true
-  some_digit : 0 < length text
-  within : digits_value 10 text ≤ most
+pub record SpellsUpTo (most : ℕ) (text : List ℕ) : Type 0 where
+  pub digits : all_ascii_digits text ≡ true
+  pub some_digit : 0 < length text
+  pub within : digits_value 10 text ≤ most
 
 tested : (a b c : Bool) → a ≡ true → b ≡ true → c ≡ true → (a && b && c) ≡ true
 tested true true c p q r = r
@@ -40,22 +40,29 @@ le_test n m h = grind (arith, nat_tests)
 le_told : (n m : ℕ) → nat_le n m ≡ true → n ≤ m
 le_told n m h = grind (arith, nat_tests)
 
-spelled : (most : ℕ) (text : List ℕ) → Spells most text → digits_up_to most text ≡ Some (digits_value 10 text)
+pub spelled : (most : ℕ) (text : List ℕ) → SpellsUpTo most text → digits_up_to most text ≡ Some (digits_value 10 text)
 spelled most text h = rw (tested _ _ _ (lt_test 0 (length text) h.some_digit) h.digits (le_test _ most h.within)) refl
 
-not_spelled : (most : ℕ) (text : List ℕ) → ¬ (Spells most text) → digits_up_to most text ≡ None
+not_spelled : (most : ℕ) (text : List ℕ) → ¬ (SpellsUpTo most text) → digits_up_to most text ≡ None
 not_spelled most text never = by (nat_lt 0 (length text) && all_ascii_digits text && nat_le (digits_value 10 text) most) refl
   where
     by : (b : Bool) → (nat_lt 0 (length text) && all_ascii_digits text && nat_le (digits_value 10 text) most) ≡ b → ◌≡◌ {A = Option ℕ} (cond b (Some (digits_value 10 text)) None) None
     by true e = let t = told _ _ _ e in absurd (never (record { digits = t.1; some_digit = lt_told _ _ t.0; within = le_told _ _ t.2 }))
     by false e = refl
 
+pub spelled_told : (most : ℕ) (text : List ℕ) (n : ℕ) → digits_up_to most text ≡ Some n → SpellsUpTo most text × (n ≡ digits_value 10 text)
+spelled_told most text n e = by (nat_lt 0 (length text) && all_ascii_digits text && nat_le (digits_value 10 text) most) refl e
+  where
+    by : (b : Bool) → (nat_lt 0 (length text) && all_ascii_digits text && nat_le (digits_value 10 text) most) ≡ b → ◌≡◌ {A = Option ℕ} (cond b (Some (digits_value 10 text)) None) (Some n) → SpellsUpTo most text × (n ≡ digits_value 10 text)
+    by true t f = let h = told _ _ _ t in (record { digits = h.1; some_digit = lt_told _ _ h.0; within = le_told _ _ h.2 }, cc f)
+    by false t f = cc f
+
 -- the two halves of `number_of`, by the sign
-minus_is : (text : List ℕ) → slice_index text 0 ≡ 45 → number_of text ≡ option_map (λ n. neg_ℤ (pos n)) (digits_up_to (2 ^ 63) (drop 1 text))
+pub minus_is : (text : List ℕ) → slice_index text 0 ≡ 45 → number_of text ≡ option_map (λ n. neg_ℤ (pos n)) (digits_up_to (2 ^ 63) (drop 1 text))
 unfolding number_of
 minus_is text e = rw e refl
 
-plain_is : (text : List ℕ) → slice_index text 0 ≢ 45 → number_of text ≡ option_map (λ n. pos n) (digits_up_to (2 ^ 63 - 1) text)
+pub plain_is : (text : List ℕ) → slice_index text 0 ≢ 45 → number_of text ≡ option_map (λ n. pos n) (digits_up_to (2 ^ 63 - 1) text)
 unfolding number_of
 plain_is text n = rw (ne_eqb _ _ n) refl
 
@@ -80,7 +87,7 @@ parsed text r p h = by (slice_index text 0 == 45) refl
         (λ never. rw (plain_is text m, not_spelled (2 ^ 63 - 1) text (λ s. never (s.digits, s.some_digit, let l = s.within in omega arith))) refl)
 
 -- a sign that is no minus begins no number
-not_digits : (c : ℕ) (cs : List ℕ) → c ≡ 43 → ¬ (Spells (2 ^ 63 - 1) (c ∷ cs))
+not_digits : (c : ℕ) (cs : List ℕ) → c ≡ 43 → ¬ (SpellsUpTo (2 ^ 63 - 1) (c ∷ cs))
 not_digits c cs e s = cc (rw e at s.digits)
 
 pub plus_is : (text : List ℕ) → slice_index text 0 ≡ 43 → ◌≡◌ {A = Option ℤ} None (number_of text)

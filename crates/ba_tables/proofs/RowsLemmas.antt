@@ -84,7 +84,7 @@ no_rows : (front : List (List Value)) (row : ℕ) (cs : List Column) (total : Re
 unfolding rows_from
 no_rows front row cs total so_far = sym so_far ∙ ap Ok (append-nil front)
 
-within : (n m : ℕ) → n ≤ m → nat_le n m ≡ true
+pub within : (n m : ℕ) → n ≤ m → nat_le n m ≡ true
 within n m h = grind (arith, nat_tests)
 
 beyond : (n m : ℕ) → m < n → nat_le n m ≡ false
@@ -104,11 +104,11 @@ too_many cs start lines rows row h none many =
     rw (no_rows h.all row cs (rows_from 1 cs start) (rw none at h.so_far), beyond (length h.all) row_limit long) refl
 
 -- the header
-file_is : (table : Table) (bytes : List ℕ) → rows_of_file table bytes ≡ rows_of_lines table.columns (records default_config (strip_bom bytes))
+pub file_is : (table : Table) (bytes : List ℕ) → rows_of_file table bytes ≡ rows_of_lines table.columns (records default_config (strip_bom bytes))
 unfolding rows_of_file
 file_is table bytes = refl
 
-lines_are : (cs : List Column) (line : List (List ℕ)) (rest : List (List (List ℕ))) → rows_of_lines cs (line ∷ rest) ≡ cond (is_header cs line) (rows_of_rest cs rest) (Err BadHeader)
+pub lines_are : (cs : List Column) (line : List (List ℕ)) (rest : List (List (List ℕ))) → rows_of_lines cs (line ∷ rest) ≡ cond (is_header cs line) (rows_of_rest cs rest) (Err BadHeader)
 unfolding rows_of_lines
 lines_are cs line rest = refl
 

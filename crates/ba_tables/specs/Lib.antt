@@ -1,5 +1,7 @@
+pub mod Breaks
 pub mod Broken
 pub mod Index
 pub mod Left
+pub mod Spelling
 pub mod TableFile
 pub mod TableSet

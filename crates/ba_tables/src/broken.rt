@@ -37,6 +37,7 @@ pub enum TablesFault {
     },
 }
 
+/// Why rows were not taken: memory ran out, or a key or a link is broken.
 #[derive(Debug, Drop, Error)]
 pub enum TablesError {
     #[error("out of memory")]
@@ -200,7 +201,8 @@ fn broken_link(
     Ok(None)
 }
 
-/// The first broken key or link of all tables.
+/// The first broken key or link of all tables, if one is. `rows` has a list for each table. For n rows and each key or link
+/// the time is that of n look-ups in a search tree.
 pub fn broken_table(
     alloc: Global,
     tables: &List<Table>,

@@ -25,6 +25,7 @@ pub enum TableFault {
     TooMany(u64),
 }
 
+/// Why a file's rows were not given: memory ran out, or the file has a fault.
 #[derive(Debug, Drop, Error)]
 pub enum TableError {
     #[error("out of memory")]

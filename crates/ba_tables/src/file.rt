@@ -13,10 +13,15 @@ use ba_model::value::Row;
 use csv::ByteRecord;
 use std::alloc::Global;
 
-/// The rows of the file of a table of the schema, in the file's order.
+/// The rows of the file of a table of the schema, in the file's order. Equal rows are kept.
 ///
 /// The file is CSV (RFC 4180) as the `csv` crate reads it: fields between commas, double quotes, records that end at LF, CR LF
-/// or CR, no blank lines, no byte order mark. Its first record is the header.
+/// or CR, blank lines and a byte order mark passed over. The first record is the header, exactly the names of the columns in
+/// their order. Each other record is a row with a field for each column: any UTF-8 for a text, and for a whole number `-` or
+/// nothing and then decimal digits, from -2^63 to 2^63 - 1, leading zeros allowed. A nullable column's field is read as any other.
+///
+/// A row is tested for its width, then for UTF-8, then for its numbers, and the first bad row is the fault; more than
+/// `ROW_LIMIT` rows are a fault where none is bad. `NoMemory` may come at any point. The time is linear in the file's length.
 pub fn read_table(
     alloc: Global,
     schema: &Schema,
@@ -30,7 +35,7 @@ pub fn read_table(
     rows_of_file(alloc, schema.tables.get(table as usize), bytes)
 }
 
-/// The rows of the file of a table, as `read_table` gives them.
+/// The rows of a file of this table, as `read_table` gives them.
 pub fn rows_of_file(alloc: Global, table: &Table, bytes: &[u8]) -> Result<List<Row>, TableError>
     ensures reads { Gives result (rows_of_file table.now bytes.now) }
     ensures fits { IfOk result (All (RowFits table.now)) }

@@ -5,6 +5,7 @@ pub mod broken;
 pub mod fault;
 mod field;
 pub mod file;
+pub mod laws;
 mod line;
 mod lines;
 pub mod tables;

@@ -40,9 +40,10 @@ impl Tables {
         Tables { schema, rows }
     }
 
-    /// Rows of the schema's tables, where no key and no link is broken; else the first that is.
+    /// Rows of the schema's tables where no key and no link is broken, else the first that is.
     ///
-    /// A key is as UNIQUE and a link as FOREIGN KEY with MATCH SIMPLE in the SQL standard, but equal rows break a key too.
+    /// A key is a UNIQUE constraint and a link a FOREIGN KEY with MATCH SIMPLE of the SQL standard: NULL on a key's columns breaks
+    /// nothing, and NULL in a link's columns needs no target. Two equal rows break a key. The rows are dropped with an error.
     pub fn check(alloc: Global, schema: &Schema, rows: RowSet) -> Result<Tables, TablesError>
         requires fit { RowsFit schema.now rows }
         requires rules { schema.now.rules ≡ [] }
@@ -55,6 +56,7 @@ impl Tables {
         Ok(Tables { schema, rows })
     }
 
+    /// The schema to which the rows conform.
     pub fn schema(&self) -> &Schema
         ensures is { result.now ≡ self.now.schema }
         ensures conform { Conforms result.now self.now.rows }
@@ -62,6 +64,7 @@ impl Tables {
         &self.schema
     }
 
+    /// For each table its rows, in the order in which they were given.
     pub fn rows(&self) -> &RowSet
         ensures is { result.now ≡ self.now.rows }
         ensures conform { Conforms self.now.schema result.now }

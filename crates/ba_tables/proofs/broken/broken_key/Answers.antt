@@ -1,4 +1,4 @@
-use Rattle.std.proofs.Common.{◌≡◌, ◌∙◌, sym, arith}
+use Rattle.std.proofs.Common.{◌∙◌, sym, arith}
 use Rattle.ba_tables.proofs.FirstLemmas.{key_here, key_next, keys_end}
 use Rattle.ba_tables.proofs.broken.broken_key.Goals as goal
 

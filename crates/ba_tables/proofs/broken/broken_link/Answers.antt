@@ -1,4 +1,4 @@
-use Rattle.std.proofs.Common.{◌≡◌, ◌∙◌, sym, arith}
+use Rattle.std.proofs.Common.{◌∙◌, sym, arith}
 use Rattle.ba_tables.proofs.FirstLemmas.{link_here, link_next, links_end}
 use Rattle.ba_tables.proofs.broken.broken_link.Goals as goal
 

@@ -1,4 +1,4 @@
-use Rattle.std.proofs.Common.{◌≡◌, ◌∙◌, Some, sym, ap, arith}
+use Rattle.std.proofs.Common.{◌∙◌, Some, sym, ap, arith}
 use Rattle.ba_tables.proofs.FirstLemmas.{table_key, table_link, table_next, tables_end}
 use Rattle.ba_tables.proofs.broken.broken_table.Goals as goal
 

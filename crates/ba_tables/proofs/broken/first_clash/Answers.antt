@@ -1,4 +1,4 @@
-use Rattle.std.proofs.Common.{◌≡◌, ◌∙◌, ◌<◌, sym, refl, arith, length}
+use Rattle.std.proofs.Common.{◌∙◌, sym, refl, arith, length}
 use Rattle.std.proofs.lemmas.Option.{slice_get_read}
 use Rattle.ba_tables.proofs.ClashLemmas.{all_clear, clash_found, null_clear, one_clear}
 use Rattle.ba_tables.proofs.broken.first_clash.Goals as goal

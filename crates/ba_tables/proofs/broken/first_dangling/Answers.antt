@@ -1,4 +1,4 @@
-use Rattle.std.proofs.Common.{◌≡◌, ◌∙◌, ◌+◌, sym, ap, not, refl, length}
+use Rattle.std.proofs.Common.{◌∙◌, ◌+◌, sym, ap, not, refl, length}
 use Rattle.std.proofs.lemmas.Option.{slice_get_read}
 use Rattle.ba_tables.specs.Broken.{dangles}
 use Rattle.ba_tables.proofs.IndexLemmas.{no_target, null_dangles}

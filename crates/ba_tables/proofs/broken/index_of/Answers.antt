@@ -1,4 +1,4 @@
-use Rattle.std.proofs.Common.{◌≡◌, ◌∙◌, sym, refl, length}
+use Rattle.std.proofs.Common.{◌∙◌, sym, refl, length}
 use Rattle.std.proofs.lemmas.Option.{slice_get_read}
 use Rattle.ba_tables.proofs.IndexLemmas.{null_indexed, one_indexed}
 use Rattle.ba_tables.proofs.broken.index_of.Goals as goal

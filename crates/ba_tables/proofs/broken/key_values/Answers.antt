@@ -1,4 +1,4 @@
-use Rattle.std.proofs.Common.{◌≡◌, ◌∙◌, sym, arith}
+use Rattle.std.proofs.Common.{◌∙◌, sym, arith}
 use Rattle.ba_tables.proofs.IndexLemmas.{all_gathered, null_gathered, one_gathered}
 use Rattle.ba_tables.proofs.broken.key_values.Goals as goal
 

@@ -1,4 +1,4 @@
-use Rattle.std.proofs.Common.{◌≡◌, ◌∙◌, ◌≤◌, sym, ap, not, false, true, arith, drop, length}
+use Rattle.std.proofs.Common.{◌≡◌, ◌∙◌, [], sym, ap, not, drop}
 use Rattle.std.proofs.lemmas.List.{drop_all}
 use Rattle.csv.specs.Records.{fields_of}
 use Rattle.ba_tables.proofs.FieldLemmas.{no_field, text_at, text_told}
@@ -26,5 +26,5 @@ pub returns : goal.returns
 returns c =
     let fields = fields_of c.args.line.now in
     let none = rw c.loop-field.invariant.0 at c.in-None.ensures.steps.1 in
-    let all : drop c.loop-field.field-iterator.at fields ≡ Rattle.std.proofs.Common.[] = drop_all c.loop-field.field-iterator.at fields (no_field fields c.loop-field.field-iterator.at (sym none)) in
+    let all : drop c.loop-field.field-iterator.at fields ≡ [] = drop_all c.loop-field.field-iterator.at fields (no_field fields c.loop-field.field-iterator.at (sym none)) in
     rw all at c.loop-field.invariant.1

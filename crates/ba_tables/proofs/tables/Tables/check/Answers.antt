@@ -1,4 +1,4 @@
-use Rattle.std.proofs.Common.{◌≡◌, ◌∙◌, sym}
+use Rattle.std.proofs.Common.{◌∙◌, sym}
 use Rattle.std.proofs.lemmas.Slice.Zip.{AllZip-long}
 use Rattle.ba_tables.proofs.ConformLemmas.{unbroken_conforms}
 use Rattle.ba_tables.proofs.tables.Tables.check.Goals as goal
