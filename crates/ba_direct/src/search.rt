@@ -30,7 +30,9 @@ fn cover_by(
     view: usize,
 ) -> Result<Option<PartCover>, AllocError>
     requires { view < length (policy.now).views }
-    ensures { IfOk result (λ found. MatchOption found (NoneBy policy.now ctx.now part.now view) (λ cover. IsFirstBy policy.now ctx.now part.now view cover)) }
+    ensures { IfOk result (λ found. MatchOption found
+        (NoneBy policy.now ctx.now part.now view)
+        (IsFirstBy policy.now ctx.now part.now view)) }
 {
     let only = match only_part(&policy.views.get(view).query) {
         Some(only) => only,
@@ -55,7 +57,9 @@ fn cover_part(
     ctx: &Context,
     part: &Part,
 ) -> Result<Option<PartCover>, AllocError>
-    ensures { IfOk result (λ found. MatchOption found (PartCovered policy.now ctx.now part.now → ⊥) (λ cover. IsFirst policy.now ctx.now part.now cover)) }
+    ensures { IfOk result (λ found. MatchOption found
+        (PartCovered policy.now ctx.now part.now → ⊥)
+        (IsFirst policy.now ctx.now part.now)) }
 {
     for view in 0..policy.views.len() {
         let found = cover_by(alloc, policy, ctx, part, view)?;
@@ -80,11 +84,14 @@ pub fn cover(
     ctx: &Context,
     query: &Query,
 ) -> Result<Option<Cover>, AllocError>
-    ensures exact { IfOk result (λ found. MatchOption found (Covered policy.now ctx.now query.now → ⊥) (λ cover. IsCover policy.now ctx.now query.now cover)) }
-    ensures first { IfOk result (λ found. IfSome found (λ cover. IsFirstCover policy.now ctx.now query.now cover)) }
+    ensures exact { IfOk result (λ found. MatchOption found
+        (Covered policy.now ctx.now query.now → ⊥)
+        (IsCover policy.now ctx.now query.now)) }
+    ensures first { IfOk result (λ found. IfSome found (IsFirstCover policy.now ctx.now query.now)) }
 
-    // What it covers may be answered.
-    ensures strong { IfOk result (λ found. IfSome found (λ _. AlwaysStrong policy.now ctx.now query.now)) }
+    // What has a cover may be answered.
+    ensures strong { IfOk result (λ found. IfSome found
+        (λ _. AlwaysStrong policy.now ctx.now query.now)) }
 {
     let mut parts = Vec::new(alloc);
     for part in query.parts.as_slice() {
