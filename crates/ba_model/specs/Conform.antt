@@ -1,5 +1,5 @@
 -- When a database conforms to a schema.
-use Rattle.std.specs.Prelude.{◌≡◌, ◌≢◌, ◌⊎◌, ℕ, IsTrue, List, [], All, Contains, Some, map, slice_get}
+use Rattle.std.specs.Prelude.{◌≡◌, ◌≢◌, ℕ, IsTrue, List, [], All, Contains, Some, map, slice_get}
 use Rattle.std.specs.List.{AllZip}
 use Rattle.ba_model.specs.Meaning.{rows_of, RowsWithin}
 use Rattle.ba_model.specs.declared.policy.Context.{Context}

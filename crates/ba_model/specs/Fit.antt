@@ -1,7 +1,8 @@
 -- When a query, a policy and a context fit a schema and parameters.
-use Rattle.std.specs.Prelude.{◌≡◌, ◌≢◌, ℕ, List, [], All, Option, Some, None, map, slice_get, option_and_then, option_map}
+use Rattle.std.specs.Prelude.{◌≡◌, ◌≢◌, ℕ, ◌≤◌, length, List, [], All, Option, Some, None, map, slice_get, option_and_then, option_map}
 use Rattle.std.specs.List.{AllZip}
 use Rattle.ba_model.specs.Conform.{IsOfKind}
+use Rattle.ba_model.specs.declared.limits.TheConstants.{MAX_ATOMS, MAX_HEAD, MAX_PARTS, MAX_PART_TABLES}
 use Rattle.ba_model.specs.declared.policy.Context.{Context}
 use Rattle.ba_model.specs.declared.policy.Parameter.{Parameter}
 use Rattle.ba_model.specs.declared.policy.Policy.{Policy}
@@ -77,3 +78,15 @@ ContextFits params c = AllZip IsOfKind params c.values
 -- each view fits the policy's schema and parameters, and has no variables
 abbrev pub PolicyFits : Policy → Type 0
 PolicyFits policy = All (λ view. QueryFits policy.schema (kinds_of policy.params) [] view.query) policy.views
+
+-- the part's counts are within the limits
+pub record PartWithin (part : Part) : Type 0 where
+  pub tables : length part.from ≤ MAX_PART_TABLES
+  pub conds : length part.conds ≤ MAX_ATOMS
+  pub head : length part.head ≤ MAX_HEAD
+
+-- a query for a schema, parameters and variables of these kinds: it fits them, and its counts are within the limits
+pub record IsQuery (s : Schema) (params vars : List Kind) (q : Query) : Type 0 where
+  pub fits : QueryFits s params vars q
+  pub few_parts : length q.parts ≤ MAX_PARTS
+  pub within : All PartWithin q.parts

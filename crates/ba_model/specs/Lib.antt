@@ -3,3 +3,5 @@ pub mod OrderLaws
 pub mod Meaning
 pub mod Conform
 pub mod Fit
+pub mod QueryFaults
+pub mod SchemaFaults

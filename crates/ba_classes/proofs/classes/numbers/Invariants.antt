@@ -1,0 +1,6 @@
+use Rattle.std.proofs.Common.{◌≡◌, ◌<◌, ℕ, length, slice_index}
+use Rattle.ba_classes.proofs.classes.numbers.Given as goal
+
+abbrev pub invariant-loop-number : goal.invariant-loop-number
+invariant-loop-number l =
+    (length l.all.items ≡ l.number) × ((k : ℕ) → k < l.number → slice_index l.all.items k ≡ k)

@@ -1,0 +1,44 @@
+-- A square of cells whose rows and columns are places, and the places of the nodes that were named.
+use Rattle.std.specs.Prelude.{◌≡◌, ℕ, ◌<◌, ◌≤◌, List, [], length, slice_index_or, nat_eq, Option, Some, None}
+use Rattle.std.specs.HashMap.{HashMap, get, hash_map_len}
+use Rattle.std.specs.declared.hash.FoldHasher.{FoldHasher}
+use Rattle.std.specs.declared.hash.BuildHasherDefault.{BuildHasherDefault}
+use Rattle.ba_classes.specs.declared.best.Best.{Best}
+use Rattle.ba_classes.specs.declared.best.Best.TheVariants.{Absent}
+
+-- the places of the named nodes
+abbrev pub Places : Type 0
+Places = HashMap ℕ ℕ (BuildHasherDefault FoldHasher)
+
+abbrev pub place_of : Places → ℕ → Option ℕ
+place_of places node = get nat_eq places node
+
+-- the cell at two places; past the ends it is absent
+abbrev pub cell_at : List (List Best) → ℕ → ℕ → Best
+cell_at rows i j = slice_index_or (slice_index_or rows i []) j Absent
+
+-- the cell at the places of two nodes; it is absent where one wasn't named
+abbrev pub cell_between : List (List Best) → Option ℕ → Option ℕ → Best
+cell_between rows (Some i) (Some j) = cell_at rows i j
+cell_between rows (Some i) None = Absent
+cell_between rows None place = Absent
+
+abbrev pub between : Places → List (List Best) → ℕ → ℕ → Best
+between places rows x y = cell_between rows (place_of places x) (place_of places y)
+
+-- each row has w cells or more
+abbrev pub IsWide : ℕ → List (List Best) → Type 0
+IsWide w rows = (i : ℕ) → i < length rows → w ≤ length (slice_index_or rows i [])
+
+-- no cell was changed
+abbrev pub SameCells : List (List Best) → List (List Best) → Type 0
+SameCells old new = (i j : ℕ) → cell_at new i j ≡ cell_at old i j
+
+-- the named nodes have different places, the first so many; there are cells for them, and other cells are absent
+pub record IsGrid (places : Places) (rows : List (List Best)) : Type 0 where
+  pub below : (x p : ℕ) → place_of places x ≡ Some p → p < hash_map_len places
+  pub apart : (x y p : ℕ) → place_of places x ≡ Some p → place_of places y ≡ Some p → x ≡ y
+  pub tall : hash_map_len places ≤ length rows
+  pub wide : IsWide (hash_map_len places) rows
+  pub no_row : (i j : ℕ) → hash_map_len places ≤ i → cell_at rows i j ≡ Absent
+  pub no_column : (i j : ℕ) → hash_map_len places ≤ j → cell_at rows i j ≡ Absent

@@ -1,0 +1,14 @@
+//! What a branch knows of its terms beside its facts: which of them are equal, and by how much one
+//! is at least another.
+//!
+//! [`classes::Classes`] keeps the equations that were made, as labels of the terms.
+//! [`order::Order`] keeps facts `low + gap <= high` over whole numbers, and all that follows from
+//! them by addition.
+#![tactic(auto)]
+
+mod best;
+pub mod classes;
+mod grid;
+mod image;
+pub mod order;
+mod row;

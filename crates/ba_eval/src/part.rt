@@ -1,0 +1,192 @@
+//! The search for the rows of one part.
+ghost use Rattle.std.specs.Prelude.{◌≡◌, ◌↔◌, IsTrue, IfOk, OnOk, All, Any, Some, map};
+ghost use Rattle.ba_model.specs.Meaning.{value_of, rows_of, Holds, Gives};
+ghost use Rattle.ba_eval.specs.Search.{Adds, Fails, GivesFrom, IsHead};
+
+use ba_model::list::List;
+use ba_model::policy::Context;
+use ba_model::query::{Atom, Operand, Part};
+use ba_model::same::{Duplicate, Same};
+use ba_model::value::{Row, RowSet, Value};
+use std::alloc::{AllocError, Global};
+
+/// A part to be searched for in a database, under a context.
+#[derive(Drop)]
+pub struct Search<'a> {
+    pub rows: &'a RowSet,
+    pub ctx: &'a Context,
+    pub part: &'a Part,
+}
+
+impl<'a> Search<'a> {
+    /// Adds the rows that the part gives from the chosen rows and one row of each further table.
+    pub fn gather(
+        &self,
+        alloc: Global,
+        from: &[u32],
+        chosen: &mut Vec<&'a Row>,
+        found: &mut Vec<Row>,
+    ) -> Result<(), AllocError>
+        ensures chosen { OnOk result (chosen.new.items ≡ chosen.old.items) }
+        ensures found { OnOk result (Adds (GivesFrom self.now.ctx.now self.now.rows.now self.now.part.now from.now (map (λ row. row.now) chosen.old.items)) found.old.items found.new.items) }
+    {
+        match from.split_first() {
+            None => self.add_row(alloc, chosen, found),
+            Some((table, rest)) => {
+                if self.fails(chosen) {
+                    return Ok(());
+                }
+                for row in rows_of_table(self.rows, *table) {
+                    chosen.push(row)?;
+                    self.gather(alloc, rest, chosen, found)?;
+                    chosen.pop();
+                }
+                Ok(())
+            }
+        }
+    }
+
+    /// Whether the part gives the row from the chosen rows and one row of each further table.
+    pub fn finds(
+        &self,
+        from: &[u32],
+        chosen: &mut Vec<&'a Row>,
+        row: &Row,
+    ) -> Result<bool, AllocError>
+        ensures chosen { OnOk result (chosen.new.items ≡ chosen.old.items) }
+        ensures found { IfOk result (λ found. IsTrue found ↔ GivesFrom self.now.ctx.now self.now.rows.now self.now.part.now from.now (map (λ row. row.now) chosen.old.items) row.now) }
+    {
+        match from.split_first() {
+            None => Ok(self.gives(chosen, row)),
+            Some((table, rest)) => {
+                if self.fails(chosen) {
+                    return Ok(false);
+                }
+                for next in rows_of_table(self.rows, *table) {
+                    chosen.push(next)?;
+                    let found = self.finds(rest, chosen, row)?;
+                    chosen.pop();
+                    if found {
+                        return Ok(true);
+                    }
+                }
+                Ok(false)
+            }
+        }
+    }
+
+    /// Adds the row that the part gives from one row for each place, if it gives one.
+    fn add_row(
+        &self,
+        alloc: Global,
+        chosen: &[&'a Row],
+        found: &mut Vec<Row>,
+    ) -> Result<(), AllocError>
+        ensures { OnOk result (Adds (Gives self.now.ctx.now (map (λ row. row.now) chosen.now) self.now.part.now) found.old.items found.new.items) }
+    {
+        if !all_hold(self.part.conds.as_slice(), self.ctx, chosen) {
+            return Ok(());
+        }
+        let head = make_head(alloc, self.part.head.as_slice(), self.ctx, chosen)?;
+        match head {
+            Some(row) => {
+                found.push(row)?;
+                Ok(())
+            }
+            None => Ok(()),
+        }
+    }
+
+    /// Whether the part gives the row from one row for each place.
+    fn gives(&self, chosen: &[&'a Row], row: &Row) -> bool
+        ensures { IsTrue result ↔ Gives self.now.ctx.now (map (λ row. row.now) chosen.now) self.now.part.now row.now }
+    {
+        is_head(&self.part.head, self.ctx, chosen, row)
+            && all_hold(self.part.conds.as_slice(), self.ctx, chosen)
+    }
+
+    /// Whether an atom is false whatever the further rows are, since the chosen ones give the values of both sides.
+    fn fails(&self, chosen: &[&'a Row]) -> bool
+        ensures { IsTrue result ↔ Any (Fails self.now.ctx.now (map (λ row. row.now) chosen.now)) self.now.part.now.conds }
+    {
+        some_fails(self.part.conds.as_slice(), self.ctx, chosen)
+    }
+}
+
+/// The rows of a table, of which a table that isn't there has none.
+fn rows_of_table(rows: &RowSet, table: u32) -> &[Row]
+    ensures { result.now ≡ rows_of rows.now table }
+{
+    match rows.tables.find(table as usize) {
+        Some(list) => list.as_slice(),
+        None => &[],
+    }
+}
+
+fn all_hold(atoms: &[Atom], ctx: &Context, chosen: &[&Row]) -> bool
+    ensures { IsTrue result ↔ All (Holds ctx.now (map (λ row. row.now) chosen.now)) atoms.now }
+{
+    atoms.iter().all(|atom| atom.holds_of_chosen(ctx, chosen))
+}
+
+fn some_fails(atoms: &[Atom], ctx: &Context, chosen: &[&Row]) -> bool
+    ensures { IsTrue result ↔ Any (Fails ctx.now (map (λ row. row.now) chosen.now)) atoms.now }
+{
+    atoms.iter().any(|atom| atom_fails(atom, ctx, chosen))
+}
+
+fn atom_fails(atom: &Atom, ctx: &Context, chosen: &[&Row]) -> bool
+    ensures { IsTrue result ↔ Fails ctx.now (map (λ row. row.now) chosen.now) atom.now }
+{
+    match (
+        atom.left.value_of_chosen(ctx, chosen),
+        atom.right.value_of_chosen(ctx, chosen),
+    ) {
+        (Some(left), Some(right)) => !atom.op.compares(left, right),
+        _ => false,
+    }
+}
+
+/// The row of the operands' values, if each has one.
+fn make_head(
+    alloc: Global,
+    head: &[Operand],
+    ctx: &Context,
+    chosen: &[&Row],
+) -> Result<Option<Row>, AllocError>
+    ensures { IfOk result (IsHead ctx.now (map (λ row. row.now) chosen.now) head.now) }
+{
+    let mut values = Vec::new(alloc);
+    for operand in head {
+        match operand.value_of_chosen(ctx, chosen) {
+            Some(value) => values.push(value.copy(alloc)?)?,
+            None => return Ok(None),
+        }
+    }
+    Ok(Some(List::from_vec(values)))
+}
+
+/// Whether the row is that of the operands' values.
+fn is_head(head: &List<Operand>, ctx: &Context, chosen: &[&Row], row: &Row) -> bool
+    ensures { IsTrue result ↔ (map (value_of ctx.now (map (λ row. row.now) chosen.now)) head.now ≡ map Some row.now) }
+{
+    if head.len() != row.len() {
+        return false;
+    }
+    for i in 0..head.len() {
+        if !has_value(head.get(i), ctx, chosen, row.get(i)) {
+            return false;
+        }
+    }
+    true
+}
+
+/// Whether the operand has the value.
+fn has_value(operand: &Operand, ctx: &Context, chosen: &[&Row], value: &Value) -> bool
+    ensures { IsTrue result ↔ (value_of ctx.now (map (λ row. row.now) chosen.now) operand.now ≡ Some value.now) }
+{
+    match operand.value_of_chosen(ctx, chosen) {
+        Some(own) => own.same(value),
+        None => false,
+    }
+}

@@ -1,0 +1,10 @@
+pub mod TextLemmas
+pub mod QuoteLemmas
+pub mod NumberLemmas
+pub mod ShapeLemmas
+pub mod FrontLemmas
+pub mod LoopLemmas
+pub mod DecodeLemmas
+pub mod LongestLemmas
+pub mod ReadingLemmas
+pub mod SpanLemmas

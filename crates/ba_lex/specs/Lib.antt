@@ -1,0 +1,4 @@
+pub mod Spelling
+pub mod Tokens
+pub mod Reading
+pub mod Word

@@ -1,0 +1,93 @@
+//! Tokens, and what is wrong with a text.
+ghost use Rattle.std.specs.Prelude.{◌≡◌};
+ghost use Rattle.ba_lex.specs.declared.token.LexError.TheVariants.{NoMemory};
+
+use ba_model::text::Str;
+use std::alloc::{AllocError, AllocFailed};
+use thiserror::Error;
+
+/// The signs, the longer ones before those that they begin with.
+#[derive(Clone, Copy, Debug, PartialEq, Eq)]
+pub enum Sign {
+    LeftParen,
+    RightParen,
+    Comma,
+    Dot,
+    Semicolon,
+    Star,
+    Equal,
+    /// `<>`
+    NotEqual,
+    /// `!=`
+    BangEqual,
+    Less,
+    LessEqual,
+    Greater,
+    GreaterEqual,
+    Plus,
+    Minus,
+    Slash,
+    Percent,
+}
+
+/// What a token says, decoded.
+#[derive(Debug, Drop)]
+pub enum Lexeme {
+    /// A keyword or a name, as written.
+    Word(Str),
+    /// A name between two `"` or two backquotes, without them.
+    Quoted(Str),
+    /// A whole number of 64 bits.
+    Number(i64),
+    /// A text between two `'`, without them, its doubled quotes single.
+    Text(Str),
+    /// A parameter's name, without its `?`.
+    Param(Str),
+    Sign(Sign),
+}
+
+/// A token and where it stands: the bytes from `start` up to `end` of the source.
+#[derive(Debug, Drop)]
+pub struct Token {
+    pub lexeme: Lexeme,
+    pub start: usize,
+    pub end: usize,
+}
+
+/// Why a text has no tokens.
+#[derive(Clone, Copy, Debug, PartialEq, Eq)]
+pub enum LexFault {
+    /// The text has more bytes than its limit.
+    TooLong,
+    /// A byte that begins no token, a `?` without a word, an empty or ill-formed quoted name, or a file that isn't UTF-8.
+    BadByte,
+    /// A quote without its end.
+    OpenQuote,
+    /// A number outside 64 bits.
+    NumberTooLarge,
+}
+
+/// Want of memory, or a fault of the text.
+#[derive(Clone, Copy, Debug, Drop, Error, PartialEq, Eq)]
+pub enum LexError {
+    #[error("out of memory")]
+    NoMemory,
+    #[error("not a list of tokens")]
+    Fault(LexFault),
+}
+
+impl From<AllocError> for LexError {
+    ghost from_gives = { λ _ e. e ≡ NoMemory };
+
+    fn from(_e: AllocError) -> LexError {
+        LexError::NoMemory
+    }
+}
+
+impl<T: Drop> From<AllocFailed<T>> for LexError {
+    ghost from_gives = { λ _ e. e ≡ NoMemory };
+
+    fn from(_e: AllocFailed<T>) -> LexError {
+        LexError::NoMemory
+    }
+}

@@ -1,0 +1,5 @@
+pub mod Causes
+pub mod Seen
+pub mod Files
+pub mod Sink
+pub mod MemFiles

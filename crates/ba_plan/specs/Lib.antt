@@ -1,0 +1,4 @@
+pub mod Plan
+pub mod Follows
+pub mod Ends
+pub mod Sent

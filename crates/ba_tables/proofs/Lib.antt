@@ -1,0 +1,13 @@
+pub mod AgreeLemmas
+pub mod ClashLemmas
+pub mod ConformLemmas
+pub mod FieldLemmas
+pub mod FileFitLemmas
+pub mod FirstLemmas
+pub mod FrontLemmas
+pub mod IndexLemmas
+pub mod NumberLemmas
+pub mod PositionLemmas
+pub mod RecordLemmas
+pub mod RowsLemmas
+pub mod UnkeyedLemmas

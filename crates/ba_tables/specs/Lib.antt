@@ -1,0 +1,5 @@
+pub mod Broken
+pub mod Index
+pub mod Left
+pub mod TableFile
+pub mod TableSet

@@ -1,0 +1,97 @@
+-- What a table's file reads as.
+use Rattle.std.specs.Prelude.{◌≡◌, ℕ, ◌+◌, ◌-◌, ◌^◌, ℤ, pos, neg_ℤ, Bool, not, ◌&&◌, ◌==◌, nat_lt, nat_le, List, [], ◌∷◌, drop, map, length, Option, Some, None, option_map, ok_or, Result, Ok, Err, if◌then◌else◌}
+use Rattle.std.specs.Cmp.Lexicographic.{pointwise}
+use Rattle.std.specs.List.{list_all}
+use Rattle.std.specs.Str.{all_ascii_digits, bytes_eq, is_utf8}
+use Rattle.std.specs.Str.Parse.{digits_value, starts_with_minus}
+use Rattle.csv.specs.Reading.{default_config, records, strip_bom}
+use Rattle.ba_model.specs.declared.schema.Column.{Column}
+use Rattle.ba_model.specs.declared.schema.Kind.{Kind}
+use Rattle.ba_model.specs.declared.schema.Kind.TheVariants.{Int as IntKind, Text as TextKind}
+use Rattle.ba_model.specs.declared.schema.Table.{Table}
+use Rattle.ba_model.specs.declared.value.Value.{Value}
+use Rattle.ba_model.specs.declared.value.Value.TheVariants.{Int, Text}
+use Rattle.ba_tables.specs.declared.fault.TableError.{TableError}
+use Rattle.ba_tables.specs.declared.fault.TableError.TheVariants.{NoMemory, Fault}
+use Rattle.ba_tables.specs.declared.fault.TableFault.{TableFault}
+use Rattle.ba_tables.specs.declared.fault.TableFault.TheVariants.{BadHeader, BadWidth, BadUtf8, BadNumber, TooMany}
+
+-- a call gave what reading gives, unless memory ran out
+abbrev pub Fails : {X : Type 0} → TableError → Result X TableFault → Type 0
+Fails NoMemory read = Unit {0}
+Fails (Fault f) read = read ≡ Err f
+
+abbrev pub Gives : {X : Type 0} → Result X TableError → Result X TableFault → Type 0
+Gives (Ok x) read = read ≡ Ok x
+Gives (Err e) read = Fails e read
+
+infixl 10 ◌>>=◌
+abbrev pub ◌>>=◌ : {A B : Type 0} → Result A TableFault → (A → Result B TableFault) → Result B TableFault
+(Ok x) >>= f = f x
+(Err e) >>= f = Err e
+
+-- the number that a text spells which is one digit or more and nothing else, where it is at most `most`
+abbrev pub digits_up_to : ℕ → List ℕ → Option ℕ
+digits_up_to most text = if nat_lt 0 (length text) && all_ascii_digits text && nat_le (digits_value 10 text) most then Some (digits_value 10 text) else None
+
+-- a minus sign or nothing, then digits, in 64 bits; leading zeros are allowed
+unfoldable pub number_of : List ℕ → Option ℤ
+number_of field =
+    if starts_with_minus field then option_map (λ n. neg_ℤ (pos n)) (digits_up_to (2 ^ 63) (drop 1 field))
+    else option_map (λ n. pos n) (digits_up_to (2 ^ 63 - 1) field)
+
+-- The value of the field of a row and column, by the column's kind. A nullable column's field is read as any other.
+abbrev pub value_at : ℕ → ℕ → Kind → List ℕ → Result Value TableFault
+value_at row column IntKind field = ok_or (option_map Int (number_of field)) (BadNumber row column)
+value_at row column TextKind field = Ok (Text field)
+
+-- the values of the columns from a number on
+unfoldable pub values_from : ℕ → ℕ → List Column → List (List ℕ) → Result (List Value) TableFault
+values_from row column [] fields = Ok []
+values_from row column (c ∷ columns) [] = Ok []
+values_from row column (c ∷ columns) (field ∷ fields) = do
+  value ← value_at row column c.kind field
+  values ← values_from row (column + 1) columns fields
+  Ok (value ∷ values)
+
+-- a row is tested for its width, then for UTF-8, then for its numbers
+unfoldable pub row_at : ℕ → List Column → List (List ℕ) → Result (List Value) TableFault
+row_at row columns fields =
+    if not (length fields == length columns) then Err (BadWidth row)
+    else if not (list_all is_utf8 fields) then Err (BadUtf8 row)
+    else values_from row 0 columns fields
+
+-- the rows from a number on, or the fault of the first bad one
+unfoldable pub rows_from : ℕ → List Column → List (List (List ℕ)) → Result (List (List Value)) TableFault
+rows_from row columns [] = Ok []
+rows_from row columns (line ∷ lines) = do
+  values ← row_at row columns line
+  rows ← rows_from (row + 1) columns lines
+  Ok (values ∷ rows)
+
+-- the most rows of a table
+abbrev pub row_limit : ℕ
+row_limit = 100000
+
+abbrev pub within_limit : List (List Value) → Result (List (List Value)) TableFault
+within_limit rows = if nat_le (length rows) row_limit then Ok rows else Err (TooMany row_limit)
+
+-- the rows of the records after the header
+abbrev pub rows_of_rest : List Column → List (List (List ℕ)) → Result (List (List Value)) TableFault
+rows_of_rest columns lines = rows_from 1 columns lines >>= within_limit
+
+abbrev pub names_of : List Column → List (List ℕ)
+names_of columns = map (λ column. column.name) columns
+
+-- the header is exactly the names of the columns
+abbrev pub is_header : List Column → List (List ℕ) → Bool
+is_header columns line = pointwise bytes_eq line (names_of columns)
+
+-- the first record is the header, and each other one is a row
+unfoldable pub rows_of_lines : List Column → List (List (List ℕ)) → Result (List (List Value)) TableFault
+rows_of_lines columns [] = Err BadHeader
+rows_of_lines columns (line ∷ lines) = if is_header columns line then rows_of_rest columns lines else Err BadHeader
+
+-- the rows of a table's file, whose records are as CSV gives them
+unfoldable pub rows_of_file : Table → List ℕ → Result (List (List Value)) TableFault
+rows_of_file table bytes = rows_of_lines table.columns (records default_config (strip_bom bytes))

@@ -1,0 +1,226 @@
+//! The first broken key or link of tables.
+ghost use Rattle.std.specs.Prelude.{◌≡◌, [], IfOk, length, option_copied, unwrap_or};
+ghost use Rattle.std.specs.List.{position_from};
+ghost use Rattle.ba_model.specs.Meaning.{rows_of};
+ghost use Rattle.ba_model.specs.declared.value.Value.TheVariants.{Null};
+ghost use Rattle.ba_tables.specs.Broken.{broken_key, broken_link, broken_table, clash_after, dangles, is_null};
+ghost use Rattle.ba_tables.specs.Index.{IsIndex, key_values};
+ghost use Rattle.ba_tables.specs.declared.broken.TablesError.TheVariants.{NoMemory};
+
+use ba_model::list::List;
+use ba_model::same::Duplicate;
+use ba_model::schema::{Link, Table};
+use ba_model::value::{Row, RowSet, Value};
+use std::alloc::{AllocError, AllocFailed, Global};
+use std::collections::{BTreeMap, BTreeSet};
+use thiserror::Error;
+
+/// The first broken key or link: tables in the schema's order, and of each its keys before its links. Tables, keys and
+/// links are numbered from 0, rows from 1.
+#[derive(Clone, Copy, Debug, PartialEq, Eq, Error)]
+pub enum TablesFault {
+    /// The rows are equal on the key's columns and have no NULL there. No pair has a lesser second row, and none with this
+    /// second row a lesser first one.
+    #[error("table {table}: rows {first} and {second} agree on key {key}")]
+    KeyBroken {
+        table: u32,
+        key: u32,
+        first: u64,
+        second: u64,
+    },
+    /// The row has no NULL in the link's columns, and these are the target columns of no row. No lesser row is such.
+    #[error("table {table}: link {link} of row {row} has no target")]
+    LinkBroken {
+        table: u32,
+        link: u32,
+        row: u64,
+    },
+}
+
+#[derive(Debug, Drop, Error)]
+pub enum TablesError {
+    #[error("out of memory")]
+    NoMemory,
+    #[error("{0}")]
+    Fault(TablesFault),
+}
+
+impl From<AllocError> for TablesError {
+    ghost from_gives = { λ _ e. e ≡ NoMemory };
+
+    fn from(_e: AllocError) -> TablesError {
+        TablesError::NoMemory
+    }
+}
+
+impl<T: Drop> From<AllocFailed<T>> for TablesError {
+    ghost from_gives = { λ _ e. e ≡ NoMemory };
+
+    fn from(_e: AllocFailed<T>) -> TablesError {
+        TablesError::NoMemory
+    }
+}
+
+fn is_null(value: Option<&Value>) -> bool
+    ensures { result ≡ is_null (option_copied value.entry) }
+{
+    matches!(value, Some(Value::Null))
+}
+
+fn copied_or_null(alloc: Global, value: Option<&Value>) -> Result<Value, AllocError>
+    ensures { IfOk result (λ copy. copy ≡ unwrap_or (option_copied value.entry) Null) }
+{
+    match value {
+        Some(value) => value.copy(alloc),
+        None => Ok(Value::Null),
+    }
+}
+
+/// The values of a row on the columns, unless one is NULL. NULL stands for a column that isn't there.
+fn key_values(alloc: Global, row: &Row, columns: &List<u32>) -> Result<Option<Row>, AllocError>
+    ensures { IfOk result (λ found. found ≡ key_values row.now columns.now) }
+{
+    let mut values = List::new(alloc);
+    for i in 0..columns.len() {
+        let value = row.find(*columns.get(i) as usize);
+        if is_null(value) {
+            return Ok(None);
+        }
+        let value = copied_or_null(alloc, value)?;
+        values.push(value)?;
+    }
+    Ok(Some(values))
+}
+
+/// The first row that is equal to an earlier one on the key, with the first such earlier one before it.
+fn first_clash(
+    alloc: Global,
+    rows: &[Row],
+    key: &List<u32>,
+) -> Result<Option<(u64, u64)>, AllocError>
+    ensures { IfOk result (λ found. found ≡ clash_after key.now [] rows.now) }
+{
+    let mut seen = BTreeMap::new(alloc);
+    for i in 0..rows.len() {
+        let number = i as u64 + 1;
+        if let Some(values) = key_values(alloc, &rows[i], key)? {
+            if let Some(first) = seen.insert(values, number)? {
+                return Ok(Some((first, number)));
+            }
+        }
+    }
+    Ok(None)
+}
+
+/// The values that the rows have on the columns, of those that have no NULL there.
+fn index_of(alloc: Global, rows: &[Row], columns: &List<u32>) -> Result<BTreeSet<Row>, AllocError>
+    ensures { IfOk result (IsIndex rows.now columns.now) }
+{
+    let mut index = BTreeSet::new(alloc);
+    for i in 0..rows.len() {
+        if let Some(values) = key_values(alloc, &rows[i], columns)? {
+            index.insert(values)?;
+        }
+    }
+    Ok(index)
+}
+
+/// The first row that has no NULL on the link's columns and has no target.
+fn first_dangling(
+    alloc: Global,
+    rows: &[Row],
+    targets: &[Row],
+    link: &Link,
+) -> Result<Option<u64>, AllocError>
+    ensures { IfOk result (λ found. found ≡ position_from (dangles link.now targets.now) 1 rows.now) }
+{
+    let index = index_of(alloc, targets, &link.target_columns)?;
+    for i in 0..rows.len() {
+        if let Some(values) = key_values(alloc, &rows[i], &link.columns)? {
+            if !index.contains(&values) {
+                return Ok(Some(i as u64 + 1));
+            }
+        }
+    }
+    Ok(None)
+}
+
+fn broken_key(
+    alloc: Global,
+    table: u32,
+    rows: &[Row],
+    keys: &List<List<u32>>,
+) -> Result<Option<TablesFault>, AllocError>
+    ensures { IfOk result (λ found. found ≡ broken_key table 0 rows.now keys.now) }
+{
+    let Ok(count) = u32::try_from(keys.len()) else {
+        return Err(AllocError);
+    };
+    for key in 0..count {
+        if let Some((first, second)) = first_clash(alloc, rows, keys.get(key as usize))? {
+            return Ok(Some(TablesFault::KeyBroken {
+                table,
+                key,
+                first,
+                second,
+            }));
+        }
+    }
+    Ok(None)
+}
+
+/// The rows of a table, none where there is no such table.
+fn rows_of(rows: &RowSet, table: u32) -> &[Row]
+    ensures { result.now ≡ rows_of rows.now table }
+{
+    match rows.tables.find(table as usize) {
+        Some(list) => list.as_slice(),
+        None => &[],
+    }
+}
+
+fn broken_link(
+    alloc: Global,
+    table: u32,
+    all: &RowSet,
+    rows: &[Row],
+    links: &List<Link>,
+) -> Result<Option<TablesFault>, AllocError>
+    ensures { IfOk result (λ found. found ≡ broken_link table 0 all.now rows.now links.now) }
+{
+    let Ok(count) = u32::try_from(links.len()) else {
+        return Err(AllocError);
+    };
+    for link in 0..count {
+        let it = links.get(link as usize);
+        if let Some(row) = first_dangling(alloc, rows, rows_of(all, it.target), it)? {
+            return Ok(Some(TablesFault::LinkBroken { table, link, row }));
+        }
+    }
+    Ok(None)
+}
+
+/// The first broken key or link of all tables.
+pub fn broken_table(
+    alloc: Global,
+    tables: &List<Table>,
+    rows: &RowSet,
+) -> Result<Option<TablesFault>, AllocError>
+    requires { length rows.now.tables ≡ length tables.now }
+    ensures { IfOk result (λ found. found ≡ broken_table 0 rows.now tables.now rows.now.tables) }
+{
+    let Ok(count) = u32::try_from(tables.len()) else {
+        return Err(AllocError);
+    };
+    for number in 0..count {
+        let table = tables.get(number as usize);
+        let list = rows.tables.get(number as usize).as_slice();
+        if let Some(fault) = broken_key(alloc, number, list, &table.keys)? {
+            return Ok(Some(fault));
+        }
+        if let Some(fault) = broken_link(alloc, number, rows, list, &table.links)? {
+            return Ok(Some(fault));
+        }
+    }
+    Ok(None)
+}

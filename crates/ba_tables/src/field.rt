@@ -1,0 +1,41 @@
+//! One field of a row.
+ghost use Rattle.std.specs.Prelude.{◌≡◌};
+ghost use Rattle.ba_tables.specs.TableFile.{Gives, number_of, value_at};
+
+use crate::fault::{TableError, TableFault};
+use ba_model::schema::Kind;
+use ba_model::text::Str;
+use ba_model::value::Value;
+use std::alloc::Global;
+
+const PLUS: u8 = b'+';
+
+/// The number that a field spells: a minus sign or nothing, then digits, in 64 bits.
+pub fn number_of(field: &str) -> Option<i64>
+    ensures { result ≡ number_of field.now }
+{
+    let bytes = field.as_bytes();
+    if bytes.is_empty() || bytes[0] == PLUS {
+        return None;
+    }
+    field.parse::<i64>().ok()
+}
+
+/// The value of the field of a row and column.
+pub fn value_at(
+    alloc: Global,
+    row: u64,
+    column: u32,
+    kind: Kind,
+    field: &str,
+) -> Result<Value, TableError>
+    ensures { Gives result (value_at row column kind field.now) }
+{
+    match kind {
+        Kind::Int => match number_of(field) {
+            Some(number) => Ok(Value::Int(number)),
+            None => Err(TableError::Fault(TableFault::BadNumber(row, column))),
+        },
+        Kind::Text => Ok(Value::Text(Str::new(alloc, field)?)),
+    }
+}

@@ -1,0 +1,71 @@
+//! The rows of all tables of a schema.
+ghost use Rattle.std.specs.Prelude.{◌≡◌, []};
+ghost use Rattle.ba_model.specs.Conform.{Conforms};
+ghost use Rattle.ba_tables.specs.Broken.{Gives, checked};
+ghost use Rattle.ba_tables.specs.TableSet.{IsUnkeyed, RowsFit};
+
+use crate::broken::{TablesError, broken_table};
+use ba_model::same::Duplicate;
+use ba_model::schema::Schema;
+use ba_model::value::RowSet;
+use std::alloc::Global;
+use std::marker::Model;
+
+/// A schema and a database that conforms to it.
+#[derive(Debug, Drop)]
+pub struct Tables {
+    schema: Schema,
+    rows: RowSet,
+}
+
+impl Model for Tables {
+    ghost use Rattle.ba_model.specs.Conform.{Conforms};
+    ghost use Rattle.ba_tables.specs.TableSet.{TableSet};
+
+    ghost Value = { TableSet };
+
+    ghost view = { λ it. record { schema = it.schema; rows = it.rows } };
+
+    ghost invariant = { λ it. Conforms it.schema it.rows };
+}
+
+impl Tables {
+    /// Rows of a schema that has no keys, no links and no rules, so that rows of the columns' kinds are all that it asks.
+    pub fn unkeyed(schema: Schema, rows: RowSet) -> Tables
+        requires unkeyed { IsUnkeyed schema }
+        requires fit { RowsFit schema rows }
+        ensures schema { result.schema ≡ schema }
+        ensures rows { result.rows ≡ rows }
+    {
+        Tables { schema, rows }
+    }
+
+    /// Rows of the schema's tables, where no key and no link is broken; else the first that is.
+    ///
+    /// A key is as UNIQUE and a link as FOREIGN KEY with MATCH SIMPLE in the SQL standard, but equal rows break a key too.
+    pub fn check(alloc: Global, schema: &Schema, rows: RowSet) -> Result<Tables, TablesError>
+        requires fit { RowsFit schema.now rows }
+        requires rules { schema.now.rules ≡ [] }
+        ensures { Gives result (checked schema.now rows) }
+    {
+        if let Some(fault) = broken_table(alloc, &schema.tables, &rows)? {
+            return Err(TablesError::Fault(fault));
+        }
+        let schema = schema.copy(alloc)?;
+        Ok(Tables { schema, rows })
+    }
+
+    pub fn schema(&self) -> &Schema
+        ensures is { result.now ≡ self.now.schema }
+        ensures conform { Conforms result.now self.now.rows }
+    {
+        &self.schema
+    }
+
+    pub fn rows(&self) -> &RowSet
+        ensures is { result.now ≡ self.now.rows }
+        ensures conform { Conforms self.now.schema result.now }
+    {
+        &self.rows
+    }
+}

@@ -1,0 +1,5 @@
+pub mod Lists
+pub mod Histories
+pub mod Steps
+pub mod Splits
+pub mod Ends

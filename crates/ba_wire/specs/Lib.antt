@@ -1,0 +1,4 @@
+pub mod Lines
+pub mod Object
+pub mod Printed
+pub mod Script

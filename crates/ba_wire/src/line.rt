@@ -1,0 +1,237 @@
+//! The lines of a run.
+#![tactic(auto, unfolding(crate::specs::Printed::json_of))]
+
+ghost use Rattle.std.specs.Prelude.{◌≡◌, IfOk, string_bytes};
+ghost use Rattle.serde_json.specs.View.{view};
+ghost use Rattle.ba_wire.specs.Object.{made};
+ghost use Rattle.ba_wire.specs.Printed.{ReadsBack, by_name, block_name, unread_name, value_json, row_json, rows_json, begin, answer, block, unread, memory, printed, json_of, line_bytes};
+
+use crate::object::Object;
+use ba_model::list::List;
+use ba_model::text::Str;
+use ba_model::value::{Row, Value};
+use serde_json::Value as Json;
+use std::alloc::{AllocError, Global};
+
+/// What an answer rests on.
+#[derive(Clone, Copy, Debug, PartialEq, Eq)]
+pub enum By {
+    /// One view for each part of the question.
+    Cover,
+}
+
+/// Why a question is blocked.
+#[derive(Clone, Copy, Debug, PartialEq, Eq)]
+pub enum Block {
+    /// The question isn't covered.
+    Uncovered,
+}
+
+/// Why a question has no reading.
+#[derive(Clone, Copy, Debug, PartialEq, Eq)]
+pub enum Unread {
+    /// It isn't of the form that the program reads so far.
+    Unbuilt,
+}
+
+/// One printed line of a run: `line` is the script's line, from 1, and `version` that of the request's tables, from 0.
+#[derive(Clone, Copy, Debug)]
+pub enum Line<'a> {
+    /// A request of this name begins.
+    Begin {
+        begin: &'a Str,
+        line: u64,
+        version: u32,
+    },
+    /// A question's answer: its rows, in order.
+    Answer {
+        by: By,
+        line: u64,
+        request: &'a Str,
+        rows: &'a List<Row>,
+        version: u32,
+    },
+    Block {
+        blocked: Block,
+        line: u64,
+        request: &'a Str,
+        version: u32,
+    },
+    Unread {
+        line: u64,
+        request: &'a Str,
+        unread: Unread,
+        version: u32,
+    },
+    /// The line found no memory.
+    Memory {
+        line: u64,
+    },
+}
+
+impl By {
+    fn name(self) -> &'static str
+        ensures { result.now ≡ by_name self }
+    {
+        match self {
+            By::Cover => "cover",
+        }
+    }
+}
+
+impl Block {
+    fn name(self) -> &'static str
+        ensures { result.now ≡ block_name self }
+    {
+        match self {
+            Block::Uncovered => "uncovered",
+        }
+    }
+}
+
+impl Unread {
+    fn name(self) -> &'static str
+        ensures { result.now ≡ unread_name self }
+    {
+        match self {
+            Unread::Unbuilt => "unbuilt",
+        }
+    }
+}
+
+fn value_of(alloc: Global, value: &Value) -> Result<Json, AllocError>
+    ensures { IfOk result (λ v. view v ≡ value_json value.now) }
+{
+    match value {
+        Value::Null => Ok(Json::Null),
+        Value::Int(n) => Ok(Json::from(*n)),
+        Value::Text(text) => Json::try_from_str(alloc, text.as_str()),
+    }
+}
+
+fn row_of(alloc: Global, row: &Row) -> Result<Json, AllocError>
+    ensures { IfOk result (λ v. view v ≡ row_json row.now) }
+{
+    let mut values = Vec::with_capacity(alloc, row.len())?;
+    for value in row.as_slice() {
+        values.push(value_of(alloc, value)?)?;
+    }
+    Ok(Json::Array(values))
+}
+
+fn rows_of(alloc: Global, rows: &List<Row>) -> Result<Json, AllocError>
+    ensures { IfOk result (λ v. view v ≡ rows_json rows.now) }
+{
+    let mut values = Vec::with_capacity(alloc, rows.len())?;
+    for row in rows.as_slice() {
+        values.push(row_of(alloc, row)?)?;
+    }
+    Ok(Json::Array(values))
+}
+
+fn begin_object(alloc: Global, request: &Str, line: u64, version: u32) -> Result<Object, AllocError>
+    ensures { IfOk result (λ it. made it ≡ json_of (begin request.now line version)) }
+{
+    Object::new(alloc)
+        .with_text("begin", request.as_str())?
+        .with_count("line", line)?
+        .with_count("version", version as u64)
+}
+
+fn answer_object(
+    alloc: Global,
+    by: By,
+    line: u64,
+    request: &Str,
+    rows: &List<Row>,
+    version: u32,
+) -> Result<Object, AllocError>
+    ensures { IfOk result (λ it. made it ≡ json_of (answer by line request.now rows.now version)) }
+{
+    Object::new(alloc)
+        .with_text("by", by.name())?
+        .with_count("line", line)?
+        .with_text("request", request.as_str())?
+        .with("rows", rows_of(alloc, rows)?)?
+        .with_count("version", version as u64)
+}
+
+fn block_object(
+    alloc: Global,
+    blocked: Block,
+    line: u64,
+    request: &Str,
+    version: u32,
+) -> Result<Object, AllocError>
+    ensures { IfOk result (λ it. made it ≡ json_of (block blocked line request.now version)) }
+{
+    Object::new(alloc)
+        .with_text("blocked", blocked.name())?
+        .with_count("line", line)?
+        .with_text("request", request.as_str())?
+        .with_count("version", version as u64)
+}
+
+fn unread_object(
+    alloc: Global,
+    line: u64,
+    request: &Str,
+    why: Unread,
+    version: u32,
+) -> Result<Object, AllocError>
+    ensures { IfOk result (λ it. made it ≡ json_of (unread line request.now why version)) }
+{
+    Object::new(alloc)
+        .with_count("line", line)?
+        .with_text("request", request.as_str())?
+        .with_text("unread", why.name())?
+        .with_count("version", version as u64)
+}
+
+fn memory_object(alloc: Global, line: u64) -> Result<Object, AllocError>
+    ensures { IfOk result (λ it. made it ≡ json_of (memory line)) }
+{
+    Object::new(alloc)
+        .with_count("line", line)?
+        .with("memory", Json::Bool(true))
+}
+
+fn line_object(alloc: Global, line: &Line) -> Result<Object, AllocError>
+    ensures { IfOk result (λ it. made it ≡ json_of (printed line.now)) }
+{
+    match line {
+        Line::Begin {
+            begin,
+            line,
+            version,
+        } => begin_object(alloc, begin, *line, *version),
+        Line::Answer {
+            by,
+            line,
+            request,
+            rows,
+            version,
+        } => answer_object(alloc, *by, *line, request, rows, *version),
+        Line::Block {
+            blocked,
+            line,
+            request,
+            version,
+        } => block_object(alloc, *blocked, *line, request, *version),
+        Line::Unread {
+            line,
+            request,
+            unread,
+            version,
+        } => unread_object(alloc, *line, request, *unread, *version),
+        Line::Memory { line } => memory_object(alloc, *line),
+    }
+}
+
+/// The text of a line with its line feed, in time linear in its length.
+pub fn line_text(alloc: Global, line: &Line) -> Result<String, AllocError>
+    ensures text { IfOk result (λ s. string_bytes s ≡ line_bytes (printed line.now)) }
+    ensures reads_back { IfOk result (λ s. ReadsBack (string_bytes s) (json_of (printed line.now))) }
+{
+    line_object(alloc, line)?.line()
+}
