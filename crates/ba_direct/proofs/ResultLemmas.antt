@@ -12,14 +12,14 @@ use Rattle.ba_model.specs.declared.query.Query.{Query}
 use Rattle.ba_direct.proofs.CoverLemmas.{cover_covers, covered_is_strong}
 use Rattle.ba_direct.proofs.PlaceLemmas.{as_many_tables}
 use Rattle.ba_direct.specs.Cover.{AlwaysStrong, CoversBy, CoversPart, IsCover, IsFirst, IsFirstCover, PartCovered}
-use Rattle.ba_direct.specs.Search.{IsFirstBy, IsFirstFrom, NoneBy, NoneFrom}
+use Rattle.ba_direct.specs.Search.{IsFirstBy, IsFirstFrom, NoneBy, NoneFrom, only_of}
 use Rattle.ba_direct.specs.declared.cover.Cover.{Cover}
 use Rattle.ba_direct.specs.declared.cover.PartCover.{PartCover}
 
-single : {X : Type 0} (xs : List X) (x : X) → length xs ≡ 1 → slice_get xs 0 ≡ Some x → xs ≡ x ∷ []
-single [] x n e = cc
-single (y ∷ []) x n e = let k : y ≡ x = cc in ap (λ z. z ∷ []) k
-single (y ∷ z ∷ zs) x n e = absurd (omega (arith, n))
+only_is : {X : Type 0} (xs : List X) (x : X) → Some x ≡ only_of xs → xs ≡ x ∷ []
+only_is [] x e = cc
+only_is (y ∷ []) x e = let k : y ≡ x = cc in ap (λ z. z ∷ []) k
+only_is (y ∷ z ∷ zs) x e = cc
 
 module _ (policy : Policy) (c : Context) (q : Part) (n : ℕ) (view : View) (listed : slice_get policy.views n ≡ Some view) where
   -- a cover by the view with this number is one by this view
@@ -28,17 +28,17 @@ module _ (policy : Policy) (c : Context) (q : Part) (n : ℕ) (view : View) (lis
       let same : view ≡ h.view = (let k : slice_get policy.views n ≡ Some h.view = ap (slice_get policy.views) (sym is) ∙ h.view_is in cc) in
       ap (λ v. v.query.parts) same ∙ h.part_is
 
-  pub none_of_parts : (length view.query.parts ≡ 1 → ⊥) → NoneBy policy c q n
-  none_of_parts many = record { none = λ other is h. many (ap length (parts_are other is h)) }
+  pub none_of_parts : None ≡ only_of view.query.parts → NoneBy policy c q n
+  none_of_parts none = record { none = λ other is h. let k = none ∙ ap only_of (parts_are other is h) in cc }
 
-  module _ (part : Part) (one : length view.query.parts ≡ 1) (first : slice_get view.query.parts 0 ≡ Some part) where
-    pub by_part : (other : PartCover) → other.view ≡ n → CoversPart policy c q other → CoversBy c part q other.places
+  module _ (part : Part) (only : Some part ≡ only_of view.query.parts) where
+    by_part : (other : PartCover) → other.view ≡ n → CoversPart policy c q other → CoversBy c part q other.places
     by_part other is h =
-        let same : h.part ≡ part = (let k = sym (parts_are other is h) ∙ single view.query.parts part one first in cc) in
+        let same : h.part ≡ part = (let k = sym (parts_are other is h) ∙ only_is view.query.parts part only in cc) in
         subst (λ p. CoversBy c p q other.places) same h.by
 
-    pub covers_here : (to : List ℕ) → CoversBy c part q to → CoversPart policy c q (record { view = n; places = to })
-    covers_here to by = record { view = view; part = part; view_is = listed; part_is = single view.query.parts part one first; by = by }
+    covers_here : (to : List ℕ) → CoversBy c part q to → CoversPart policy c q (record { view = n; places = to })
+    covers_here to by = record { view = view; part = part; view_is = listed; part_is = only_is view.query.parts part only; by = by }
 
     pub none_of_tables : (length part.from ≡ length q.from → ⊥) → NoneBy policy c q n
     none_of_tables differ =

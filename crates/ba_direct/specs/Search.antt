@@ -1,5 +1,5 @@
 -- What the search for a cover says at each step.
-use Rattle.std.specs.Prelude.{◌≡◌, ℕ, List, ◌++◌}
+use Rattle.std.specs.Prelude.{◌≡◌, ℕ, List, [], ◌∷◌, ◌++◌, Option, Some, None}
 use Rattle.std.specs.Cmp.Lexicographic.{slice_cmp}
 use Rattle.std.specs.Ordering.{nat_cmp}
 use Rattle.std.specs.declared.cmp.Ordering.TheVariants.{Less}
@@ -8,6 +8,12 @@ use Rattle.ba_model.specs.declared.policy.Policy.{Policy}
 use Rattle.ba_model.specs.declared.query.Part.{Part}
 use Rattle.ba_direct.specs.Cover.{CoversBy, CoversPart}
 use Rattle.ba_direct.specs.declared.cover.PartCover.{PartCover}
+
+-- the element of a list that has one
+abbrev pub only_of : {X : Type 0} → List X → Option X
+only_of [] = None
+only_of (x ∷ []) = Some x
+only_of (x ∷ y ∷ xs) = None
 
 -- no pairing that begins so is a cover
 pub record NoneFrom (c : Context) (view q : Part) (begun : List ℕ) : Type 0 where

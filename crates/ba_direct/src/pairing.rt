@@ -17,7 +17,8 @@ fn count(to: &[usize], place: usize) -> usize
 }
 
 fn pairs_each_once(to: &[usize], places: usize) -> bool
-    ensures { IsTrue result ↔ ((place : ℕ) → place < places → count_by (λ i. i == place) to.now ≡ 1) }
+    ensures { IsTrue result
+        ↔ ((place : ℕ) → place < places → count_by (λ i. i == place) to.now ≡ 1) }
 {
     for place in 0..places {
         if count(to, place) != 1 {
@@ -78,7 +79,8 @@ pub fn covers_by(ctx: &Context, view: &Part, part: &Part, to: &[usize]) -> bool
 
 /// Whether the view's next table may be paired with the place: it isn't paired yet, and has the same table.
 fn may_pair(view: &Part, part: &Part, to: &[usize], place: usize) -> bool
-    ensures { OnFalse result ((more : List ℕ) → PairsTables view.now part.now (to.now ++ place ∷ more) → ⊥) }
+    ensures { OnFalse result
+        ((more : List ℕ) → PairsTables view.now part.now (to.now ++ place ∷ more) → ⊥) }
 {
     if count(to, place) != 0 {
         return false;
@@ -101,8 +103,10 @@ pub fn pair(
     to: &mut Vec<usize>,
 ) -> Result<bool, AllocError>
     requires { length to.old.items ≤ length (part.now).from }
-    ensures found { IfOk result (λ found. OnTrue found (IsFirstFrom ctx.now view.now part.now to.old.items to.new.items)) }
-    ensures none { IfOk result (λ found. OnFalse found (NoneFrom ctx.now view.now part.now to.old.items)) }
+    ensures found { IfOk result (λ found. OnTrue found
+        (IsFirstFrom ctx.now view.now part.now to.old.items to.new.items)) }
+    ensures none { IfOk result (λ found. OnFalse found
+        (NoneFrom ctx.now view.now part.now to.old.items)) }
     ensures kept { IfOk result (λ found. OnFalse found (to.new.items ≡ to.old.items)) }
 {
     let places = part.from.len();

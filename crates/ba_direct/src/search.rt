@@ -1,7 +1,8 @@
 //! The search for a cover.
-ghost use Rattle.std.specs.Prelude.{◌<◌, ◌↔◌, IsTrue, IfOk, IfSome, MatchOption, length};
+ghost use Rattle.std.specs.Option.{option_copied};
+ghost use Rattle.std.specs.Prelude.{◌≡◌, ◌<◌, ◌↔◌, IsTrue, IfOk, IfSome, MatchOption, length};
 ghost use Rattle.ba_direct.specs.Cover.{AlwaysStrong, Covered, CoversPart, IsCover, IsFirst, IsFirstCover, PartCovered};
-ghost use Rattle.ba_direct.specs.Search.{IsFirstBy, NoneBy};
+ghost use Rattle.ba_direct.specs.Search.{IsFirstBy, NoneBy, only_of};
 
 use crate::cover::{Cover, PartCover};
 use crate::pairing::{covers_by, pair};
@@ -9,6 +10,16 @@ use ba_model::list::List;
 use ba_model::policy::{Context, Policy};
 use ba_model::query::{Part, Query};
 use std::alloc::{AllocError, Global};
+
+/// The part of a query that has one.
+fn only_part(query: &Query) -> Option<&Part>
+    ensures { option_copied result ≡ only_of query.now.parts }
+{
+    match query.parts.as_slice() {
+        [part] => Some(part),
+        _ => None,
+    }
+}
 
 /// The first cover of the part by the view with this number, if there is one. Only a view of one part covers.
 fn cover_by(
@@ -19,13 +30,14 @@ fn cover_by(
     view: usize,
 ) -> Result<Option<PartCover>, AllocError>
     requires { view < length (policy.now).views }
-    ensures { IfOk result (λ found. MatchOption found (NoneBy policy.now ctx.now part.now view) (λ cover. IsFirstBy policy.now ctx.now part.now view cover)) }
+    ensures { IfOk result (λ found. MatchOption found
+        (NoneBy policy.now ctx.now part.now view)
+        (IsFirstBy policy.now ctx.now part.now view)) }
 {
-    let parts = &policy.views.get(view).query.parts;
-    if parts.len() != 1 {
-        return Ok(None);
-    }
-    let only = parts.get(0);
+    let only = match only_part(&policy.views.get(view).query) {
+        Some(only) => only,
+        None => return Ok(None),
+    };
     if only.from.len() != part.from.len() {
         return Ok(None);
     }
@@ -45,7 +57,9 @@ fn cover_part(
     ctx: &Context,
     part: &Part,
 ) -> Result<Option<PartCover>, AllocError>
-    ensures { IfOk result (λ found. MatchOption found (PartCovered policy.now ctx.now part.now → ⊥) (λ cover. IsFirst policy.now ctx.now part.now cover)) }
+    ensures { IfOk result (λ found. MatchOption found
+        (PartCovered policy.now ctx.now part.now → ⊥)
+        (IsFirst policy.now ctx.now part.now)) }
 {
     for view in 0..policy.views.len() {
         let found = cover_by(alloc, policy, ctx, part, view)?;
@@ -70,11 +84,14 @@ pub fn cover(
     ctx: &Context,
     query: &Query,
 ) -> Result<Option<Cover>, AllocError>
-    ensures exact { IfOk result (λ found. MatchOption found (Covered policy.now ctx.now query.now → ⊥) (λ cover. IsCover policy.now ctx.now query.now cover)) }
-    ensures first { IfOk result (λ found. IfSome found (λ cover. IsFirstCover policy.now ctx.now query.now cover)) }
+    ensures exact { IfOk result (λ found. MatchOption found
+        (Covered policy.now ctx.now query.now → ⊥)
+        (IsCover policy.now ctx.now query.now)) }
+    ensures first { IfOk result (λ found. IfSome found (IsFirstCover policy.now ctx.now query.now)) }
 
-    // What it covers may be answered.
-    ensures strong { IfOk result (λ found. IfSome found (λ _. AlwaysStrong policy.now ctx.now query.now)) }
+    // What has a cover may be answered.
+    ensures strong { IfOk result (λ found. IfSome found
+        (λ _. AlwaysStrong policy.now ctx.now query.now)) }
 {
     let mut parts = Vec::new(alloc);
     for part in query.parts.as_slice() {
@@ -96,10 +113,10 @@ fn covers_part(policy: &Policy, ctx: &Context, part: &Part, cover: &PartCover) -
         Some(view) => view,
         None => return false,
     };
-    if view.query.parts.len() != 1 {
-        return false;
+    match only_part(&view.query) {
+        Some(only) => covers_by(ctx, only, part, cover.places.as_slice()),
+        None => false,
     }
-    covers_by(ctx, view.query.parts.get(0), part, cover.places.as_slice())
 }
 
 /// Whether what is given covers the query, be it the first cover or another.

@@ -101,16 +101,25 @@ fn context(alloc: Global) -> Result<Context, AllocError> {
     Ok(Context { values })
 }
 
-/// What the cover is of a union over a policy of such views.
+/// What the search says of a union.
+fn asked(
+    alloc: Global,
+    policy: &Policy,
+    query: &[Select<'_>],
+) -> Result<Option<Cover>, AllocError> {
+    let ctx = context(alloc)?;
+    let query = union(alloc, query)?;
+    cover(alloc, policy, &ctx, &query)
+}
+
+/// The same over a policy of such views.
 fn found(
     alloc: Global,
     views: &[Select<'_>],
     query: &[Select<'_>],
 ) -> Result<Option<Cover>, AllocError> {
     let policy = policy_of(alloc, views)?;
-    let ctx = context(alloc)?;
-    let query = union(alloc, query)?;
-    cover(alloc, &policy, &ctx, &query)
+    asked(alloc, &policy, query)
 }
 
 /// The view and the places of the cover's part with this number.
@@ -152,7 +161,7 @@ fn conditions_of_one_table(rt: HostRuntime) -> Result<(), Fail> {
     let cases = [
         ("no condition", None, [None, None], true),
         (
-            "shown column",
+            "a shown column",
             None,
             [Some((Op::Lt, SHOWN, Number(7))), None],
             true,
@@ -293,28 +302,47 @@ fn unions_and_first_views(rt: HostRuntime) -> Result<(), Fail> {
     Ok(())
 }
 
+/// The policy whose one view is the union of the SELECT with itself.
+fn policy_of_two_parts(alloc: Global, select: Select<'_>) -> Result<Policy, AllocError> {
+    let mut views = List::new(alloc);
+    views.push(view(alloc, &[select, select])?)?;
+    Ok(policy(alloc, views))
+}
+
 #[test]
 fn view_of_two_parts_never_covers(rt: HostRuntime) -> Result<(), Fail> {
     let shown = single([None, None], SHOWN);
-    let mut views = List::new(rt.alloc());
-    views.push(view(rt.alloc(), &[shown, shown])?)?;
-    let policy = policy(rt.alloc(), views);
-    let ctx = context(rt.alloc())?;
-    let query = union(rt.alloc(), &[shown])?;
-    let none = cover(rt.alloc(), &policy, &ctx, &query)?;
+    let policy = policy_of_two_parts(rt.alloc(), shown)?;
+    let none = asked(rt.alloc(), &policy, &[shown])?;
     assert!(rt; none.is_none());
     Ok(())
 }
 
+/// Whether a copy of the cover is one for the union.
+fn is_given(
+    alloc: Global,
+    policy: &Policy,
+    query: &[Select<'_>],
+    found: &Cover,
+) -> Result<bool, AllocError> {
+    let ctx = context(alloc)?;
+    let query = union(alloc, query)?;
+    let given = found.copy(alloc)?;
+    Ok(is_cover(policy, &ctx, &query, &given))
+}
+
+/// Whether what is found for the pair with its condition at place 1 is a cover for the pair with its condition at this place.
+fn covers_too(alloc: Global, place: u32) -> Result<bool, AllocError> {
+    let policy = policy_of(alloc, &[pair_of(0, 0, 1)])?;
+    match asked(alloc, &policy, &[pair_of(1, 0, 1)])? {
+        Some(found) => is_given(alloc, &policy, &[pair_of(place, 0, 1)], &found),
+        None => Ok(false),
+    }
+}
+
 #[test]
 fn given_covers(rt: HostRuntime) -> Result<(), Fail> {
-    let policy = policy_of(rt.alloc(), &[pair_of(0, 0, 1)])?;
-    let ctx = context(rt.alloc())?;
-    let query = union(rt.alloc(), &[pair_of(1, 0, 1)])?;
-    let same = union(rt.alloc(), &[pair_of(0, 0, 1)])?;
-    let found = cover(rt.alloc(), &policy, &ctx, &query)?.ok_or("none")?;
-    let given = found.copy(rt.alloc())?;
-    assert!(rt; is_cover(&policy, &ctx, &query, &given));
-    assert!(rt; !is_cover(&policy, &ctx, &same, &given));
+    assert!(rt; covers_too(rt.alloc(), 1)?);
+    assert!(rt; !covers_too(rt.alloc(), 0)?);
     Ok(())
 }
