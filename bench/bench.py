@@ -1,0 +1,236 @@
+#!/usr/bin/env python3
+"""Measures `blockaid` on generated inputs, and `sqlite3`, where it is installed, on the same import and selects.
+
+    bench/bench.py [--program FILE] [--rows N,..] [--asks N,..] [--kinds KIND,..] [--runs N]
+
+Prints a Markdown table: seconds (the least of the runs, for the whole process) and peak memory (the greatest of the runs).
+Without --program it has the repository's own `blockaid` proved and built first, and measures what was built.
+The program's summary is compared with what the generated tables give, and its rows with those of sqlite3, where it ran.
+"""
+import argparse
+import datetime
+import itertools
+import json
+import os
+import platform
+import shutil
+import subprocess
+import sys
+import tempfile
+import time
+
+HOME = os.path.dirname(os.path.dirname(os.path.abspath(__file__)))
+TIME = "/usr/bin/time"
+# Coprime to each number of rows, so that keys are distinct and not in order.
+STEP = 7919
+
+SCHEMA = """CREATE TABLE Users (UId INT NOT NULL, Name TEXT NOT NULL);
+CREATE TABLE Events (EId INT NOT NULL, Title TEXT NOT NULL, Duration INT NOT NULL);
+"""
+POLICY = """CREATE VIEW V1 AS SELECT UId, Name FROM Users;
+CREATE VIEW V2 AS SELECT EId, Title FROM Events;
+"""
+
+
+class Kind:
+    """A kind of question: its text for a number, how many rows it has over tables of so many rows, and whether it is answered."""
+
+    def __init__(self, question, rows_of_one, is_answered):
+        self.question, self.rows_of_one, self.is_answered = question, rows_of_one, is_answered
+
+
+KINDS = {
+    # One row by its key: the whole table is gone through.
+    "point": Kind(lambda n, rows: f"SELECT Name FROM Users WHERE UId = {n * STEP % rows}", lambda rows: 1, True),
+    # Every row, in order.
+    "scan": Kind(lambda n, rows: "SELECT Title, EId FROM Events", lambda rows: rows, True),
+    # No view shows it.
+    "blocked": Kind(lambda n, rows: f"SELECT Duration FROM Events WHERE EId = {n}", lambda rows: 0, False),
+}
+
+# More rows than this in all answers of a script are left out: the program keeps its answers until the last one is found.
+MOST_ANSWERED = 2_000_000
+
+
+def write_lines(path, lines):
+    with open(path, "w", encoding="utf-8", newline="") as it:
+        for line in lines:
+            it.write(line + "\n")
+
+
+def users(rows):
+    return (f"{n * STEP % rows},name{n}" for n in range(rows))
+
+
+def events(rows):
+    return (f"{n * STEP % rows},title{n},{n % 7 * 10 + 10}" for n in range(rows))
+
+
+def with_header(header, lines):
+    yield header
+    yield from lines
+
+
+def make_tables(folder, rows):
+    """Writes schema, policy and the table set, and for sqlite3 the same rows with no header."""
+    os.makedirs(f"{folder}/t0")
+    write_lines(f"{folder}/t0/Users.csv", with_header("UId,Name", users(rows)))
+    write_lines(f"{folder}/t0/Events.csv", with_header("EId,Title,Duration", events(rows)))
+    write_lines(f"{folder}/users.rows", users(rows))
+    write_lines(f"{folder}/events.rows", events(rows))
+    for name, text in [("schema.sql", SCHEMA), ("policy.sql", POLICY)]:
+        with open(f"{folder}/{name}", "w", encoding="utf-8") as it:
+            it.write(text)
+
+
+def as_sql(question):
+    """A select of the question's answer: its rows in rising order, without repeats."""
+    columns = question.split(" FROM ")[0].count(",") + 1
+    order = ", ".join(str(it + 1) for it in range(columns))
+    return f"{question.replace('SELECT', 'SELECT DISTINCT', 1)} ORDER BY {order};"
+
+
+def make_scripts(folder, questions):
+    """Writes the script, and for sqlite3 the same import and selects."""
+    lines = [json.dumps({"begin": "r1", "context": {}})]
+    lines += [json.dumps({"ask": "r1", "query": it}) for it in questions]
+    write_lines(f"{folder}/script.jsonl", lines)
+    statements = [SCHEMA.rstrip(), ".mode csv", ".import users.rows Users", ".import events.rows Events"]
+    statements += [as_sql(it) for it in questions]
+    write_lines(f"{folder}/script.sql", statements)
+
+
+def run(words, folder, given, out):
+    """Runs a program once. Returns its status, the seconds that it took and the KiB of memory that it had at most."""
+    report = f"{folder}/time"
+    if os.path.exists(TIME):
+        words = [TIME, "-q", "-o", report, "-f", "%M", *words]
+    with open(given, "rb") as stdin, open(out, "wb") as stdout:
+        begun = time.perf_counter()
+        child = subprocess.Popen(words, cwd=folder, stdin=stdin, stdout=stdout)
+        # Without `time` the memory of this script, from before the program was started, counts too.
+        _, status, used = os.wait4(child.pid, 0)
+        seconds = time.perf_counter() - begun
+    child.returncode = os.WEXITSTATUS(status) if os.WIFEXITED(status) else 128 + os.WTERMSIG(status)
+    if not os.path.exists(TIME):
+        return child.returncode, seconds, used.ru_maxrss
+    with open(report, encoding="utf-8") as it:
+        return child.returncode, seconds, int(it.read().split()[-1])
+
+
+def measure(words, folder, given, out, runs):
+    """The least of the seconds and the greatest of the memory of some runs. What the last one wrote stays in `out`."""
+    found = []
+    for _ in range(runs):
+        status, *figures = run(words, folder, given, out)
+        expect(status, 0, f"the status of {words[0]}")
+        found.append(figures)
+    return min(it[0] for it in found), max(it[1] for it in found)
+
+
+def expect(found, wanted, what):
+    if found != wanted:
+        sys.exit(f"bench: {what}: found {found}, wanted {wanted}")
+
+
+def check_summary(path, asks, rows, is_answered):
+    with open(path, "rb") as it:
+        for line in it:
+            pass
+    summary = json.loads(line)
+    answered = asks if is_answered else 0
+    found = [summary[key] for key in ("answered", "blocked", "lines", "memory", "rows", "unread")]
+    expect(found, [answered, asks - answered, asks + 1, 0, rows, 0], "the summary")
+
+
+def rows_printed(path):
+    """The rows of all answers, one after another, each as a record of CSV."""
+    with open(path, "rb") as it:
+        answers = (line for line in map(json.loads, it) if "by" in line)
+        for answer in answers:
+            yield from (",".join(map(str, row)) for row in answer["rows"])
+
+
+def check_rows(path, of_sqlite):
+    with open(of_sqlite, encoding="utf-8", newline="") as it:
+        records = (line.rstrip("\r\n") for line in it)
+        for row, record in itertools.zip_longest(rows_printed(path), records):
+            expect(row, record, "a row")
+
+
+def case(program, folder, name, rows, asks, runs):
+    """One line of the table."""
+    kind = KINDS[name]
+    answered = asks * kind.rows_of_one(rows)
+    make_scripts(folder, [kind.question(n, rows) for n in range(asks)])
+    words = [program, "run", "--schema", "schema.sql", "--policy", "policy.sql", "--tables", "t0", "--script", "script.jsonl"]
+    out, of_sqlite = f"{folder}/out.jsonl", f"{folder}/out.csv"
+    figures = [measure(words, folder, os.devnull, out, runs)]
+    check_summary(out, asks, answered, kind.is_answered)
+    if kind.is_answered and shutil.which("sqlite3"):
+        figures.append(measure(["sqlite3", "-batch"], folder, f"{folder}/script.sql", of_sqlite, runs))
+        check_rows(out, of_sqlite)
+    cells = [cell for seconds, kib in figures for cell in (f"{seconds:.3f}", f"{kib / 1024:.1f}")]
+    cells += ["", ""] * (2 - len(figures))
+    return "| " + " | ".join([name, f"{rows:,}", f"{asks:,}", *cells]) + " |"
+
+
+def told(words):
+    """What a command says, or nothing."""
+    try:
+        return subprocess.run(words, cwd=HOME, capture_output=True, text=True, check=True).stdout.strip()
+    except (OSError, subprocess.CalledProcessError):
+        return ""
+
+
+def processors():
+    model = platform.processor() or platform.machine()
+    try:
+        with open("/proc/cpuinfo", encoding="utf-8") as it:
+            model = next((line.split(":")[1].strip() for line in it if line.startswith("model name")), model)
+    except OSError:
+        pass
+    return f"{os.cpu_count()} processors, {model}"
+
+
+def built():
+    """The repository's program, which `blockaid` proves and builds where that is still to be done."""
+    example = f"{HOME}/examples/first-run"
+    words = [f"{HOME}/blockaid", "run", "--schema", f"{example}/schema.sql", "--policy", f"{example}/policy.sql"]
+    words += ["--tables", f"{example}/t0", "--script", f"{example}/script.jsonl"]
+    with open(f"{example}/expected.jsonl", "rb") as it:
+        wanted = it.read()
+    expect(subprocess.run(words, stdout=subprocess.PIPE, check=False).stdout, wanted, "the example's lines")
+    return f"{HOME}/crates/blockaid_cli/out/blockaid_cli"
+
+
+def numbers(text):
+    return [int(it) for it in text.split(",")]
+
+
+def main():
+    reader = argparse.ArgumentParser(description=__doc__, formatter_class=argparse.RawDescriptionHelpFormatter)
+    reader.add_argument("--program", help="the program to measure")
+    reader.add_argument("--rows", type=numbers, default=[1_000, 10_000, 100_000])
+    # A request has at most 256 asks, and a script has one request for now.
+    reader.add_argument("--asks", type=numbers, default=[1, 16, 64, 256])
+    reader.add_argument("--kinds", type=lambda text: text.split(","), default=list(KINDS))
+    reader.add_argument("--runs", type=int, default=3)
+    given = reader.parse_args()
+    program = os.path.abspath(given.program) if given.program else built()
+    sqlite = told(["sqlite3", "--version"]).split(" ")[0] or "not installed"
+    commit = told(["git", "rev-parse", "--short", "HEAD"]) or "unknown"
+    print(f"{datetime.date.today()}, {processors()}; commit {commit}; sqlite3 {sqlite}; least of {given.runs} runs.\n")
+    print("| kind | rows of a table | asks | blockaid s | blockaid MiB | sqlite3 s | sqlite3 MiB |")
+    print("|---|---|---|---|---|---|---|", flush=True)
+    for rows in given.rows:
+        with tempfile.TemporaryDirectory() as folder:
+            make_tables(folder, rows)
+            for name in given.kinds:
+                for asks in given.asks:
+                    if asks * KINDS[name].rows_of_one(rows) <= MOST_ANSWERED:
+                        print(case(program, folder, name, rows, asks, given.runs), flush=True)
+
+
+if __name__ == "__main__":
+    main()
