@@ -1,5 +1,3 @@
-use Rattle.std.proofs.Common.{◌≡◌, List, sym, subst, ◌∙◌}
-use Rattle.ba_classes.specs.Closure.{IsClosure}
 use Rattle.ba_classes.proofs.ClosureLemmas.{IsClosure-copied}
 use Rattle.ba_classes.proofs.order.Order.copy.Goals as goal
 
