@@ -2,7 +2,7 @@
 use Rattle.std.proofs.Common.{◌≡◌, ℕ, suc, zero, ℤ, pos, negsuc, ◌+ℤ◌, ◌≤ℤ◌, List, ◌++◌, Contains, subst, arith}
 use Rattle.std.proofs.lemmas.Int.{ints}
 use Rattle.std.proofs.lemmas.List.Elements.{Contains-append_left}
-use Rattle.ba_classes.specs.Chains.{Chain, none, first, Shows}
+use Rattle.ba_classes.specs.Chains.{ShownIsTrue, AbsurdHasNoValues, Satisfies, Chain, none, first, Shows}
 use Rattle.ba_classes.specs.declared.order.Difference.{Difference}
 
 -- the same chain, where its sum is written otherwise
@@ -46,3 +46,14 @@ rounds (suc n) s = Shows-then (pos (suc n)) (omega (arith, ints)) s (rounds n s)
 pub any_number : {facts : List Difference} {x : ℕ} (k : ℤ) → Shows facts x (pos 1) x → Shows facts x k x
 any_number (pos n) s = rounds n s
 any_number (negsuc n) s = weaken (negsuc n) (omega (arith, ints)) (rounds 0 s)
+
+-- values that make the facts true make the sum of a chain true
+chain_is_true : {facts : List Difference} (value : ℕ → ℤ) → Satisfies facts value → {x y : ℕ} {k : ℤ} → Chain facts x k y → (value x +ℤ k) ≤ℤ value y
+chain_is_true value s none = omega (arith, ints)
+chain_is_true value s (first f h c) = omega (arith, ints, s.each f h, chain_is_true value s c)
+
+pub shown_is_true : ShownIsTrue
+shown_is_true facts value s x y k t = omega (arith, ints, t.enough, chain_is_true value s t.chain)
+
+pub absurd_has_no_values : AbsurdHasNoValues
+absurd_has_no_values facts value s a = omega (arith, ints, a.above, chain_is_true value s a.chain)

@@ -1,6 +1,7 @@
 -- Cells by places and by nodes, and what a fact that is added leaves of them.
-use Rattle.std.proofs.Common.{◌≡◌, ◌≢◌, ℕ, ◌^◌, ◌<◌, ◌≤◌, ℤ, pos, neg_ℤ, ◌+ℤ◌, ◌≤ℤ◌, ◌↔◌, List, [], ◌∷◌, ◌++◌, Bool, true, false, ◌||◌, IsTrue, Option, Some, None, nat_eq, get_or, refl, sym, ap, ◌∙◌, subst, ◌⊎◌, ⊎_elim, ◌<ℤ◌, arith}
+use Rattle.std.proofs.Common.{◌≡◌, ◌≢◌, ℕ, ◌^◌, ◌<◌, ◌≤◌, ℤ, pos, neg_ℤ, ◌+ℤ◌, ◌≤ℤ◌, ◌↔◌, List, [], ◌∷◌, ◌++◌, Bool, true, false, ◌||◌, IsTrue, Option, Some, None, nat_eq, get_or, refl, sym, ap, ◌∙◌, subst, ◌⊎◌, inl, length, ⊎_elim, ◌<ℤ◌, arith}
 use Rattle.std.specs.HashMap.{hash_map_len}
+use Rattle.std.specs.Map.{lookup}
 use Rattle.std.proofs.lemmas.Bool.{cases_lt, cases_eq, ne_eqb, eq-eqb, eqb-true, false≢true}
 use Rattle.std.proofs.lemmas.Int.{ints}
 use Rattle.std.proofs.lemmas.List.Elements.{All-push, All-nil, Contains-push_cases}
@@ -204,3 +205,13 @@ module _ (facts : List Difference) (fact : Difference) (already : Shows facts fa
       λ a. let s = chain_without a.chain in closure.flag.1 (record { node = a.node; sum = s.sum; above = omega (arith, ints, a.above, s.enough); chain = s.chain }),
     );
   }
+
+-- the same places and rows have the same closure
+pub IsClosure-copied : (facts : List Difference) (places copied : Places) (rows wider : List (List Best)) (is_absurd : Bool) → copied.entries ≡ places.entries → wider ≡ rows → IsClosure facts places rows is_absurd → IsClosure facts copied wider is_absurd
+IsClosure-copied facts places copied rows wider is_absurd same_entries same_rows closure =
+    let same_place : (x : ℕ) → place_of copied x ≡ place_of places x = λ x. ap (lookup (nat_eq x)) same_entries in
+    IsClosure-placed facts places copied rows wider is_absurd 0 (omega arith)
+    (λ x p h. same_place x ∙ h)
+    (λ p h. inl (subst (λ es. p < length es) same_entries h))
+    (λ x y. ap (λ rs. between copied rs x y) same_rows ∙ ap (λ p. cell_between rows p (place_of copied y)) (same_place x) ∙ ap (cell_between rows (place_of places x)) (same_place y))
+    closure

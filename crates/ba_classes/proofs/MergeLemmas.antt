@@ -13,6 +13,13 @@ Connected-more more itself = itself
 Connected-more more (turned h) = turned (Connected-more more h)
 Connected-more more (joined h k) = joined (Connected-more more h) (Connected-more more k)
 
+-- values that are equal on each merge are equal on connected terms
+pub connected_agree : {A : Type 0} {merges : List (ℕ × ℕ)} {a b : ℕ} (value : ℕ → A) → ((x y : ℕ) → Contains merges (x, y) → value x ≡ value y) → Connected merges a b → value a ≡ value b
+connected_agree value each (merged h) = each _ _ h
+connected_agree value each itself = refl
+connected_agree value each (turned h) = sym (connected_agree value each h)
+connected_agree value each (joined h k) = connected_agree value each h ∙ connected_agree value each k
+
 -- two terms are connected exactly where they have one label
 pub connected_by_label : {merges : List (ℕ × ℕ)} {a b l m : ℕ} → IsLabel merges a l → IsLabel merges b m → Connected merges a b ↔ (l ≡ m)
 connected_by_label {merges} {a} {b} {l} {m} left right = (

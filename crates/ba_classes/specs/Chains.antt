@@ -19,3 +19,15 @@ pub record IsAbsurd (facts : List Difference) : Type 0 where
   pub sum : ℤ
   pub above : pos 0 <ℤ sum
   pub chain : Chain facts node sum node
+
+-- the nodes' values make the facts true
+pub record Satisfies (facts : List Difference) (value : ℕ → ℤ) : Type 0 where
+  pub each : (f : Difference) → Contains facts f → (value f.low +ℤ f.gap) ≤ℤ value f.high
+
+-- whatever values make the facts true make true what the facts show
+abbrev pub ShownIsTrue : Type 0
+ShownIsTrue = (facts : List Difference) (value : ℕ → ℤ) → Satisfies facts value → (x y : ℕ) (k : ℤ) → Shows facts x k y → (value x +ℤ k) ≤ℤ value y
+
+-- no values make absurd facts true
+abbrev pub AbsurdHasNoValues : Type 0
+AbsurdHasNoValues = (facts : List Difference) (value : ℕ → ℤ) → Satisfies facts value → ¬ (IsAbsurd facts)

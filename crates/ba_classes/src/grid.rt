@@ -91,6 +91,17 @@ impl Grid {
         raise(&mut self.rows, low, by, onward);
     }
 
+    /// The same nodes with the same places and chains.
+    pub fn copy(&self, alloc: Global) -> Result<Grid, AllocError>
+        ensures places { IfOk result (λ other. other.places.entries ≡ self.now.places.entries) }
+        ensures rows { IfOk result (λ other. other.rows.items ≡ self.now.rows.items) }
+    {
+        Ok(Grid {
+            places: copy_places(&self.places)?,
+            rows: copy_rows(alloc, &self.rows)?,
+        })
+    }
+
     fn at(&self, row: usize, column: usize) -> Best
         ensures { result ≡ cell_at self.now.rows.items row column }
     {
@@ -99,6 +110,22 @@ impl Grid {
             None => Best::Absent,
         }
     }
+}
+
+fn copy_places(places: &HashMap<u32, usize>) -> Result<HashMap<u32, usize>, AllocError>
+    ensures { IfOk result (λ other. other.entries ≡ places.now.entries) }
+{
+    places.clone()
+}
+
+fn copy_rows(alloc: Global, rows: &[Row]) -> Result<Vec<Row>, AllocError>
+    ensures { IfOk result (λ other. other.items ≡ rows.now) }
+{
+    let mut others = Vec::new(alloc);
+    for row in rows {
+        others.push(row.copy(alloc)?)?;
+    }
+    Ok(others)
 }
 
 // Makes each row have at least `side` cells. Without memory some may be as they were.

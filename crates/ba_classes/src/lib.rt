@@ -10,5 +10,8 @@ mod best;
 pub mod classes;
 mod grid;
 mod image;
+pub mod laws;
 pub mod order;
 mod row;
+#[cfg(test)]
+mod tests;

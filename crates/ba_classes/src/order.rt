@@ -138,6 +138,24 @@ impl Order {
         Ok(values)
     }
 
+    /// The facts, the oldest first.
+    pub fn facts(&self) -> &[Difference]
+        ensures { result.now ≡ self.now }
+    {
+        &self.facts
+    }
+
+    /// The same facts.
+    pub fn copy(&self, alloc: Global) -> Result<Order, AllocError>
+        ensures { IfOk result (λ other. other ≡ self.now) }
+    {
+        Ok(Order {
+            facts: Vec::from_slice(alloc, &self.facts)?,
+            grid: self.grid.copy(alloc)?,
+            is_absurd: self.is_absurd,
+        })
+    }
+
     // The value of a node, where some nodes have values and some numbers are used.
     fn value(&self, valued: &[(u32, i128)], used: &[i128], node: u32) -> Result<i128, AllocError>
         requires { ¬ (IsAbsurd self.now) }
