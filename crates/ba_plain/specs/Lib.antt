@@ -5,3 +5,5 @@ pub mod Names
 pub mod Reader
 pub mod Words
 pub mod Texts
+pub mod Question
+pub mod Files

@@ -4,6 +4,7 @@
 pub mod error;
 mod form;
 mod item;
+pub mod laws;
 mod name;
 pub mod policy;
 mod query;

@@ -1,6 +1,8 @@
 //! Policies.
-ghost use Rattle.std.specs.Prelude.{◌≡◌};
+ghost use Rattle.std.specs.Prelude.{◌≡◌, IfOk, IsErrOf};
+ghost use Rattle.ba_model.specs.declared.policy.Policy.{Policy};
 ghost use Rattle.ba_plain.specs.Errors.{Gives, each};
+ghost use Rattle.ba_plain.specs.Files.{IsPlainPolicy, ReadsPolicy};
 ghost use Rattle.ba_plain.specs.Meaning.{are_views, view_of};
 ghost use Rattle.ba_plain.specs.Texts.{plain_policy_of};
 
@@ -46,10 +48,9 @@ fn views_of(alloc: Global, schema: &Schema, texts: &[ViewText]) -> Result<List<V
     Ok(found)
 }
 
-/// The policy that a file is: `{ CREATE VIEW word AS select ; }`. It has no parameters, and a copy of the schema.
 #[tactic(auto, unfolding(crate::specs::Texts::plain_policy_of))]
-pub fn read_policy(alloc: Global, schema: &Schema, bytes: &[u8]) -> Result<Policy, PlainError>
-    ensures exact { Gives result (plain_policy_of schema.now bytes.now) }
+fn policy_of(alloc: Global, schema: &Schema, bytes: &[u8]) -> Result<Policy, PlainError>
+    ensures { Gives result (plain_policy_of schema.now bytes.now) }
 {
     let words = file_words(alloc, bytes, MOST_BYTES)?;
     let texts = views(alloc, words.as_slice())?;
@@ -64,4 +65,19 @@ pub fn read_policy(alloc: Global, schema: &Schema, bytes: &[u8]) -> Result<Polic
         params,
         views,
     })
+}
+
+/// The policy that a file is: `{ CREATE VIEW word AS select ; }`. It has no parameters, and a copy of the schema.
+///
+/// The file has at most 1,048,576 bytes, is UTF-8 and has no comment; it may be empty. A view's name is any unquoted word. Each select
+/// is as in a question. There are at most 128 views, no two of one name. All else is `Unbuilt`.
+pub fn read_policy(alloc: Global, schema: &Schema, bytes: &[u8]) -> Result<Policy, PlainError>
+    ensures exact { Gives result (plain_policy_of schema.now bytes.now) }
+    // The grammar, the schema's names and the limits say what a file reads as.
+    ensures reads { IfOk result (ReadsPolicy schema.now bytes.now) }
+    ensures unbuilt { IsErrOf result PlainError.Unbuilt
+        → (policy : Policy) → ReadsPolicy schema.now bytes.now policy → ⊥ }
+    ensures plain { IfOk result (IsPlainPolicy schema.now) }
+{
+    policy_of(alloc, schema, bytes)
 }

@@ -1,7 +1,9 @@
 //! Schemas.
-ghost use Rattle.std.specs.Prelude.{◌≡◌};
+ghost use Rattle.std.specs.Prelude.{◌≡◌, IfOk, IsErrOf};
 ghost use Rattle.std.specs.List.{list_all};
+ghost use Rattle.ba_model.specs.declared.schema.Schema.{Schema};
 ghost use Rattle.ba_plain.specs.Errors.{Gives};
+ghost use Rattle.ba_plain.specs.Files.{IsPlainSchema, ReadsSchema};
 ghost use Rattle.ba_plain.specs.Meaning.{are_tables, has_columns};
 ghost use Rattle.ba_plain.specs.Texts.{plain_schema_of};
 
@@ -38,10 +40,9 @@ fn are_tables(tables: &[Table]) -> bool
     tables.len() <= MOST_TABLES && are_distinct(tables) && all_have_columns(tables)
 }
 
-/// The schema that a file is: `{ CREATE TABLE name ( column {, column} ) ; }`, with `name (INT | TEXT) NOT NULL` for a column.
 #[tactic(auto, unfolding(crate::specs::Texts::plain_schema_of))]
-pub fn read_schema(alloc: Global, bytes: &[u8]) -> Result<Schema, PlainError>
-    ensures exact { Gives result (plain_schema_of bytes.now) }
+fn schema_of(alloc: Global, bytes: &[u8]) -> Result<Schema, PlainError>
+    ensures { Gives result (plain_schema_of bytes.now) }
 {
     let words = file_words(alloc, bytes, MOST_BYTES)?;
     let tables = tables(alloc, words.as_slice())?;
@@ -50,4 +51,19 @@ pub fn read_schema(alloc: Global, bytes: &[u8]) -> Result<Schema, PlainError>
     }
     let rules = List::new(alloc);
     Ok(Schema { tables, rules })
+}
+
+/// The schema that a file is: `{ CREATE TABLE name ( column {, column} ) ; }`, with `name (INT | TEXT) NOT NULL` for a column.
+///
+/// The file has at most 1,048,576 bytes, is UTF-8 and has no comment; it may be empty. Names are unquoted words that neither queries
+/// nor schemas reserve. There are at most 64 tables of at most 32 columns, no two of one name. All else is `Unbuilt`.
+pub fn read_schema(alloc: Global, bytes: &[u8]) -> Result<Schema, PlainError>
+    ensures exact { Gives result (plain_schema_of bytes.now) }
+    // The grammar and the limits say what a file reads as.
+    ensures reads { IfOk result (ReadsSchema bytes.now) }
+    ensures unbuilt { IsErrOf result PlainError.Unbuilt
+        → (schema : Schema) → ReadsSchema bytes.now schema → ⊥ }
+    ensures plain { IfOk result IsPlainSchema }
+{
+    schema_of(alloc, bytes)
 }
