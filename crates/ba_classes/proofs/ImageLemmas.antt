@@ -86,21 +86,23 @@ module _ (facts : List Difference) (consistent : ¬ (IsAbsurd facts)) where
       (λ up. absurd (consistent (record { node = x; sum = s.sum; above = omega (arith, ints, s.enough); chain = s.chain })))
       (λ down. down)
 
+  only_zero : (p : ℕ × ℤ) → Contains ((0, pos 0) ∷ []) p → (0, pos 0) ≡ p
+  only_zero p c = ⊎_elim (λ e. e) (λ (h : Contains [] p). absurd (omega (arith, h.1))) (Contains-cases p (0, pos 0) [] c)
+
   pub Meets-zero : Meets facts ((0, pos 0) ∷ [])
-  Meets-zero x y v w k h g s =
-      let left = only (x, v) h in
-      let right = only (y, w) g in
-      let loop : Shows facts 0 k 0 = subst (λ n. Shows facts n k 0) (sym (ap (λ (p : ℕ × ℤ). p.0) left)) (subst (λ n. Shows facts x k n) (sym (ap (λ (p : ℕ × ℤ). p.0) right)) s) in
-      omega (arith, ints, no_rise 0 k loop, ap (λ (p : ℕ × ℤ). p.1) left, ap (λ (p : ℕ × ℤ). p.1) right)
-    where
-      only : (p : ℕ × ℤ) → Contains ((0, pos 0) ∷ []) p → (0, pos 0) ≡ p
-      only p c = ⊎_elim (λ e. e) (λ (h : Contains [] p). absurd (omega (arith, h.1))) (Contains-cases p (0, pos 0) [] c)
+  Meets-zero = record {
+    each = λ x y v w k h g s.
+        let left = only_zero (x, v) h in
+        let right = only_zero (y, w) g in
+        let loop : Shows facts 0 k 0 = subst (λ n. Shows facts n k 0) (sym (ap (λ (p : ℕ × ℤ). p.0) left)) (subst (λ n. Shows facts x k n) (sym (ap (λ (p : ℕ × ℤ). p.0) right)) s) in
+        omega (arith, ints, no_rise 0 k loop, ap (λ (p : ℕ × ℤ). p.1) left, ap (λ (p : ℕ × ℤ). p.1) right);
+  }
 
   module _ (valued : List (ℕ × ℤ)) (meets : Meets facts valued) (used : List ℤ) (node : ℕ) (value : ℤ) where
     -- a lower bound isn't above an upper bound
     in_order : (l h : ℤ) → IsAtLeast facts valued node l → IsAtMost facts valued node h → l ≤ℤ h
     in_order l h a b =
-        let across = meets a.other b.other a.value b.value (a.gap +ℤ b.gap) a.has_value b.has_value (Shows-then _ (omega (arith, ints)) a.shown b.shown) in
+        let across = meets.each a.other b.other a.value b.value (a.gap +ℤ b.gap) a.has_value b.has_value (Shows-then _ (omega (arith, ints)) a.shown b.shown) in
         omega (arith, ints, across, a.enough, b.enough)
 
     above_low : (low high : Option ℤ) → IsGreatest (IsAtLeast facts valued node) low → IsValueBetween used low high value → (c : ℤ) → IsAtLeast facts valued node c → c ≤ℤ value
@@ -128,12 +130,12 @@ module _ (facts : List Difference) (consistent : ¬ (IsAbsurd facts)) where
       one_of : (x : ℕ) (v : ℤ) → ◌≡◌ {A = ℕ × ℤ} (node, value) (x, v) → (node ≡ x) × (value ≡ v)
       one_of x v e = (ap (λ (p : ℕ × ℤ). p.0) e, ap (λ (p : ℕ × ℤ). p.1) e)
 
-      pub Meets-more : Meets facts (valued ++ (node, value) ∷ [])
-      Meets-more x y v w k h g s =
+      each_more : (x y : ℕ) (v w k : ℤ) → Contains (valued ++ (node, value) ∷ []) (x, v) → Contains (valued ++ (node, value) ∷ []) (y, w) → Shows facts x k y → (v +ℤ k) ≤ℤ w
+      each_more x y v w k h g s =
           ⊎_elim
           (λ (old : Contains valued (x, v)).
           ⊎_elim
-          (λ (old_too : Contains valued (y, w)). meets x y v w k old old_too s)
+          (λ (old_too : Contains valued (y, w)). meets.each x y v w k old old_too s)
           (λ (e : (node, value) ≡ (y, w)). let new = one_of y w e in omega (arith, ints, new.1, meets_low x v k old (subst (λ n. Shows facts x k n) (sym new.0) s)))
           (Contains-push_cases valued (node, value) (y, w) g))
           (λ (e : (node, value) ≡ (x, v)).
@@ -144,6 +146,9 @@ module _ (facts : List Difference) (consistent : ¬ (IsAbsurd facts)) where
           (λ (f : (node, value) ≡ (y, w)). let new = one_of y w f in omega (arith, ints, here.1, new.1, no_rise node k (subst (λ n. Shows facts node k n) (sym new.0) t)))
           (Contains-push_cases valued (node, value) (y, w) g))
           (Contains-push_cases valued (node, value) (x, v) h)
+
+      pub Meets-more : Meets facts (valued ++ (node, value) ∷ [])
+      Meets-more = record { each = each_more }
 
 -- pairs of two lists with one more element each
 zip-push : (xs : List ℕ) (vs : List ℤ) (x : ℕ) (v : ℤ) → length vs ≡ length xs → zip (xs ++ x ∷ []) (vs ++ v ∷ []) ≡ zip xs vs ++ (x, v) ∷ []

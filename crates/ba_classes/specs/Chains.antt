@@ -13,7 +13,7 @@ pub record Shows (facts : List Difference) (x : ℕ) (k : ℤ) (y : ℕ) : Type 
   pub enough : k ≤ℤ sum
   pub chain : Chain facts x sum y
 
--- no whole numbers meet the facts: a chain from a node to itself sums above 0
+-- a chain of the facts from a node to itself sums above 0, so that no whole numbers make them true
 pub record IsAbsurd (facts : List Difference) : Type 0 where
   pub node : ℕ
   pub sum : ℤ

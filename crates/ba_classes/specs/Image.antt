@@ -76,8 +76,8 @@ pub record IsImage (facts : List Difference) (used : List ℤ) (nodes : List ℕ
       IsValue facts (with_zero (take i nodes) (take i values)) (used ++ take i values) (slice_index nodes i) (slice_index_or values i (pos 0))
 
 -- the values make true what the facts show of their nodes
-abbrev pub Meets : List Difference → List (ℕ × ℤ) → Type 0
-Meets facts valued = (x y : ℕ) (v w k : ℤ) → Contains valued (x, v) → Contains valued (y, w) → Shows facts x k y → (v +ℤ k) ≤ℤ w
+pub record Meets (facts : List Difference) (valued : List (ℕ × ℤ)) : Type 0 where
+  pub each : (x y : ℕ) (v w k : ℤ) → Contains valued (x, v) → Contains valued (y, w) → Shows facts x k y → (v +ℤ k) ≤ℤ w
 
 -- the greater or the lesser of a bound, if there is one, and a number
 abbrev pub greater_of : Option ℤ → ℤ → ℤ

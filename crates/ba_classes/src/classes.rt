@@ -37,7 +37,7 @@ impl Classes {
     }
 
     /// How many terms there are: the number of the next one.
-    pub fn len(&self) -> u64
+    pub fn terms(&self) -> u64
         ensures { result ≡ self.now.terms }
     {
         self.labels.len() as u64

@@ -113,8 +113,8 @@ impl Order {
     /// one. Where all numbers between two bounds are used it is the lower bound. A number is used
     /// where it is in `used` or was given to a node before.
     ///
-    /// `AllocError` also where a number passes 128 bits, which takes more than `2^28` nodes or a
-    /// number of `used` that is near that limit.
+    /// `AllocError` comes also where a number would pass 128 bits: with sums of chains of at most
+    /// `2^97`, that takes more than `2^28` nodes.
     pub fn solve(
         &self,
         alloc: Global,

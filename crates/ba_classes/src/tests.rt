@@ -6,7 +6,7 @@ use std::test::Fail;
 #[test]
 fn merged_terms_are_the_same(rt: HostRuntime) -> Result<(), Fail> {
     let mut classes = Classes::new(rt.alloc(), 4)?;
-    assert!(rt; classes.len() == 4);
+    assert!(rt; classes.terms() == 4);
     classes.merge(3, 1)?;
     classes.merge(2, 3)?;
     for (a, b, same) in [(1, 2, true), (0, 1, false), (3, 3, true)] {
@@ -22,7 +22,7 @@ fn terms_are_added_and_copied(rt: HostRuntime) -> Result<(), Fail> {
     let term = classes.add()?;
     assert_eq!(rt; term, 1);
     let copy = classes.copy(rt.alloc())?;
-    assert!(rt; copy.len() == 2);
+    assert!(rt; copy.terms() == 2);
     assert!(rt; !copy.same(0, 1));
     Ok(())
 }
