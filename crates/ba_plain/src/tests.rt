@@ -6,7 +6,8 @@ use ba_model::value::Value;
 use std::alloc::{AllocError, Global};
 use std::test::Fail;
 
-const SCHEMA: &str = "CREATE TABLE Users (UId INT NOT NULL, Name TEXT NOT NULL); CREATE TABLE Events (EId INT NOT NULL, Title TEXT NOT NULL, Duration INT NOT NULL);";
+const SCHEMA: &str =
+    "CREATE TABLE Users (UId INT NOT NULL, Name TEXT NOT NULL); CREATE TABLE Events (EId INT NOT NULL, Title TEXT NOT NULL, Duration INT NOT NULL);";
 
 fn schema(alloc: Global) -> Result<Schema, PlainError> {
     read_schema(alloc, SCHEMA.as_bytes())
@@ -17,7 +18,10 @@ fn is_schema(alloc: Global, text: &str) -> bool {
 }
 
 fn is_unbuilt_schema(alloc: Global, text: &str) -> bool {
-    matches!(read_schema(alloc, text.as_bytes()), Err(PlainError::Unbuilt))
+    matches!(
+        read_schema(alloc, text.as_bytes()),
+        Err(PlainError::Unbuilt)
+    )
 }
 
 fn is_unbuilt_question(alloc: Global, schema: &Schema, text: &str) -> bool {
@@ -25,7 +29,10 @@ fn is_unbuilt_question(alloc: Global, schema: &Schema, text: &str) -> bool {
 }
 
 fn is_unbuilt_policy(alloc: Global, schema: &Schema, text: &str) -> bool {
-    matches!(read_policy(alloc, schema, text.as_bytes()), Err(PlainError::Unbuilt))
+    matches!(
+        read_policy(alloc, schema, text.as_bytes()),
+        Err(PlainError::Unbuilt)
+    )
 }
 
 /// `piece` so often, with `between` between.
@@ -115,11 +122,13 @@ fn a_question(rt: HostRuntime) -> Result<(), Fail> {
     assert!(rt; head[2].same(&Operand::Col(0, 1)));
     let conds = part.conds.as_slice();
     assert_eq!(rt; conds.len(), 1);
-    assert!(rt; conds[0].same(&Atom {
-        op: Op::Eq,
-        left: Operand::Col(0, 2),
-        right: Operand::Val(Value::Int(-5)),
-    }));
+    assert!(rt;
+        conds[0].same(&Atom {
+            op: Op::Eq,
+            left: Operand::Col(0, 2),
+            right: Operand::Val(Value::Int(-5)),
+        })
+    );
     Ok(())
 }
 
@@ -156,14 +165,19 @@ fn other_questions(rt: HostRuntime) -> Result<(), Fail> {
 #[test]
 fn a_policy_of_two_views(rt: HostRuntime) -> Result<(), Fail> {
     let schema = schema(rt.alloc())?;
-    let text = "CREATE VIEW V1 AS SELECT UId, Name FROM Users; create view select as SELECT Title FROM Events WHERE EId = 5;";
+    let text =
+        "CREATE VIEW V1 AS SELECT UId, Name FROM Users; create view select as SELECT Title FROM Events WHERE EId = 5;";
     let policy = read_policy(rt.alloc(), &schema, text.as_bytes())?;
     assert!(rt; policy.schema.same(&schema));
     assert_eq!(rt; policy.params.len(), 0);
     let views = policy.views.as_slice();
     assert_eq!(rt; views.len(), 2);
     assert_eq!(rt; views[1].name.as_str(), "select");
-    let asked = read_question(rt.alloc(), &schema, "SELECT Title FROM Events WHERE EId = 5")?;
+    let asked = read_question(
+        rt.alloc(),
+        &schema,
+        "SELECT Title FROM Events WHERE EId = 5",
+    )?;
     assert!(rt; views[1].query.same(&asked));
     Ok(())
 }
@@ -232,9 +246,19 @@ fn limits_of_tables(rt: HostRuntime) -> Result<(), Fail> {
 #[test]
 fn limits_of_policies(rt: HostRuntime) -> Result<(), Fail> {
     let schema = schema(rt.alloc())?;
-    let views = numbered(rt.alloc(), "CREATE VIEW V", " AS SELECT UId FROM Users;", 128)?;
+    let views = numbered(
+        rt.alloc(),
+        "CREATE VIEW V",
+        " AS SELECT UId FROM Users;",
+        128,
+    )?;
     assert!(rt; read_policy(rt.alloc(), &schema, views.as_str().as_bytes()).is_ok());
-    let more = numbered(rt.alloc(), "CREATE VIEW V", " AS SELECT UId FROM Users;", 129)?;
+    let more = numbered(
+        rt.alloc(),
+        "CREATE VIEW V",
+        " AS SELECT UId FROM Users;",
+        129,
+    )?;
     assert!(rt; is_unbuilt_policy(rt.alloc(), &schema, more.as_str()));
     Ok(())
 }
