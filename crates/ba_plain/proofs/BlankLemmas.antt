@@ -1,10 +1,10 @@
 -- What stands between tokens, one token after the other.
-use Rattle.std.proofs.Common.{◌≡◌, ℕ, suc, ◌+◌, ◌-◌, ◌<◌, ◌≤◌, Bool, true, false, ◌&&◌, List, [], ◌∷◌, length, take, drop, get_or, refl, sym, ap, subst, ◌∙◌, arith, slice_range}
+use Rattle.std.proofs.Common.{◌≡◌, ℕ, ◌+◌, ◌<◌, ◌≤◌, true, false, ◌&&◌, List, ◌∷◌, length, drop, get_or, sym, ap, subst, ◌∙◌, arith, slice_range}
 use Rattle.std.specs.List.{list_all}
 use Rattle.std.proofs.lemmas.Bool.{and_left}
 use Rattle.std.proofs.lemmas.List.{drop_all, drop_more, take_rest}
 use Rattle.ba_lex.specs.Reading.{AreSpans}
-use Rattle.ba_lex.specs.Spelling.{IsToken, is_blank}
+use Rattle.ba_lex.specs.Spelling.{is_blank}
 use Rattle.ba_lex.specs.declared.token.Token.{Token}
 use Rattle.ba_plain.specs.Words.{only_blanks}
 

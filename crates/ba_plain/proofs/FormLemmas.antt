@@ -1,13 +1,12 @@
 -- A select, a table, a view: what is read is spelled so, and what is spelled so is read.
-use Rattle.std.proofs.Common.{◌≡◌, ◌≢◌, ℕ, ℤ, Bool, true, false, cond, List, [], ◌∷◌, ◌++◌, length, map, codes, All, Option, Some, None, Result, Ok, Err, refl, sym, ap, subst, ◌∙◌}
-use Rattle.std.specs.List.{AllByRecursion, flat_map}
+use Rattle.std.proofs.Common.{◌≡◌, ◌≢◌, ℕ, ℤ, Bool, true, false, List, [], ◌∷◌, ◌++◌, map, codes, Option, Some, None, Ok, refl, sym, ap, subst, ◌∙◌}
+use Rattle.std.specs.List.{AllByRecursion}
 use Rattle.std.specs.Char.{to_ascii_lowercase}
 use Rattle.std.specs.Str.{bytes_eq}
 use Rattle.std.proofs.lemmas.Slice.Eq.{bytes_eq-Decides}
 use Rattle.ba_lex.specs.Word.{is_word}
 use Rattle.std.proofs.lemmas.List.Elements.{All-from_recursion, recursion_from_All}
 use Rattle.ba_lex.specs.declared.token.Lexeme.{Lexeme}
-use Rattle.ba_lex.specs.declared.token.Lexeme.TheVariants as lexemes
 use Rattle.ba_lex.specs.declared.token.Sign.TheVariants.{Comma, Equal, LeftParen, RightParen, Semicolon}
 use Rattle.ba_model.specs.declared.schema.Column.{Column}
 use Rattle.ba_model.specs.declared.schema.Kind.{Kind}
@@ -16,14 +15,12 @@ use Rattle.ba_model.specs.declared.schema.Table.{Table}
 use Rattle.ba_plain.specs.Errors.{◌>>=◌}
 use Rattle.ba_plain.specs.Grammar.{IsPlainTable, Item, Spells, column_items, condition_items, kind_word, name_items, select_items, table_items, view_items, with_commas}
 use Rattle.ba_plain.specs.Grammar.Item.{any, keyword, name, number, sign}
-use Rattle.ba_plain.specs.Reader.{Read, any_at, begins, column_at, condition_at, is_keyword, is_sign, kind_at, kind_of, listed, name_at, names_at, number_at, past, select_at, table_at, view_at}
-use Rattle.ba_plain.specs.declared.error.Unbuilt.{Unbuilt}
-use Rattle.ba_plain.specs.declared.error.Unbuilt.TheVariants.{Unbuilt as unbuilt}
+use Rattle.ba_plain.specs.Reader.{Read, any_at, begins, column_at, condition_at, is_keyword, is_sign, kind_at, listed, name_at, names_at, number_at, past, select_at, table_at, view_at}
 use Rattle.ba_plain.specs.declared.form.Condition.{Condition}
 use Rattle.ba_plain.specs.declared.form.Select.{Select}
 use Rattle.ba_plain.specs.declared.form.ViewText.{ViewText}
 use Rattle.ba_plain.proofs.ListedLemmas.{HasWord, IsComplete, IsSound, ReadsListed, listed_complete, listed_sound}
-use Rattle.ba_plain.proofs.WordLemmas.{Takes, any_read, bind_ok, err_ok, keyword_no_sign, keyword_spelled, name_read, number_read, ok_same, parts, past_keyword, past_sign, sign_no_keyword, sign_spelled, spelled_keyword, takes_any, takes_keyword, takes_name, takes_number, takes_sign, then}
+use Rattle.ba_plain.proofs.WordLemmas.{Takes, any_read, bind_ok, err_ok, keyword_no_sign, keyword_spelled, name_read, number_read, ok_same, parts, past_keyword, past_sign, sign_no_keyword, spelled_keyword, takes_any, takes_keyword, takes_name, takes_number, takes_sign, then}
 
 abbrev Always : {X : Type 0} → X → Type 0
 Always x = Unit {0}

@@ -1,15 +1,13 @@
 -- Several of one sort, each spelled by its items: what is read is spelled so, and what is spelled so is read.
-use Rattle.std.proofs.Common.{◌≡◌, ◌≢◌, ℕ, zero, suc, ◌+◌, ◌≤◌, Bool, true, false, cond, List, [], ◌∷◌, ◌++◌, length, drop, map, Result, Ok, Err, refl, sym, ap, subst, ◌∙◌, arith}
+use Rattle.std.proofs.Common.{◌≡◌, ◌≢◌, ℕ, zero, suc, ◌≤◌, Bool, true, false, List, [], ◌∷◌, length, map, Result, Ok, refl, sym, ap, subst, ◌∙◌, arith}
 use Rattle.std.specs.List.{AllByRecursion, flat_map}
 use Rattle.std.proofs.lemmas.List.{length-append}
 use Rattle.ba_lex.specs.declared.token.Lexeme.{Lexeme}
 use Rattle.ba_lex.specs.declared.token.Sign.TheVariants.{Comma}
 use Rattle.ba_plain.specs.Errors.{◌>>=◌}
-use Rattle.ba_plain.specs.Grammar.{Item, Spells, after_commas, with_commas}
-use Rattle.ba_plain.specs.Grammar.Item.{sign}
+use Rattle.ba_plain.specs.Grammar.{Item, after_commas, with_commas}
 use Rattle.ba_plain.specs.Reader.{Read, all, begins, is_sign, listed, more}
 use Rattle.ba_plain.specs.declared.error.Unbuilt.{Unbuilt}
-use Rattle.ba_plain.specs.declared.error.Unbuilt.TheVariants.{Unbuilt as unbuilt}
 use Rattle.ba_plain.proofs.WordLemmas.{Takes, bind_ok, err_ok, ok_same, parts, sign_spelled, spelled_sign, takes_size, then}
 
 -- what item reads is spelled by items_of it, and is as P says; and what is spelled so, as P says, is read

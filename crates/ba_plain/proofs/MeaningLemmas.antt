@@ -1,15 +1,15 @@
 -- What a select means, by the function and in the grammar's terms.
-use Rattle.std.proofs.Common.{◌≡◌, ◌≢◌, ℕ, zero, suc, ◌+◌, ◌≤◌, ◌<◌, ◌^◌, Bool, true, false, cond, nat_le, nat_lt, List, [], ◌∷◌, length, map, All, get_or, slice_get, Option, Some, None, option_and_then, option_map, Result, Ok, Err, refl, sym, ap, subst, ◌∙◌, arith}
-use Rattle.std.specs.List.{AllZip, position, position_or_len}
+use Rattle.std.proofs.Common.{◌≡◌, ◌≢◌, ℕ, ◌≤◌, ◌<◌, Bool, true, false, cond, nat_le, nat_lt, List, [], ◌∷◌, length, map, All, get_or, slice_get, Option, Some, None, Result, Ok, Err, refl, sym, ap, subst, ◌∙◌, arith}
+use Rattle.std.specs.List.{AllZip, position_or_len}
 use Rattle.std.specs.Str.{bytes_eq}
-use Rattle.std.proofs.lemmas.Bool.{le-leb, leb-true, lt-leb, ltb-true}
+use Rattle.std.proofs.lemmas.Bool.{le-leb, leb-true, ltb-true}
 use Rattle.std.proofs.lemmas.List.{length-map}
 use Rattle.std.proofs.lemmas.List.Elements.{All-from_recursion}
 use Rattle.std.proofs.lemmas.Option.{slice_get-get_or}
-use Rattle.ba_model.specs.Fit.{AtomFits, PartFits, QueryFits, column_kind, kind_of}
+use Rattle.ba_model.specs.Fit.{AtomFits, PartFits, column_kind, kind_of}
 use Rattle.ba_model.specs.declared.query.Atom.{Atom}
 use Rattle.ba_model.specs.declared.query.Operand.{Operand}
-use Rattle.ba_model.specs.declared.query.Operand.TheVariants.{Col, Val}
+use Rattle.ba_model.specs.declared.query.Operand.TheVariants.{Col}
 use Rattle.ba_model.specs.declared.query.Part.{Part}
 use Rattle.ba_model.specs.declared.query.Query.{Query}
 use Rattle.ba_model.specs.declared.schema.Column.{Column}
@@ -20,7 +20,7 @@ use Rattle.ba_model.specs.declared.schema.Table.{Table}
 use Rattle.ba_plain.specs.Errors.{◌>>=◌, each}
 use Rattle.ba_plain.specs.Meaning.{atom_of, column_of, conds_of, equation, head_of, if_int, plain_query, query_of, query_over, there}
 use Rattle.ba_plain.specs.Names.{HasNumber, as_number, number_of, place_of}
-use Rattle.ba_plain.specs.Question.{HasColumn, HasTable, IsCondition, IsEquation, IsPlainQuery, IsQueryOf}
+use Rattle.ba_plain.specs.Question.{HasColumn, IsCondition, IsEquation, IsPlainQuery, IsQueryOf}
 use Rattle.ba_plain.specs.declared.error.Unbuilt.{Unbuilt}
 use Rattle.ba_plain.specs.declared.error.Unbuilt.TheVariants.{Unbuilt as unbuilt}
 use Rattle.ba_plain.specs.declared.form.Condition.{Condition}

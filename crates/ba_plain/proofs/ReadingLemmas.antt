@@ -1,7 +1,7 @@
 -- A text, by the function and in the grammar's terms.
-use Rattle.std.proofs.Common.{◌≡◌, ◌≢◌, ◌↔◌, ℕ, ◌≤◌, Bool, true, false, not, ◌&&◌, cond, nat_le, List, [], ◌∷◌, length, map, All, Decides, Result, Ok, Err, refl, sym, ap, subst, ◌∙◌, arith}
-use Rattle.std.specs.List.{AllByRecursion, AllPairs, AllZip, IsDistinct, flat_map, list_all, list_any}
-use Rattle.std.specs.Result.{IfOk, IsErrOf}
+use Rattle.std.proofs.Common.{◌≡◌, ℕ, Bool, true, false, not, ◌&&◌, cond, nat_le, List, [], ◌∷◌, length, map, Result, Ok, Err, refl, sym, ap, subst, ◌∙◌, arith}
+use Rattle.std.specs.List.{AllByRecursion, AllZip, IsDistinct, flat_map, list_all, list_any}
+use Rattle.std.specs.Result.{IfOk}
 use Rattle.std.specs.Str.{bytes_eq}
 use Rattle.std.proofs.lemmas.Bool.{and_from, and_parts, false≢true, false_from_ne_true, le-leb, leb-true, not_from_false, not-true, or_from, or_parts}
 use Rattle.std.proofs.lemmas.List.Elements.{All-from_recursion, recursion_from_All}
@@ -11,21 +11,21 @@ use Rattle.ba_lex.specs.Tokens.{file_tokens_of, lexemes_of, tokens_of}
 use Rattle.ba_lex.specs.declared.token.LexFault.{LexFault}
 use Rattle.ba_lex.specs.declared.token.Lexeme.{Lexeme}
 use Rattle.ba_lex.specs.declared.token.Token.{Token}
-use Rattle.ba_model.specs.Fit.{PolicyFits, QueryFits, kinds_of}
+use Rattle.ba_model.specs.Fit.{QueryFits}
 use Rattle.ba_model.specs.declared.policy.Policy.{Policy}
 use Rattle.ba_model.specs.declared.policy.View.{View}
 use Rattle.ba_model.specs.declared.query.Query.{Query}
 use Rattle.ba_model.specs.declared.schema.Schema.{Schema}
 use Rattle.ba_model.specs.declared.schema.Table.{Table}
-use Rattle.ba_plain.specs.Errors.{◌>>=◌, Fails, Gives, each}
+use Rattle.ba_plain.specs.Errors.{◌>>=◌, Gives, each}
 use Rattle.ba_plain.specs.Files.{AllDiffer, ColumnsFit, IsPlainPolicy, IsPlainSchema, IsViewOf, ReadsPolicy, ReadsSchema, TablesFit, ViewsFit}
-use Rattle.ba_plain.specs.Grammar.{AreTables, AreViews, IsPlainTable, IsSelect, select_items, table_items, view_items}
+use Rattle.ba_plain.specs.Grammar.{AreTables, AreViews, IsPlainTable, select_items, table_items, view_items}
 use Rattle.ba_plain.specs.Meaning.{are_tables, are_views, has_columns, query_of, view_of}
 use Rattle.ba_plain.specs.Names.{are_distinct}
-use Rattle.ba_plain.specs.Question.{IsPlainQuery, IsQueryOf, ReadsQuestion}
-use Rattle.ba_plain.specs.Reader.{Read, all, select_at, table_at, view_at}
+use Rattle.ba_plain.specs.Question.{IsPlainQuery, ReadsQuestion}
+use Rattle.ba_plain.specs.Reader.{all, select_at, table_at, view_at}
 use Rattle.ba_plain.specs.Texts.{ended, plain_policy_of, plain_question_of, plain_schema_of, policy_of, schema_of}
-use Rattle.ba_plain.specs.Words.{AreWords, file_words, only_blanks, text_words, words_of, words_read}
+use Rattle.ba_plain.specs.Words.{AreWords, file_words, only_blanks, text_words, words_read}
 use Rattle.ba_plain.specs.declared.error.PlainError.{PlainError}
 use Rattle.ba_plain.specs.declared.error.PlainError.TheVariants as errors
 use Rattle.ba_plain.specs.declared.error.Unbuilt.{Unbuilt}
@@ -33,9 +33,9 @@ use Rattle.ba_plain.specs.declared.error.Unbuilt.TheVariants.{Unbuilt as unbuilt
 use Rattle.ba_plain.specs.declared.form.Select.{Select}
 use Rattle.ba_plain.specs.declared.form.ViewText.{ViewText}
 use Rattle.ba_plain.proofs.FormLemmas.{HasHead, IsSelectRead, select_complete, select_sound, table_complete, table_has_word, table_sound, view_complete, view_has_word, view_sound}
-use Rattle.ba_plain.proofs.ListedLemmas.{ReadsAll, all_read, all_sound}
+use Rattle.ba_plain.proofs.ListedLemmas.{all_read, all_sound}
 use Rattle.ba_plain.proofs.MeaningLemmas.{plain_fits, query_complete, query_sound}
-use Rattle.ba_plain.proofs.WordLemmas.{Takes, bind_ok, err_ok, from_spelled, ok_same, to_spelled}
+use Rattle.ba_plain.proofs.WordLemmas.{bind_ok, err_ok, from_spelled, ok_same, to_spelled}
 
 -- ---- words
 

@@ -1,8 +1,6 @@
 -- What is read at the front is spelled so, and what is spelled so is read.
-use Rattle.std.proofs.Common.{◌≡◌, ◌≢◌, ℕ, zero, suc, ◌+◌, ◌≤◌, ◌<◌, ℤ, Bool, true, false, cond, List, [], ◌∷◌, ◌++◌, length, drop, map, Option, Some, None, Result, Ok, Err, ◌⊎◌, inl, inr, refl, sym, ap, subst, ◌∙◌, arith}
-use Rattle.std.specs.List.{AllZip, flat_map}
+use Rattle.std.proofs.Common.{◌≡◌, ℕ, zero, suc, ◌+◌, ℤ, Bool, true, false, cond, List, [], ◌∷◌, ◌++◌, length, Result, Ok, Err, refl, sym, ap, subst, ◌∙◌, arith}
 use Rattle.std.proofs.lemmas.Bool.{eqb-true, eq-eqb}
-use Rattle.ba_lex.specs.Word.{is_word}
 use Rattle.ba_lex.specs.declared.token.Lexeme.{Lexeme}
 use Rattle.ba_lex.specs.declared.token.Lexeme.TheVariants.{Word, Quoted, Number, Text, Param, Sign as SignWord}
 use Rattle.ba_lex.specs.declared.token.Sign.{Sign}
@@ -10,7 +8,7 @@ use Rattle.ba_lex.specs.declared.token.Sign.TheVariants.{LeftParen, RightParen, 
 use Rattle.ba_plain.specs.Errors.{◌>>=◌}
 use Rattle.ba_plain.specs.Grammar.{AreSpelled, Item, Spells, is_reserved, sign_number}
 use Rattle.ba_plain.specs.Grammar.Item.{any, keyword, name, number, sign}
-use Rattle.ba_plain.specs.Reader.{Read, any_at, begins, is_keyword, is_sign, name_at, number_at, past}
+use Rattle.ba_plain.specs.Reader.{any_at, begins, is_keyword, is_sign, name_at, number_at, past}
 use Rattle.ba_plain.specs.declared.error.Unbuilt.{Unbuilt}
 use Rattle.ba_plain.specs.declared.error.Unbuilt.TheVariants.{Unbuilt as unbuilt}
 

@@ -1,5 +1,5 @@
 -- Which schema and which policy a file is, in the grammar's terms.
-use Rattle.std.specs.Prelude.{◌≡◌, ◌≢◌, ◌≤◌, ◌↔◌, ℕ, List, [], ◌∷◌, map, length, All, AllPairs, Ok}
+use Rattle.std.specs.Prelude.{◌≡◌, ◌≢◌, ◌≤◌, ◌↔◌, ℕ, List, [], map, length, All, AllPairs, Ok}
 use Rattle.std.specs.List.{AllZip}
 use Rattle.ba_lex.specs.Tokens.{file_tokens_of}
 use Rattle.ba_lex.specs.declared.token.Lexeme.{Lexeme}

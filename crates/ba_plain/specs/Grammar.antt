@@ -1,9 +1,9 @@
 -- The plain form of texts: which words spell a select, a table, a view.
-use Rattle.std.specs.Prelude.{◌≡◌, ◌≢◌, ℕ, ℤ, Bool, true, false, not, IsTrue, List, [], ◌∷◌, ◌++◌, map, All, Option, Some, None, codes}
+use Rattle.std.specs.Prelude.{◌≡◌, ◌≢◌, ℕ, ℤ, Bool, false, IsTrue, List, [], ◌∷◌, ◌++◌, map, All, Option, Some, None, codes}
 use Rattle.std.specs.List.{AllZip, flat_map, list_any}
 use Rattle.ba_lex.specs.Word.{is_word}
 use Rattle.ba_lex.specs.declared.token.Lexeme.{Lexeme}
-use Rattle.ba_lex.specs.declared.token.Lexeme.TheVariants.{Word, Quoted, Number, Text, Param, Sign as SignWord}
+use Rattle.ba_lex.specs.declared.token.Lexeme.TheVariants.{Word, Number, Sign as SignWord}
 use Rattle.ba_lex.specs.declared.token.Sign.{Sign}
 use Rattle.ba_lex.specs.declared.token.Sign.TheVariants.{LeftParen, RightParen, Comma, Dot, Semicolon, Star, Equal, NotEqual, BangEqual, Less, LessEqual, Greater, GreaterEqual, Plus, Minus, Slash, Percent}
 use Rattle.ba_model.specs.declared.schema.Column.{Column}

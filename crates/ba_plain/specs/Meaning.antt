@@ -1,21 +1,19 @@
 -- What a select, tables and views mean: names by their numbers, within the limits.
-use Rattle.std.specs.Prelude.{◌≡◌, ◌≢◌, ◌≤◌, ℕ, ℤ, Bool, true, false, IsTrue, ◌&&◌, nat_le, List, [], ◌∷◌, map, length, slice_get, Option, Some, None, Result, Ok, Err, if◌then◌else◌}
-use Rattle.std.specs.List.{AllZip, list_all}
-use Rattle.ba_model.specs.declared.policy.Policy.{Policy}
+use Rattle.std.specs.Prelude.{ℕ, ℤ, Bool, ◌&&◌, nat_le, List, [], ◌∷◌, length, slice_get, Option, Some, None, Result, Ok, Err, if◌then◌else◌}
+use Rattle.std.specs.List.{list_all}
 use Rattle.ba_model.specs.declared.policy.View.{View}
 use Rattle.ba_model.specs.declared.query.Atom.{Atom}
 use Rattle.ba_model.specs.declared.query.Op.TheVariants.{Eq}
 use Rattle.ba_model.specs.declared.query.Operand.{Operand}
 use Rattle.ba_model.specs.declared.query.Operand.TheVariants.{Col, Val}
 use Rattle.ba_model.specs.declared.query.Query.{Query}
-use Rattle.ba_model.specs.declared.schema.Column.{Column}
 use Rattle.ba_model.specs.declared.schema.Kind.{Kind}
 use Rattle.ba_model.specs.declared.schema.Kind.TheVariants.{Int as IntKind, Text as TextKind}
 use Rattle.ba_model.specs.declared.schema.Schema.{Schema}
 use Rattle.ba_model.specs.declared.schema.Table.{Table}
 use Rattle.ba_model.specs.declared.value.Value.TheVariants.{Int}
 use Rattle.ba_plain.specs.Errors.{◌>>=◌, each}
-use Rattle.ba_plain.specs.Names.{HasNumber, are_distinct, number_of}
+use Rattle.ba_plain.specs.Names.{are_distinct, number_of}
 use Rattle.ba_plain.specs.declared.error.Unbuilt.{Unbuilt}
 use Rattle.ba_plain.specs.declared.error.Unbuilt.TheVariants.{Unbuilt as unbuilt}
 use Rattle.ba_plain.specs.declared.form.Condition.{Condition}

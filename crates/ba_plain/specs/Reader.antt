@@ -1,5 +1,5 @@
 -- Words read from the left: what stands at their front, and the words behind it.
-use Rattle.std.specs.Prelude.{◌≡◌, ℕ, zero, suc, ℤ, Bool, true, false, ◌==◌, List, [], ◌∷◌, drop, length, Option, Some, None, Result, Ok, Err, codes, if◌then◌else◌}
+use Rattle.std.specs.Prelude.{ℕ, zero, suc, ℤ, Bool, false, ◌==◌, List, [], ◌∷◌, drop, length, Option, Some, None, Result, Ok, Err, codes, if◌then◌else◌}
 use Rattle.ba_lex.specs.Word.{is_word}
 use Rattle.ba_lex.specs.declared.token.Lexeme.{Lexeme}
 use Rattle.ba_lex.specs.declared.token.Lexeme.TheVariants.{Word, Quoted, Number, Text, Param, Sign as SignWord}

@@ -1,5 +1,5 @@
 -- What a text means, if it is of the plain form.
-use Rattle.std.specs.Prelude.{◌≡◌, ℕ, List, [], ◌∷◌, length, Result, Ok, Err, if◌then◌else◌}
+use Rattle.std.specs.Prelude.{ℕ, List, [], ◌∷◌, length, Result, Ok, Err, if◌then◌else◌}
 use Rattle.ba_lex.specs.declared.token.Lexeme.{Lexeme}
 use Rattle.ba_model.specs.declared.policy.Policy.{Policy}
 use Rattle.ba_model.specs.declared.policy.View.{View}
@@ -12,8 +12,6 @@ use Rattle.ba_plain.specs.Reader.{all, select_at, table_at, view_at}
 use Rattle.ba_plain.specs.Words.{file_words, text_words}
 use Rattle.ba_plain.specs.declared.error.Unbuilt.{Unbuilt}
 use Rattle.ba_plain.specs.declared.error.Unbuilt.TheVariants.{Unbuilt as unbuilt}
-use Rattle.ba_plain.specs.declared.form.Select.{Select}
-use Rattle.ba_plain.specs.declared.form.ViewText.{ViewText}
 
 -- no words are left
 abbrev pub ended : {A : Type 0} → A × List Lexeme → Result A Unbuilt

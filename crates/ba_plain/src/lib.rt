@@ -19,3 +19,6 @@ pub use error::{PlainError, Unbuilt};
 pub use policy::read_policy;
 pub use question::read_question;
 pub use schema::read_schema;
+
+#[cfg(test)]
+mod tests;

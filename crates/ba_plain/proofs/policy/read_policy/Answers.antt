@@ -1,4 +1,3 @@
-use Rattle.std.proofs.Common.{◌≡◌, Result, Ok, Err}
 use Rattle.ba_plain.specs.Files.{IsPlainPolicy, ReadsPolicy}
 use Rattle.ba_plain.specs.Texts.{plain_policy_of}
 use Rattle.ba_plain.proofs.ReadingLemmas.{reads, refused, policy_complete, policy_plain, policy_sound}

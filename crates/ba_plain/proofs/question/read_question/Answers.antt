@@ -1,4 +1,3 @@
-use Rattle.std.proofs.Common.{◌≡◌, Result, Ok, Err}
 use Rattle.ba_plain.specs.Question.{IsPlainQuery, ReadsQuestion}
 use Rattle.ba_plain.specs.Texts.{plain_question_of}
 use Rattle.ba_plain.proofs.ReadingLemmas.{reads, refused, question_complete, question_fits, question_sound}

@@ -1,4 +1,3 @@
-use Rattle.std.proofs.Common.{◌≡◌, Result, Ok, Err}
 use Rattle.ba_plain.specs.Files.{IsPlainSchema, ReadsSchema}
 use Rattle.ba_plain.specs.Texts.{plain_schema_of}
 use Rattle.ba_plain.proofs.ReadingLemmas.{reads, refused, schema_complete, schema_plain, schema_sound}

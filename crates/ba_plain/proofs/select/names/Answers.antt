@@ -1,7 +1,7 @@
 use Rattle.std.proofs.Common.{sym, length}
 use Rattle.std.proofs.lemmas.List.{take_rest}
 use Rattle.std.proofs.lemmas.Result.{err_from_is_err_and}
-use Rattle.ba_plain.specs.Reader.{name_at, names_at}
+use Rattle.ba_plain.specs.Reader.{name_at}
 use Rattle.ba_plain.proofs.SeveralLemmas.{fails, goes_on, over, stops}
 use Rattle.ba_plain.proofs.select.names.Goals as goal
 

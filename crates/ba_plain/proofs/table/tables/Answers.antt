@@ -1,4 +1,4 @@
-use Rattle.std.proofs.Common.{sym, length, rules}
+use Rattle.std.proofs.Common.{sym, length}
 use Rattle.std.proofs.lemmas.Bool.{eqb-false, eqb-true}
 use Rattle.std.proofs.lemmas.Result.{err_from_is_err_and}
 use Rattle.ba_plain.specs.Reader.{table_at}
