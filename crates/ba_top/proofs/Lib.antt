@@ -1,0 +1,7 @@
+pub mod WordLemmas
+pub mod ServeLemmas
+pub mod SummaryLemmas
+pub mod PrintLemmas
+pub mod InputLemmas
+pub mod Runs
+pub mod HeadlineLemmas

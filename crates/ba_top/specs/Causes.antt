@@ -1,0 +1,29 @@
+-- When each answer comes.
+use Rattle.std.specs.Prelude.{◌≡◌, Result, Ok, Err, ⊤}
+use Rattle.ba_plan.specs.declared.stop.Stop.{Stop}
+use Rattle.ba_plan.specs.declared.stop.Stop.TheVariants.{Refused, Read as Unreadable, TooLong, NoMemory}
+use Rattle.ba_wire.specs.declared.fault.What.TheVariants.{Bytes}
+use Rattle.ba_top.specs.declared.report.Detail.{Detail}
+use Rattle.ba_top.specs.declared.report.Detail.TheVariants.{Done, Words, Input as BadInput, Read, Write, Memory, Limit}
+use Rattle.ba_top.specs.declared.report.Input.{Input}
+use Rattle.ba_top.specs.declared.report.Refusal.{Refusal}
+use Rattle.ba_top.specs.declared.report.Refusal.TheVariants as refusal
+
+-- what a run comes to, by what the reading of its input comes to, where no sink fails and memory suffices
+abbrev pub settled : Result Input (Stop Refusal) → Detail
+settled (Ok input) = Done
+settled (Err (Refused refusal.Words)) = Words
+settled (Err (Refused (refusal.Input file reason))) = BadInput file reason
+settled (Err (Unreadable file)) = Read file
+settled (Err (TooLong file limit)) = Limit Bytes limit
+settled (Err NoMemory) = Memory
+
+-- an answer that tells of the words or of the files' contents is the one that the reading comes to
+abbrev pub Tells : Detail → Result Input (Stop Refusal) → Type 0
+Tells Done reading = settled reading ≡ Done
+Tells Words reading = settled reading ≡ Words
+Tells (BadInput file reason) reading = settled reading ≡ BadInput file reason
+Tells (Limit what limit) reading = settled reading ≡ Limit what limit
+Tells (Read file) reading = ⊤
+Tells Write reading = ⊤
+Tells Memory reading = ⊤

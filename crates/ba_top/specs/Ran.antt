@@ -1,0 +1,71 @@
+-- What a run may come to.
+use Rattle.std.specs.Prelude.{◌≡◌, ◌⊎◌, ℕ, List, [], ◌∷◌, Option, Some, None, Ok, Err, true, false}
+use Rattle.ba_outside.specs.Seen.{FilesSeen, SinkSeen}
+use Rattle.ba_outside.specs.declared.sink.WriteFail.TheVariants.{Failed, NoMemory as NoRoom}
+use Rattle.ba_plan.specs.Follows.{Follows}
+use Rattle.ba_plan.specs.Sent.{SentLines, WroteLines}
+use Rattle.ba_plan.specs.declared.stop.Stop.{Stop}
+use Rattle.ba_plan.specs.declared.stop.Stop.TheVariants.{Refused, Read as Unreadable, TooLong, NoMemory}
+use Rattle.ba_wire.specs.Printed.{fault_bytes}
+use Rattle.ba_wire.specs.declared.fault.Fault.{Fault}
+use Rattle.ba_wire.specs.declared.fault.Fault.TheVariants as fault
+use Rattle.ba_wire.specs.declared.fault.What.TheVariants.{Bytes}
+use Rattle.ba_top.specs.Legal.{Legal, lacks_memory}
+use Rattle.ba_top.specs.Reading.{plan_of}
+use Rattle.ba_top.specs.Text.{lines_of}
+use Rattle.ba_top.specs.declared.report.Detail.{Detail}
+use Rattle.ba_top.specs.declared.report.Detail.TheVariants.{Done, Words, Input as BadInput, Read, Write, Memory, Limit}
+use Rattle.ba_top.specs.declared.report.Input.{Input}
+use Rattle.ba_top.specs.declared.report.Journal.{Journal}
+use Rattle.ba_top.specs.declared.report.Refusal.{Refusal}
+use Rattle.ba_top.specs.declared.report.Refusal.TheVariants as refusal
+
+-- the exit status of each cause
+abbrev pub status_of : Detail → ℕ
+status_of Done = 0
+status_of Words = 2
+status_of (BadInput file reason) = 3
+status_of (Read file) = 4
+status_of Write = 5
+status_of Memory = 6
+status_of (Limit what limit) = 7
+
+abbrev pub detail_of : Fault → Detail
+detail_of fault.Words = Words
+detail_of (fault.Input file reason) = BadInput file reason
+detail_of (fault.Read file) = Read file
+detail_of (fault.Limit what limit) = Limit what limit
+
+-- How the writing of a journal ends: all is written, and it is done, or some line lacked memory; or a front is written, and the sink
+-- failed or memory ran out.
+abbrev pub EndsRun : Input → Journal → SinkSeen → SinkSeen → Detail → Type 0
+EndsRun input journal s t Done = (lacks_memory journal ≡ false) × WroteLines (lines_of input.script.request journal) s t
+EndsRun input journal s t Write = SentLines {X = Unit {0}} (lines_of input.script.request journal) s t (Err Failed)
+EndsRun input journal s t Memory = ((lacks_memory journal ≡ true) × WroteLines (lines_of input.script.request journal) s t)
+    ⊎ SentLines {X = Unit {0}} (lines_of input.script.request journal) s t (Err NoRoom)
+EndsRun input journal s t Words = ⊥
+EndsRun input journal s t (BadInput file reason) = ⊥
+EndsRun input journal s t (Read file) = ⊥
+EndsRun input journal s t (Limit what limit) = ⊥
+
+-- how the writing of a fault's line ends
+abbrev pub EndsFault : Fault → SinkSeen → SinkSeen → Detail → Type 0
+EndsFault f s t detail = ((detail ≡ detail_of f) × WroteLines (fault_bytes f ∷ []) s t)
+    ⊎ ((detail ≡ Write) × SentLines {X = Unit {0}} (fault_bytes f ∷ []) s t (Err Failed))
+    ⊎ ((detail ≡ Memory) × SentLines {X = Unit {0}} (fault_bytes f ∷ []) s t (Err NoRoom))
+
+-- how a run ends whose input wasn't read: with the line of its fault, or for want of memory with nothing
+abbrev pub EndsStop : Stop Refusal → SinkSeen → SinkSeen → Detail → Type 0
+EndsStop (Refused refusal.Words) s t detail = EndsFault fault.Words s t detail
+EndsStop (Refused (refusal.Input file reason)) s t detail = EndsFault (fault.Input file reason) s t detail
+EndsStop (Unreadable file) s t detail = EndsFault (fault.Read file) s t detail
+EndsStop (TooLong file limit) s t detail = EndsFault (fault.Limit Bytes limit) s t detail
+EndsStop NoMemory s t detail = (detail ≡ Memory) × (t ≡ s)
+
+-- With a journal the input was read, the journal is legal for it, and its text was written, or a front of it.
+-- Without one the input wasn't read, and the line of the fault was written, or a front of it; or memory ran out before writing, and
+-- nothing was written.
+abbrev pub Ran : List (List ℕ) → FilesSeen → FilesSeen → SinkSeen → SinkSeen → Detail → Option Journal → Type 0
+Ran words f g s t detail (Some journal) = (input : Input) × Follows (plan_of words) f g (Ok input) × Legal input journal × EndsRun input journal s t detail
+Ran words f g s t detail None = ((stop : Stop Refusal) × Follows (plan_of words) f g (Err stop) × EndsStop stop s t detail)
+    ⊎ ((input : Input) × Follows (plan_of words) f g (Ok input) × (detail ≡ Memory) × (t ≡ s))

@@ -1,0 +1,15 @@
+//! The top call: words name a schema, a policy, a table set and a script, and each question of the script is answered or
+//! blocked, a line each.
+#![tactic(auto)]
+
+mod input;
+mod print;
+mod report;
+mod script;
+mod serve;
+mod summary;
+mod top;
+mod words;
+
+pub use report::{By, Detail, Entry, Input, Journal, Outcome, Refusal, Reply, Script, Why};
+pub use top::blockaid;

@@ -1,0 +1,117 @@
+//! Writes the lines of a run.
+ghost use Rattle.std.specs.Prelude.{◌≡◌, [], ◌∷◌, IfOk, string_bytes};
+ghost use Rattle.ba_plan.specs.Sent.{SentLines};
+ghost use Rattle.ba_wire.specs.Printed.{fault_bytes, printed};
+ghost use Rattle.ba_top.specs.Text.{entry_bytes, entry_line, lines_of, reply_line, total_bytes};
+
+use crate::report::{By, Entry, Journal, Reply, Why};
+use crate::summary::summary;
+use ba_model::text::Str;
+use ba_outside::{Sink, WriteFail};
+use ba_plan::send;
+use ba_wire::fault::{Fault, fault_text};
+use ba_wire::line::{Block, By as PrintedBy, Line, line_text};
+use ba_wire::summary::summary_text;
+use std::alloc::{AllocError, Global};
+
+fn reply_line<'a>(request: &'a Str, line: u64, version: u32, reply: &'a Reply) -> Line<'a>
+    ensures { printed result ≡ reply_line request.now line version reply.now }
+{
+    match reply {
+        Reply::Answer { rows, by, .. } => match by {
+            By::Cover(_) => Line::Answer {
+                by: PrintedBy::Cover,
+                line,
+                request,
+                rows,
+                version,
+            },
+        },
+        Reply::Blocked { why, .. } => match why {
+            Why::Uncovered => Line::Block {
+                blocked: Block::Uncovered,
+                line,
+                request,
+                version,
+            },
+        },
+        Reply::Unread(unread) => Line::Unread {
+            line,
+            request,
+            unread: *unread,
+            version,
+        },
+        Reply::NoMemory => Line::Memory { line },
+    }
+}
+
+fn entry_line<'a>(request: &'a Str, line: u64, entry: &'a Entry) -> Line<'a>
+    ensures { printed result ≡ entry_line request.now line entry.now }
+{
+    match entry {
+        Entry::Begin { version, .. } => Line::Begin {
+            begin: request,
+            line,
+            version: *version,
+        },
+        Entry::Ask { version, reply, .. } => reply_line(request, line, *version, reply),
+    }
+}
+
+#[tactic(auto, unfolding(crate::specs::Text::entry_bytes))]
+fn entry_text(alloc: Global, request: &Str, line: u64, entry: &Entry) -> Result<String, AllocError>
+    ensures { IfOk result (λ text. string_bytes text ≡ entry_bytes request.now line entry.now) }
+{
+    line_text(alloc, &entry_line(request, line, entry))
+}
+
+// The summary's line, if there is memory for it and each of its numbers is one of 64 bits.
+#[tactic(auto, unfolding(crate::specs::Text::total_bytes))]
+fn summary_line(alloc: Global, journal: &Journal) -> Result<String, WriteFail>
+    ensures { IfOk result (λ text. string_bytes text ≡ total_bytes journal.now.entries) }
+{
+    let Some(summary) = summary(journal.entries.as_slice()) else {
+        return Err(WriteFail::NoMemory);
+    };
+    match summary_text(alloc, &summary) {
+        Ok(text) => Ok(text),
+        Err(_) => Err(WriteFail::NoMemory),
+    }
+}
+
+/// Writes a line for each entry, in order, and then the summary.
+pub(crate) fn print<S: Sink>(
+    alloc: Global,
+    request: &Str,
+    journal: &Journal,
+    sink: &mut S,
+) -> Result<(), WriteFail>
+    ensures { SentLines (lines_of request.now journal.now) (S.seen sink.old) (S.seen sink.new) result }
+{
+    let mut line = 1u64;
+    for entry in journal.entries.as_slice() {
+        let Ok(text) = entry_text(alloc, request, line, entry) else {
+            return Err(WriteFail::NoMemory);
+        };
+        send(sink, text.as_bytes())?;
+        line += 1;
+    }
+    let Ok(text) = summary_line(alloc, journal) else {
+        return Err(WriteFail::NoMemory);
+    };
+    send(sink, text.as_bytes())
+}
+
+/// Writes the line of a fault.
+pub(crate) fn print_fault<S: Sink>(
+    alloc: Global,
+    fault: &Fault,
+    sink: &mut S,
+) -> Result<(), WriteFail>
+    ensures { SentLines (fault_bytes fault.now ∷ []) (S.seen sink.old) (S.seen sink.new) result }
+{
+    let Ok(text) = fault_text(alloc, fault) else {
+        return Err(WriteFail::NoMemory);
+    };
+    send(sink, text.as_bytes())
+}

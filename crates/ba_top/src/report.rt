@@ -1,0 +1,114 @@
+//! What a run reads, does and answers.
+
+use ba_direct::cover::Cover;
+use ba_model::list::List;
+use ba_model::policy::Policy;
+use ba_model::query::Query;
+use ba_model::text::Str;
+use ba_model::value::Row;
+use ba_tables::tables::Tables;
+use ba_wire::fault::{Reason, What};
+use ba_wire::line::Unread;
+
+/// What the words name, once it is read.
+#[derive(Debug, Drop)]
+pub struct Input {
+    pub policy: Policy,
+    pub tables: Tables,
+    pub script: Script,
+}
+
+/// The script of one request: its name and its questions, in order.
+#[derive(Debug, Drop)]
+pub struct Script {
+    pub request: Str,
+    pub asks: List<Str>,
+}
+
+/// Why a question is answered: the evidence.
+#[derive(Debug, Drop)]
+pub enum By {
+    /// A view for each part, with a pairing of the tables.
+    Cover(Cover),
+}
+
+/// Why a question is blocked: the evidence.
+#[derive(Clone, Copy, Debug, PartialEq, Eq)]
+pub enum Why {
+    /// No cover exists.
+    Uncovered,
+}
+
+/// What becomes of a question.
+#[derive(Debug, Drop)]
+pub enum Reply {
+    /// The rows of the question's query, strictly rising.
+    Answer {
+        query: Query,
+        rows: List<Row>,
+        by: By,
+    },
+    Blocked {
+        query: Query,
+        why: Why,
+    },
+    /// The text reads as no query.
+    Unread(Unread),
+    NoMemory,
+}
+
+/// What became of a line of the script. Requests and versions of the tables are numbered from 0.
+#[derive(Debug, Drop)]
+pub enum Entry {
+    Begin {
+        request: u32,
+        version: u32,
+    },
+    Ask {
+        request: u32,
+        version: u32,
+        reply: Reply,
+    },
+}
+
+/// What became of each line of the script, in order.
+#[derive(Debug, Drop)]
+pub struct Journal {
+    pub entries: List<Entry>,
+}
+
+/// Why words or what was read are refused.
+#[derive(Debug, Drop)]
+pub enum Refusal {
+    /// The words are no command's form.
+    Words,
+    /// A file without a reading.
+    Input { file: Str, reason: Reason },
+}
+
+/// How a run ended.
+#[derive(Debug, Drop)]
+pub enum Detail {
+    /// The input was read to its end, and no line lacked memory.
+    Done,
+    /// The words are no command's form.
+    Words,
+    /// A file without a reading.
+    Input { file: Str, reason: Reason },
+    /// A file that could not be read.
+    Read { file: Str },
+    /// A write that failed.
+    Write,
+    /// Want of memory.
+    Memory,
+    /// A count above its limit.
+    Limit { what: What, limit: u64 },
+}
+
+/// What the top call answers: the exit status, its cause, and the journal where lines were answered.
+#[derive(Debug, Drop)]
+pub struct Outcome {
+    pub status: u8,
+    pub detail: Detail,
+    pub journal: Option<Journal>,
+}

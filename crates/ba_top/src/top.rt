@@ -1,0 +1,162 @@
+//! The top call.
+ghost use Rattle.std.specs.Prelude.{◌≡◌, ◌⊎◌, List, ℕ, map, string_bytes, IfSome};
+ghost use Rattle.ba_outside.specs.Causes.{Rose};
+ghost use Rattle.ba_plan.specs.Ends.{AsksFront, FailedAt, LongAt};
+ghost use Rattle.ba_plan.specs.Follows.{Follows};
+ghost use Rattle.ba_plan.specs.Plan.{names_of, outcome_of};
+ghost use Rattle.ba_top.specs.Causes.{Tells, settled};
+ghost use Rattle.ba_top.specs.Headline.{Headline};
+ghost use Rattle.ba_top.specs.Ran.{EndsFault, EndsRun, EndsStop, Ran, detail_of, status_of};
+ghost use Rattle.ba_top.specs.Reading.{plan_of};
+ghost use Rattle.ba_top.specs.declared.report.Input.{Input};
+ghost use Rattle.ba_wire.specs.declared.fault.What.{What};
+
+use crate::input::read_input;
+use crate::print::{print, print_fault};
+use crate::report::{Detail, Input, Journal, Outcome, Refusal};
+use crate::serve::serve;
+use crate::summary::has_memory_line;
+use ba_outside::{Files, Gate, Sink, WriteFail};
+use ba_plan::Stop;
+use ba_wire::fault::{Fault, What};
+use std::alloc::Global;
+
+fn status(detail: &Detail) -> u8
+    ensures { result ≡ status_of detail.now }
+{
+    match detail {
+        Detail::Done => 0,
+        Detail::Words => 2,
+        Detail::Input { .. } => 3,
+        Detail::Read { .. } => 4,
+        Detail::Write => 5,
+        Detail::Memory => 6,
+        Detail::Limit { .. } => 7,
+    }
+}
+
+fn detail(fault: Fault) -> Detail
+    ensures { result ≡ detail_of fault }
+{
+    match fault {
+        Fault::Words => Detail::Words,
+        Fault::Input { file, reason } => Detail::Input { file, reason },
+        Fault::Read { file } => Detail::Read { file },
+        Fault::Limit { what, limit } => Detail::Limit { what, limit },
+    }
+}
+
+fn end_run<S: Sink>(alloc: Global, input: &Input, journal: &Journal, sink: &mut S) -> Detail
+    ensures { EndsRun input.now journal.now (S.seen sink.old) (S.seen sink.new) result }
+{
+    match print(alloc, &input.script.request, journal, sink) {
+        Ok(()) => {
+            if has_memory_line(journal) {
+                Detail::Memory
+            } else {
+                Detail::Done
+            }
+        }
+        Err(WriteFail::Failed) => Detail::Write,
+        Err(WriteFail::NoMemory) => Detail::Memory,
+    }
+}
+
+fn end_fault<S: Sink>(alloc: Global, fault: Fault, sink: &mut S) -> Detail
+    ensures { EndsFault fault (S.seen sink.old) (S.seen sink.new) result }
+{
+    match print_fault(alloc, &fault, sink) {
+        Ok(()) => detail(fault),
+        Err(WriteFail::Failed) => Detail::Write,
+        Err(WriteFail::NoMemory) => Detail::Memory,
+    }
+}
+
+fn end_stop<S: Sink>(alloc: Global, stop: Stop<Refusal>, sink: &mut S) -> Detail
+    ensures { EndsStop stop (S.seen sink.old) (S.seen sink.new) result }
+{
+    match stop {
+        Stop::Refused(refusal) => match refusal {
+            Refusal::Words => end_fault(alloc, Fault::Words, sink),
+            Refusal::Input { file, reason } => {
+                end_fault(alloc, Fault::Input { file, reason }, sink)
+            }
+        },
+        Stop::Read(file) => end_fault(alloc, Fault::Read { file }, sink),
+        Stop::TooLong(_, limit) => {
+            let what = What::Bytes;
+            end_fault(alloc, Fault::Limit { what, limit }, sink)
+        }
+        Stop::NoMemory => Detail::Memory,
+    }
+}
+
+fn run<F: Files, S: Sink, G: Gate>(
+    alloc: Global,
+    words: &[String],
+    files: &mut F,
+    sink: &mut S,
+    gate: &G,
+) -> (Detail, Option<Journal>)
+    ensures { Ran (map string_bytes words.now) (F.seen files.old) (F.seen files.new)
+        (S.seen sink.old) (S.seen sink.new) result.0 result.1 }
+{
+    match read_input(alloc, words, files) {
+        Ok(input) => match serve(alloc, &input, gate) {
+            Ok(journal) => (end_run(alloc, &input, &journal, sink), Some(journal)),
+            Err(_) => (Detail::Memory, None),
+        },
+        Err(stop) => (end_stop(alloc, stop, sink), None),
+    }
+}
+
+/// Does what the words say: `run --schema S --policy P --tables D --script F`.
+///
+/// Reads the schema S, the policy P, the file D/T.csv of each table T in the schema's order and the script F, each once; then answers
+/// or blocks each question of the script; then writes a line for each line of the script, in order, and the summary. A question is
+/// answered exactly where single views of the policy cover it.
+///
+/// The first fault ends the run with one fault line: words of another form (status 2), a file that isn't of the plain form (3), a file
+/// that can't be read (4), a file of more than 67,108,864 bytes (7). A write that fails ends it with status 5, want of memory with 6.
+pub fn blockaid<F: Files, S: Sink, G: Gate + Sync>(
+    alloc: Global,
+    words: &[String],
+    files: &mut F,
+    sink: &mut S,
+    gate: &G,
+) -> Outcome
+    // Each answer is its query's answer in the request's tables and in every database that meets the schema, gives every view the
+    // same rows and each query that was answered before its printed rows; no covered query is blocked.
+    ensures headline { IfSome result.journal (λ journal. (input : Input)
+        × Follows (plan_of (map string_bytes words.now)) (F.seen files.old) (F.seen files.new) (Ok input) × Headline input journal) }
+
+    ensures status { result.status ≡ status_of result.detail }
+    ensures run { Ran (map string_bytes words.now) (F.seen files.old) (F.seen files.new)
+        (S.seen sink.old) (S.seen sink.new) result.detail result.journal }
+
+    // A read fault names the last name asked for, and the files' count rose.
+    ensures read { (file : List ℕ) → result.detail ≡ Detail.Read file → FailedAt file (F.seen files.old) (F.seen files.new) }
+    // A count above its limit is of the bytes of the last name asked for.
+    ensures limit { (what : What) (limit : ℕ) → result.detail ≡ Detail.Limit what limit
+        → (file : List ℕ) × LongAt file limit (F.seen files.old) (F.seen files.new) }
+    // A write fault comes only where the sink's count rose.
+    ensures write { result.detail ≡ Detail.Write → Rose (S.seen sink.old).faults (S.seen sink.new).faults }
+
+    // Where the files are told, the names asked for are the first of the run's names.
+    ensures asked { IfSome (F.seen files.old).held (λ contents.
+        AsksFront (F.seen files.old).asked (F.seen files.new).asked (names_of contents (plan_of (map string_bytes words.now)))) }
+    // Then the other answers are those that the words and the files come to.
+    ensures told { IfSome (F.seen files.old).held (λ contents.
+        Tells result.detail (outcome_of contents (plan_of (map string_bytes words.now)))) }
+    // Where no count rises either, there is no other answer, but for want of memory.
+    ensures complete { IfSome (F.seen files.old).held (λ contents.
+        ¬ Rose (F.seen files.old).faults (F.seen files.new).faults → ¬ Rose (S.seen sink.old).faults (S.seen sink.new).faults
+        → (result.detail ≡ Detail.Memory) ⊎ (result.detail ≡ settled (outcome_of contents (plan_of (map string_bytes words.now))))) }
+{
+    let (detail, journal) = run(alloc, words, files, sink, gate);
+    Outcome {
+        status: status(&detail),
+        detail,
+        journal,
+    }
+}

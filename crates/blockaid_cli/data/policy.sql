@@ -1,0 +1,1 @@
+CREATE VIEW V1 AS SELECT UId, Name FROM Users;
