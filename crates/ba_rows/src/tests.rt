@@ -49,15 +49,11 @@ fn files(
     script: &str,
 ) -> Result<Vec<Held>, AllocError> {
     let mut files = Vec::new(alloc);
-    for (name, text) in [
-        ("S", schema),
-        ("P", policy),
-        ("t0/Users.csv", users),
-        ("t0/Events.csv", EVENTS),
-        ("F", script),
-    ] {
-        files.push(held(alloc, name, text)?)?;
-    }
+    files.push(held(alloc, "S", schema)?)?;
+    files.push(held(alloc, "P", policy)?)?;
+    files.push(held(alloc, "t0/Users.csv", users)?)?;
+    files.push(held(alloc, "t0/Events.csv", EVENTS)?)?;
+    files.push(held(alloc, "F", script)?)?;
     Ok(files)
 }
 
@@ -277,11 +273,10 @@ fn want_of_memory(rt: HostRuntime) -> Result<(), Fail> {
 #[test]
 fn oversized_file(rt: HostRuntime) -> Result<(), Fail> {
     let alloc = rt.alloc();
-    let mut files = files(alloc, SCHEMA, POLICY, USERS, SCRIPT)?;
     let bytes = vec![in alloc; b' '; 67_108_865]?;
-    files.swap_remove(1);
     let name = String::from_str(alloc, "P")?;
-    files.push(Held { name, bytes })?;
+    let mut files = vec![in alloc; Held { name, bytes }]?;
+    files.push(held(alloc, "S", SCHEMA)?)?;
     let line = "{\"fault\":\"limit\",\"limit\":67108864,\"status\":7,\"what\":\"bytes\"}\n";
     assert!(rt; comes_to(alloc, files, Vec::new(alloc), 7, line)?);
     Ok(())
