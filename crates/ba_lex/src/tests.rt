@@ -32,12 +32,13 @@ fn fault_of(alloc: Global, text: &str, limit: usize) -> Option<LexFault> {
 
 #[test]
 fn tokens_of_a_query(rt: HostRuntime) -> Result<(), Fail> {
-    let text = "Select \"a b\",`c`.* FROM T2--, 'x\r\nWHERE _a<>-5 AND b>='it''s' or 007!=?MyUId--";
+    let text =
+        "Select \"a b\",`c`.* FROM Tab2--, 'x\r\nWHERE _a<>-5 AND b>='it''s' or 007!=?MyUId--";
     let found = tokens(rt.alloc(), text, 65_536)?;
     let all = all_shown(rt.alloc(), &found)?;
     assert_eq!(rt;
         all.as_str(),
-        "Select name:a b Comma name:c Dot Star FROM T2 WHERE _a NotEqual -5 AND b GreaterEqual text:it's or 7 BangEqual ?MyUId "
+        "Select name:a b Comma name:c Dot Star FROM Tab2 WHERE _a NotEqual -5 AND b GreaterEqual text:it's or 7 BangEqual ?MyUId "
     );
     Ok(())
 }

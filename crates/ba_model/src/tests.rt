@@ -1,12 +1,20 @@
 // Drafts with and without faults, and copies.
-use crate::check_query::{QueryDraft, QueryFault};
-use crate::check_schema::{Counted, SchemaDraft, SchemaError, SchemaFault};
+use crate::check_query::QueryDraft;
+use crate::check_query::QueryFault::{
+    self, BadColumn, BadTable, HeadDiffers, KindDiffers as Kinds, OrderOnText, UnknownParam,
+};
+use crate::check_schema::SchemaFault::{
+    self, DuplicateColumn, DuplicateTable, EmptyKey, KindDiffers, UnknownColumn, UnknownTable,
+    WidthDiffers,
+};
+use crate::check_schema::{Counted, SchemaDraft, SchemaError};
 use crate::list::List;
+use crate::policy::{Context, Parameter, Policy, View};
 use crate::query::{Atom, Op, Operand, Part, Query};
 use crate::same::{Duplicate, Same};
-use crate::schema::{Column, Kind, Link, Schema, Table};
+use crate::schema::{Column, Kind, Link, Rule, Schema, Table};
 use crate::text::Str;
-use crate::value::Value;
+use crate::value::{Row, RowSet, Value};
 use std::alloc::{AllocError, Global};
 use std::test::Fail;
 
@@ -84,81 +92,17 @@ fn faults_of_schemas(rt: HostRuntime) -> Result<(), Fail> {
     let cases = [
         ("U", "Name", id, id, 1, id, None),
         ("U", "Name", both, both, 0, both, None),
-        ("T", "Id", id, id, 1, id, Some(SchemaFault::DuplicateTable)),
-        ("U", "Id", id, id, 2, id, Some(SchemaFault::DuplicateColumn)),
-        (
-            "U",
-            "Name",
-            twice,
-            id,
-            1,
-            id,
-            Some(SchemaFault::DuplicateColumn),
-        ),
-        (
-            "U",
-            "Name",
-            other,
-            id,
-            2,
-            id,
-            Some(SchemaFault::UnknownTable),
-        ),
-        (
-            "U",
-            "Name",
-            other,
-            id,
-            1,
-            both,
-            Some(SchemaFault::UnknownColumn),
-        ),
-        (
-            "U",
-            "Name",
-            id,
-            other,
-            1,
-            id,
-            Some(SchemaFault::UnknownColumn),
-        ),
-        (
-            "U",
-            "Name",
-            id,
-            id,
-            1,
-            other,
-            Some(SchemaFault::UnknownColumn),
-        ),
-        (
-            "U",
-            "Name",
-            id,
-            text,
-            1,
-            both,
-            Some(SchemaFault::WidthDiffers),
-        ),
-        (
-            "U",
-            "Name",
-            none,
-            text,
-            1,
-            id,
-            Some(SchemaFault::KindDiffers),
-        ),
-        (
-            "U",
-            "Name",
-            none,
-            text,
-            1,
-            text,
-            Some(SchemaFault::EmptyKey),
-        ),
-        ("U", "Name", id, none, 1, none, Some(SchemaFault::EmptyKey)),
+        ("T", "Id", id, id, 1, id, Some(DuplicateTable)),
+        ("U", "Id", id, id, 2, id, Some(DuplicateColumn)),
+        ("U", "Name", twice, id, 1, id, Some(DuplicateColumn)),
+        ("U", "Name", other, id, 2, id, Some(UnknownTable)),
+        ("U", "Name", other, id, 1, both, Some(UnknownColumn)),
+        ("U", "Name", id, other, 1, id, Some(UnknownColumn)),
+        ("U", "Name", id, id, 1, other, Some(UnknownColumn)),
+        ("U", "Name", id, text, 1, both, Some(WidthDiffers)),
+        ("U", "Name", none, text, 1, id, Some(KindDiffers)),
+        ("U", "Name", none, text, 1, text, Some(EmptyKey)),
+        ("U", "Name", id, none, 1, none, Some(EmptyKey)),
     ];
     for (name, column, key, from, target, to, wanted) in cases {
         let draft = draft(alloc, name, column, key, link(alloc, from, target, to)?)?;
@@ -228,74 +172,87 @@ fn faults_of_queries(rt: HostRuntime) -> Result<(), Fail> {
     let alloc = rt.alloc();
     let id = || Operand::Col(0, 0);
     let name = || Operand::Col(0, 1);
+    let none = || Operand::Col(0, 2);
+    let one = || Operand::Val(Value::Int(1));
     let null = || Operand::Val(Value::Null);
+    let param = || Operand::Param(0);
+    let var = || Operand::Var(0);
     let cases = [
-        (0, Op::Le, id(), Operand::Val(Value::Int(1)), id(), None),
+        (0, Op::Le, id(), one(), id(), None),
         (0, Op::NotNull, name(), name(), id(), None),
-        (1, Op::Eq, name(), id(), id(), Some(QueryFault::BadTable)),
-        (
-            0,
-            Op::Eq,
-            name(),
-            id(),
-            Operand::Col(0, 2),
-            Some(QueryFault::BadColumn),
-        ),
-        (
-            0,
-            Op::Eq,
-            name(),
-            id(),
-            name(),
-            Some(QueryFault::KindDiffers),
-        ),
-        (0, Op::Eq, id(), null(), id(), Some(QueryFault::KindDiffers)),
-        (
-            0,
-            Op::IsNull,
-            id(),
-            name(),
-            id(),
-            Some(QueryFault::KindDiffers),
-        ),
-        (
-            0,
-            Op::Lt,
-            name(),
-            name(),
-            name(),
-            Some(QueryFault::OrderOnText),
-        ),
-        (
-            0,
-            Op::Eq,
-            Operand::Param(0),
-            id(),
-            name(),
-            Some(QueryFault::HeadDiffers),
-        ),
-        (
-            0,
-            Op::Eq,
-            Operand::Param(0),
-            id(),
-            id(),
-            Some(QueryFault::UnknownParam),
-        ),
-        (
-            0,
-            Op::Eq,
-            Operand::Var(0),
-            id(),
-            id(),
-            Some(QueryFault::UnknownParam),
-        ),
+        (1, Op::Eq, name(), id(), id(), Some(BadTable)),
+        (0, Op::Eq, name(), id(), none(), Some(BadColumn)),
+        (0, Op::Eq, name(), id(), name(), Some(Kinds)),
+        (0, Op::Eq, id(), null(), id(), Some(Kinds)),
+        (0, Op::IsNull, id(), name(), id(), Some(Kinds)),
+        (0, Op::Lt, name(), name(), name(), Some(OrderOnText)),
+        (0, Op::Eq, param(), id(), name(), Some(HeadDiffers)),
+        (0, Op::Eq, param(), id(), id(), Some(UnknownParam)),
+        (0, Op::Eq, var(), id(), id(), Some(UnknownParam)),
     ];
     for (table, op, left, right, head, wanted) in cases {
         let part = part(alloc, table, Atom { op, left, right }, head)?;
         assert_eq!(rt; query_fault(alloc, part)?, wanted);
     }
     Ok(())
+}
+
+// Rows of table 0 whose number is below what is given.
+fn below(alloc: Global, bound: i64) -> Result<Query, AllocError> {
+    let (left, right) = (Operand::Col(0, 0), Operand::Val(Value::Int(bound)));
+    let atom = Atom {
+        op: Op::Lt,
+        left,
+        right,
+    };
+    let part = part(alloc, 0, atom, Operand::Param(0))?;
+    Ok(Query {
+        parts: one(alloc, part)?,
+    })
+}
+
+fn view(alloc: Global, bound: i64) -> Result<View, AllocError> {
+    Ok(View {
+        name: Str::new(alloc, "V")?,
+        query: below(alloc, bound)?,
+    })
+}
+
+fn rule(alloc: Global, bound: i64) -> Result<Rule, AllocError> {
+    Ok(Rule {
+        left: below(alloc, bound)?,
+        right: below(alloc, 60)?,
+    })
+}
+
+fn parameter(alloc: Global) -> Result<Parameter, AllocError> {
+    Ok(Parameter {
+        name: Str::new(alloc, "Me")?,
+        kind: Kind::Int,
+    })
+}
+
+// A schema with a rule, a parameter and a view.
+fn policy(alloc: Global, bound: i64) -> Result<Policy, AllocError> {
+    let mut schema = schema(alloc)?;
+    schema.rules.push(rule(alloc, 5)?)?;
+    Ok(Policy {
+        schema,
+        params: one(alloc, parameter(alloc)?)?,
+        views: one(alloc, view(alloc, bound)?)?,
+    })
+}
+
+fn row(alloc: Global, n: i64) -> Result<Row, AllocError> {
+    let mut row = one(alloc, Value::Int(n))?;
+    row.push(Value::Text(Str::new(alloc, "ann")?))?;
+    Ok(row)
+}
+
+// The copy is the same as its original, and not as the other.
+fn is_copied<T: Duplicate + Same>(alloc: Global, item: &T, other: &T) -> Result<bool, AllocError> {
+    let copy = item.copy(alloc)?;
+    Ok(copy.same(item) && !copy.same(other))
 }
 
 #[test]
@@ -305,5 +262,40 @@ fn copies_are_the_same(rt: HostRuntime) -> Result<(), Fail> {
     assert!(rt; schema.copy(alloc)?.same(&schema));
     let text = Value::Text(Str::new(alloc, "a'b")?);
     assert!(rt; text.copy(alloc)?.same(&text) && !text.same(&Value::Null));
+    Ok(())
+}
+
+#[test]
+fn copies_of_queries(rt: HostRuntime) -> Result<(), Fail> {
+    let alloc = rt.alloc();
+    assert!(rt; is_copied(alloc, &below(alloc, 5)?, &below(alloc, 6)?)?);
+    assert!(rt; is_copied(alloc, &rule(alloc, 5)?, &rule(alloc, 6)?)?);
+    assert!(rt; is_copied(alloc, &view(alloc, 5)?, &view(alloc, 6)?)?);
+    Ok(())
+}
+
+#[test]
+fn copies_of_policies(rt: HostRuntime) -> Result<(), Fail> {
+    let alloc = rt.alloc();
+    assert!(rt; is_copied(alloc, &policy(alloc, 5)?, &policy(alloc, 6)?)?);
+    let mut other = parameter(alloc)?;
+    other.kind = Kind::Text;
+    assert!(rt; is_copied(alloc, &parameter(alloc)?, &other)?);
+    Ok(())
+}
+
+#[test]
+fn copies_of_contexts_and_rows(rt: HostRuntime) -> Result<(), Fail> {
+    let alloc = rt.alloc();
+    let context = Context {
+        values: row(alloc, 2)?,
+    };
+    let copy = context.copy(alloc)?;
+    assert!(rt; copy.values.same(&context.values) && !copy.values.same(&row(alloc, 3)?));
+    let rows = RowSet {
+        tables: one(alloc, one(alloc, row(alloc, 2)?)?)?,
+    };
+    let copy = rows.copy(alloc)?;
+    assert!(rt; copy.tables.same(&rows.tables) && copy.tables.len() == 1);
     Ok(())
 }
