@@ -1,7 +1,7 @@
 #!/usr/bin/env python3
 """Measures `blockaid` on generated inputs, and `sqlite3`, where it is installed, on the same import and selects.
 
-    bench/bench.py [--program FILE] [--rows N,..] [--asks N,..] [--kinds KIND,..] [--runs N]
+    bench/bench.py [--program FILE] [--rows N,..] [--asks N,..] [--kinds KIND,..] [--sizes N,..] [--runs N]
 
 Prints a Markdown table: seconds (the least of the runs, for the whole process) and peak memory (the greatest of the runs).
 Without --program it has the repository's own `blockaid` proved and built first, and measures what was built.
@@ -24,12 +24,17 @@ TIME = "/usr/bin/time"
 # Coprime to each number of rows, so that keys are distinct and not in order.
 STEP = 7919
 
-SCHEMA = """CREATE TABLE Users (UId INT NOT NULL, Name TEXT NOT NULL);
-CREATE TABLE Events (EId INT NOT NULL, Title TEXT NOT NULL, Duration INT NOT NULL);
+SCHEMA = """CREATE TABLE Users (UId INT PRIMARY KEY, Name TEXT NOT NULL);
+CREATE TABLE Events (EId INT PRIMARY KEY, Title TEXT NOT NULL, Duration INT NOT NULL);
+CREATE TABLE Attendances (UId INT NOT NULL REFERENCES Users (UId), EId INT NOT NULL REFERENCES Events (EId), At INT NOT NULL, PRIMARY KEY (UId, EId));
 """
-POLICY = """CREATE VIEW V1 AS SELECT UId, Name FROM Users;
+POLICY = """PARAM MyUId INT;
+CREATE VIEW V1 AS SELECT UId, Name FROM Users;
 CREATE VIEW V2 AS SELECT EId, Title FROM Events;
+CREATE VIEW V3 AS SELECT UId, EId, At FROM Attendances WHERE UId = ?MyUId;
 """
+# A request has at most this many asks; a script of more has several requests.
+ASKS_OF_REQUEST = 256
 
 
 class Kind:
@@ -39,11 +44,35 @@ class Kind:
         self.question, self.rows_of_one, self.is_answered = question, rows_of_one, is_answered
 
 
+def long_list(size):
+    """A question of about so many bytes, with an IN list. From 33 constants on it has too many parts."""
+    text = "SELECT Name FROM Users WHERE UId IN (1"
+    return text + ", 7" * ((size - len(text) - 1) // 3) + ")"
+
+
+def deep_brackets(size):
+    """A question of about so many bytes, with brackets around its condition."""
+    depth = (size - len("SELECT Name FROM Users WHERE UId = 1")) // 2
+    return "SELECT Name FROM Users WHERE " + "(" * depth + "UId = 1" + ")" * depth
+
+
+def joined_tests(size):
+    """A question of about so many bytes, with conditions joined by AND. From 65 of them on a part has too many."""
+    text = "SELECT Name FROM Users WHERE UId = 1"
+    return text + " AND UId = 1" * ((size - len(text)) // len(" AND UId = 1"))
+
+
+# Texts of questions, by what makes them long.
+TEXTS = {"IN list": long_list, "brackets": deep_brackets, "AND": joined_tests}
+
+
 KINDS = {
     # One row by its key: the whole table is gone through.
     "point": Kind(lambda n, rows: f"SELECT Name FROM Users WHERE UId = {n * STEP % rows}", lambda rows: 1, True),
     # Every row, in order.
     "scan": Kind(lambda n, rows: "SELECT Title, EId FROM Events", lambda rows: rows, True),
+    # One's own row: the view of the request's user covers it.
+    "own": Kind(lambda n, rows: "SELECT At FROM Attendances WHERE UId = 0", lambda rows: 1, True),
     # No view shows it.
     "blocked": Kind(lambda n, rows: f"SELECT Duration FROM Events WHERE EId = {n}", lambda rows: 0, False),
 }
@@ -66,6 +95,13 @@ def events(rows):
     return (f"{n * STEP % rows},title{n},{n % 7 * 10 + 10}" for n in range(rows))
 
 
+def attendances(rows):
+    return (f"{n * STEP % rows},{n * 31 % rows},{n}" for n in range(rows))
+
+
+TABLES = [("Users", "UId,Name", users), ("Events", "EId,Title,Duration", events), ("Attendances", "UId,EId,At", attendances)]
+
+
 def with_header(header, lines):
     yield header
     yield from lines
@@ -74,10 +110,9 @@ def with_header(header, lines):
 def make_tables(folder, rows):
     """Writes schema, policy and the table set, and for sqlite3 the same rows with no header."""
     os.makedirs(f"{folder}/t0")
-    write_lines(f"{folder}/t0/Users.csv", with_header("UId,Name", users(rows)))
-    write_lines(f"{folder}/t0/Events.csv", with_header("EId,Title,Duration", events(rows)))
-    write_lines(f"{folder}/users.rows", users(rows))
-    write_lines(f"{folder}/events.rows", events(rows))
+    for table, header, lines in TABLES:
+        write_lines(f"{folder}/t0/{table}.csv", with_header(header, lines(rows)))
+        write_lines(f"{folder}/{table}.rows", lines(rows))
     for name, text in [("schema.sql", SCHEMA), ("policy.sql", POLICY)]:
         with open(f"{folder}/{name}", "w", encoding="utf-8") as it:
             it.write(text)
@@ -90,12 +125,24 @@ def as_sql(question):
     return f"{question.replace('SELECT', 'SELECT DISTINCT', 1)} ORDER BY {order};"
 
 
+def requests_of(asks):
+    return (asks + ASKS_OF_REQUEST - 1) // ASKS_OF_REQUEST
+
+
+def lines_of(questions):
+    """The lines of a script: a request of user 0 for each so many questions."""
+    for n, question in enumerate(questions):
+        name = f"r{n // ASKS_OF_REQUEST}"
+        if n % ASKS_OF_REQUEST == 0:
+            yield json.dumps({"begin": name, "context": {"MyUId": 0}})
+        yield json.dumps({"ask": name, "query": question})
+
+
 def make_scripts(folder, questions):
-    """Writes the script, and for sqlite3 the same import and selects."""
-    lines = [json.dumps({"begin": "r1", "context": {}})]
-    lines += [json.dumps({"ask": "r1", "query": it}) for it in questions]
-    write_lines(f"{folder}/script.jsonl", lines)
-    statements = [SCHEMA.rstrip(), ".mode csv", ".import users.rows Users", ".import events.rows Events"]
+    """Writes the script, and for sqlite3 the same import, its constraints and selects."""
+    write_lines(f"{folder}/script.jsonl", lines_of(questions))
+    statements = ["PRAGMA foreign_keys = ON;", SCHEMA.rstrip(), ".mode csv"]
+    statements += [f".import {table}.rows {table}" for table, _, _ in TABLES]
     statements += [as_sql(it) for it in questions]
     write_lines(f"{folder}/script.sql", statements)
 
@@ -140,7 +187,7 @@ def check_summary(path, asks, rows, is_answered):
     summary = json.loads(line)
     answered = asks if is_answered else 0
     found = [summary[key] for key in ("answered", "blocked", "lines", "memory", "rows", "unread")]
-    expect(found, [answered, asks - answered, asks + 1, 0, rows, 0], "the summary")
+    expect(found, [answered, asks - answered, asks + requests_of(asks), 0, rows, 0], "the summary")
 
 
 def rows_printed(path):
@@ -158,21 +205,39 @@ def check_rows(path, of_sqlite):
             expect(row, record, "a row")
 
 
+WORDS = ["run", "--schema", "schema.sql", "--policy", "policy.sql", "--tables", "t0", "--script", "script.jsonl"]
+
+
+def cells_of(figures):
+    cells = [cell for seconds, kib in figures for cell in (f"{seconds:.3f}", f"{kib / 1024:.1f}")]
+    return cells + ["", ""] * (2 - len(figures))
+
+
 def case(program, folder, name, rows, asks, runs):
     """One line of the table."""
     kind = KINDS[name]
     answered = asks * kind.rows_of_one(rows)
     make_scripts(folder, [kind.question(n, rows) for n in range(asks)])
-    words = [program, "run", "--schema", "schema.sql", "--policy", "policy.sql", "--tables", "t0", "--script", "script.jsonl"]
     out, of_sqlite = f"{folder}/out.jsonl", f"{folder}/out.csv"
-    figures = [measure(words, folder, os.devnull, out, runs)]
+    figures = [measure([program, *WORDS], folder, os.devnull, out, runs)]
     check_summary(out, asks, answered, kind.is_answered)
     if kind.is_answered and shutil.which("sqlite3"):
         figures.append(measure(["sqlite3", "-batch"], folder, f"{folder}/script.sql", of_sqlite, runs))
         check_rows(out, of_sqlite)
-    cells = [cell for seconds, kib in figures for cell in (f"{seconds:.3f}", f"{kib / 1024:.1f}")]
-    cells += ["", ""] * (2 - len(figures))
-    return "| " + " | ".join([name, f"{rows:,}", f"{asks:,}", *cells]) + " |"
+    return "| " + " | ".join([name, f"{rows:,}", f"{asks:,}", *cells_of(figures)]) + " |"
+
+
+def seconds_of_texts(program, folder, text, asks, runs):
+    make_scripts(folder, [text] * asks)
+    return measure([program, *WORDS], folder, os.devnull, f"{folder}/out.jsonl", runs)[0]
+
+
+def text_case(program, folder, name, size, runs):
+    """One line of the table of texts: microseconds to read one question, over those that the rest of a run takes."""
+    text = TEXTS[name](size)
+    few, many = 1, max(2, min(4096, 8_000_000 // size))
+    begun, ended = (seconds_of_texts(program, folder, text, asks, runs) for asks in (few, many))
+    return f"| {name} | {len(text):,} | {(ended - begun) / (many - few) * 1e6:.1f} |"
 
 
 def told(words):
@@ -212,8 +277,8 @@ def main():
     reader = argparse.ArgumentParser(description=__doc__, formatter_class=argparse.RawDescriptionHelpFormatter)
     reader.add_argument("--program", help="the program to measure")
     reader.add_argument("--rows", type=numbers, default=[1_000, 10_000, 100_000])
-    # A request has at most 256 asks, and a script has one request for now.
-    reader.add_argument("--asks", type=numbers, default=[1, 16, 64, 256])
+    reader.add_argument("--asks", type=numbers, default=[0, 1, 1_000, 10_000])
+    reader.add_argument("--sizes", type=numbers, default=[100, 1_000, 8_000, 65_536], help="bytes of a question")
     reader.add_argument("--kinds", type=lambda text: text.split(","), default=list(KINDS))
     reader.add_argument("--runs", type=int, default=3)
     given = reader.parse_args()
@@ -228,8 +293,14 @@ def main():
             make_tables(folder, rows)
             for name in given.kinds:
                 for asks in given.asks:
-                    if asks * KINDS[name].rows_of_one(rows) <= MOST_ANSWERED:
+                    if asks * KINDS[name].rows_of_one(rows) <= MOST_ANSWERED and (asks > 0 or name == given.kinds[0]):
                         print(case(program, folder, name, rows, asks, given.runs), flush=True)
+    print("\n| text of a question | bytes | microseconds to read it |\n|---|---|---|", flush=True)
+    with tempfile.TemporaryDirectory() as folder:
+        make_tables(folder, 1)
+        for name in TEXTS:
+            for size in given.sizes:
+                print(text_case(program, folder, name, size, given.runs), flush=True)
 
 
 if __name__ == "__main__":

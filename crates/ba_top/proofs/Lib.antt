@@ -1,4 +1,3 @@
-pub mod WordLemmas
 pub mod ServeLemmas
 pub mod SummaryLemmas
 pub mod PrintLemmas

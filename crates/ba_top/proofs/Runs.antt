@@ -4,12 +4,12 @@ use Rattle.ba_outside.specs.Causes.{Rose}
 use Rattle.ba_outside.specs.Seen.{Contents, FilesSeen, SinkSeen}
 use Rattle.ba_plan.proofs.Causes.{long_file, read_fault}
 use Rattle.ba_plan.proofs.Told.{determined, names_front}
-use Rattle.ba_plan.specs.Ends.{AsksFront, FailedAt, LongAt, Settles}
+use Rattle.ba_plan.specs.Ends.{AsksFront, FailedAt, Settles}
 use Rattle.ba_plan.specs.Follows.{Follows}
 use Rattle.ba_plan.specs.Plan.{names_of, outcome_of}
 use Rattle.ba_plan.specs.declared.stop.Stop.{Stop}
 use Rattle.ba_plan.specs.declared.stop.Stop.TheVariants.{Refused, Read as Unreadable, TooLong, NoMemory}
-use Rattle.ba_top.specs.Causes.{Tells, settled}
+use Rattle.ba_top.specs.Causes.{IsLimit, Tells, settled}
 use Rattle.ba_top.specs.Ran.{EndsFault, EndsRun, EndsStop, Ran, detail_of}
 use Rattle.ba_top.specs.Reading.{plan_of}
 use Rattle.ba_top.specs.declared.report.Detail.{Detail}
@@ -35,6 +35,7 @@ ends_as f s t detail (inr (inr (is, sent))) = inr (inr is)
 stops_as : (stop : Stop Refusal) (s t : SinkSeen) (detail : Detail) → EndsStop stop s t detail → (detail ≡ settled (Err stop)) ⊎ ((detail ≡ Write) × Rose s.faults t.faults) ⊎ (detail ≡ Memory)
 stops_as (Refused refusal.Words) s t detail ends = ends_as fault.Words s t detail ends
 stops_as (Refused (refusal.Input file reason)) s t detail ends = ends_as (fault.Input file reason) s t detail ends
+stops_as (Refused (refusal.Limit what limit)) s t detail ends = ends_as (fault.Limit what limit) s t detail ends
 stops_as (Unreadable file) s t detail ends = ends_as (fault.Read file) s t detail ends
 stops_as (TooLong file limit) s t detail ends = ends_as (fault.Limit Bytes limit) s t detail ends
 stops_as NoMemory s t detail ends = inl ends.0
@@ -66,17 +67,23 @@ unreadable : (reading : Result Input (Stop Refusal)) (file : List ℕ) → settl
 unreadable (Ok input) file e = absurd (cc)
 unreadable (Err (Refused refusal.Words)) file e = absurd (cc)
 unreadable (Err (Refused (refusal.Input f reason))) file e = absurd (cc)
+unreadable (Err (Refused (refusal.Limit what limit))) file e = absurd (cc)
 unreadable (Err (Unreadable f)) file e = let h : f ≡ file = cc in ap (λ z. Err (Unreadable z)) h
 unreadable (Err (TooLong f n)) file e = absurd (cc)
 unreadable (Err NoMemory) file e = absurd (cc)
 
-too_long : (reading : Result Input (Stop Refusal)) (what : What) (limit : ℕ) → settled reading ≡ Limit what limit → (file : List ℕ) × (reading ≡ Err (TooLong file limit))
-too_long (Ok input) what limit e = absurd (cc)
-too_long (Err (Refused refusal.Words)) what limit e = absurd (cc)
-too_long (Err (Refused (refusal.Input f reason))) what limit e = absurd (cc)
-too_long (Err (Unreadable f)) what limit e = absurd (cc)
-too_long (Err (TooLong f n)) what limit e = let h : n ≡ limit = cc in (f, ap (λ z. Err (TooLong f z)) h)
-too_long (Err NoMemory) what limit e = absurd (cc)
+-- a reading that comes to a limit
+abbrev ComesToLimit : Result Input (Stop Refusal) → What → ℕ → Type 0
+ComesToLimit reading what limit = (reading ≡ Err (Refused (refusal.Limit what limit))) ⊎ ((what ≡ Bytes) × ((file : List ℕ) × (reading ≡ Err (TooLong file limit))))
+
+limit_of : (reading : Result Input (Stop Refusal)) (what : What) (limit : ℕ) → settled reading ≡ Limit what limit → ComesToLimit reading what limit
+limit_of (Ok input) what limit e = absurd (cc)
+limit_of (Err (Refused refusal.Words)) what limit e = absurd (cc)
+limit_of (Err (Refused (refusal.Input f reason))) what limit e = absurd (cc)
+limit_of (Err (Refused (refusal.Limit w n))) what limit e = let h : w ≡ what = cc in let k : n ≡ limit = cc in inl (rw (h, k) refl)
+limit_of (Err (Unreadable f)) what limit e = absurd (cc)
+limit_of (Err (TooLong f n)) what limit e = let w : Bytes ≡ what = cc in let h : n ≡ limit = cc in inr (sym w, (f, ap (λ z. Err (TooLong f z)) h))
+limit_of (Err NoMemory) what limit e = absurd (cc)
 
 pub ran_read : (words : List (List ℕ)) (f g : FilesSeen) (s t : SinkSeen) (detail : Detail) (journal : Option Journal) → Ran words f g s t detail journal → (file : List ℕ) → detail ≡ Read file → FailedAt file f g
 unfolding Ended
@@ -87,12 +94,16 @@ ran_read words f g s t detail journal ran file e = by_end (ended words f g s t d
     by_end (reading, follows, inr (inl (is, rose))) = absurd (cc)
     by_end (reading, follows, inr (inr is)) = absurd (cc)
 
-pub ran_limit : (words : List (List ℕ)) (f g : FilesSeen) (s t : SinkSeen) (detail : Detail) (journal : Option Journal) → Ran words f g s t detail journal → (what : What) (limit : ℕ) → detail ≡ Limit what limit → (file : List ℕ) × LongAt file limit f g
+told_limit : (words : List (List ℕ)) (f g : FilesSeen) (reading : Result Input (Stop Refusal)) (what : What) (limit : ℕ) → Follows (plan_of words) f g reading → ComesToLimit reading what limit → IsLimit words what limit f g
+told_limit words f g reading what limit follows (inl is) = inl (subst (λ z. Follows (plan_of words) f g z) is follows)
+told_limit words f g reading what limit follows (inr (bytes, (file, is))) = inr (bytes, (file, long_file (plan_of words) f g file limit (subst (λ z. Follows (plan_of words) f g z) is follows)))
+
+pub ran_limit : (words : List (List ℕ)) (f g : FilesSeen) (s t : SinkSeen) (detail : Detail) (journal : Option Journal) → Ran words f g s t detail journal → (what : What) (limit : ℕ) → detail ≡ Limit what limit → IsLimit words what limit f g
 unfolding Ended
 ran_limit words f g s t detail journal ran what limit e = by_end (ended words f g s t detail journal ran)
   where
-    by_end : Ended words f g s t detail → (file : List ℕ) × LongAt file limit f g
-    by_end (reading, follows, inl is) = let long = too_long reading what limit (sym is ∙ e) in (long.0, long_file (plan_of words) f g long.0 limit (subst (λ z. Follows (plan_of words) f g z) long.1 follows))
+    by_end : Ended words f g s t detail → IsLimit words what limit f g
+    by_end (reading, follows, inl is) = told_limit words f g reading what limit follows (limit_of reading what limit (sym is ∙ e))
     by_end (reading, follows, inr (inl (is, rose))) = absurd (cc)
     by_end (reading, follows, inr (inr is)) = absurd (cc)
 
@@ -100,6 +111,7 @@ not_write : (reading : Result Input (Stop Refusal)) → settled reading ≢ Writ
 not_write (Ok input) e = cc
 not_write (Err (Refused refusal.Words)) e = cc
 not_write (Err (Refused (refusal.Input f reason))) e = cc
+not_write (Err (Refused (refusal.Limit what limit))) e = cc
 not_write (Err (Unreadable f)) e = cc
 not_write (Err (TooLong f n)) e = cc
 not_write (Err NoMemory) e = cc
@@ -132,6 +144,7 @@ tells_of : (reading whole : Result Input (Stop Refusal)) → Settles reading who
 tells_of (Ok input) whole e = ap settled e
 tells_of (Err (Refused refusal.Words)) whole e = ap settled e
 tells_of (Err (Refused (refusal.Input f reason))) whole e = ap settled e
+tells_of (Err (Refused (refusal.Limit what limit))) whole e = ap settled e
 tells_of (Err (Unreadable f)) whole e = tt
 tells_of (Err (TooLong f n)) whole e = ap settled e
 tells_of (Err NoMemory) whole e = tt

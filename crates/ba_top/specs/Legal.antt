@@ -1,104 +1,154 @@
 -- What a run does with its input.
-use Rattle.std.specs.Prelude.{◌≡◌, ℕ, List, [], ◌∷◌, ◌++◌, ⊤, Bool, true, false, All}
-use Rattle.std.specs.List.{AllZip, list_any}
+use Rattle.std.specs.Prelude.{◌≡◌, ◌==◌, ℕ, List, [], ◌∷◌, ◌++◌, ⊤, Bool, true, false, if◌then◌else◌, All, Some, Err, slice_get}
+use Rattle.std.specs.List.{AllZip, flat_map, list_any}
 use Rattle.ba_comply.specs.Comply.{Agree, Records}
 use Rattle.ba_comply.specs.declared.trace.TraceEntry.{TraceEntry}
 use Rattle.ba_direct.specs.Cover.{Covered, IsCover}
 use Rattle.ba_direct.specs.declared.cover.Cover.{Cover as Covering}
-use Rattle.ba_model.specs.Conform.{Conforms, RowFits, no_context}
+use Rattle.ba_model.specs.Conform.{Conforms, RowFits}
 use Rattle.ba_model.specs.Fit.{PolicyFits}
 use Rattle.ba_model.specs.Meaning.{IsAnswer}
+use Rattle.ba_model.specs.declared.policy.Context.{Context}
 use Rattle.ba_model.specs.declared.query.Query.{Query}
 use Rattle.ba_model.specs.declared.schema.Table.{Table}
 use Rattle.ba_model.specs.declared.value.RowSet.{RowSet}
 use Rattle.ba_model.specs.declared.value.Value.{Value}
-use Rattle.ba_plain.specs.Question.{ReadsQuestion}
+use Rattle.ba_sql_query.specs.Reads.{ReadsQuery}
+use Rattle.ba_sql_query.specs.Texts.{query_of}
+use Rattle.ba_sql_query.specs.declared.fault.ReadQueryFault.{ReadQueryFault}
 use Rattle.ba_top.specs.declared.report.By.TheVariants.{Cover}
 use Rattle.ba_top.specs.declared.report.Entry.{Entry}
-use Rattle.ba_top.specs.declared.report.Entry.TheVariants.{Begin, Ask}
+use Rattle.ba_top.specs.declared.report.Entry.TheVariants.{Begin, Ask, End}
 use Rattle.ba_top.specs.declared.report.Input.{Input}
 use Rattle.ba_top.specs.declared.report.Journal.{Journal}
 use Rattle.ba_top.specs.declared.report.Reply.{Reply}
 use Rattle.ba_top.specs.declared.report.Reply.TheVariants.{Answer, Blocked, Unread, NoMemory}
 use Rattle.ba_top.specs.declared.report.Why.TheVariants.{Uncovered}
+use Rattle.ba_wire.specs.Scripts.{IsScript}
+use Rattle.ba_wire.specs.declared.entry.Script.{Script}
+use Rattle.ba_wire.specs.declared.entry.ScriptEntry.{ScriptEntry}
+use Rattle.ba_wire.specs.declared.entry.ScriptEntry.TheVariants as said
 
 -- the rows fit their tables, list by list
 abbrev pub RowsOfTables : List Table → List (List (List Value)) → Type 0
 RowsOfTables tables lists = AllZip (λ table list. All (RowFits table) list) tables lists
 
--- The input belongs together: the policy fits its schema and has no parameters, and the tables are of that schema and conform to it.
+-- ---- requests, which their begin lines number from 0
+
+abbrev pub context_in : ScriptEntry → List Context
+context_in (said.Begin request name context) = context ∷ []
+context_in (said.Ask request name text) = []
+context_in (said.End request name) = []
+
+-- the contexts of the requests, in the order of their begin lines
+abbrev pub contexts_of : List ScriptEntry → List Context
+contexts_of entries = flat_map context_in entries
+
+-- the request with this number has this context
+abbrev pub HasContext : Script → ℕ → Context → Type 0
+HasContext script number context = slice_get (contexts_of script.entries) number ≡ Some context
+
+-- ---- the input
+
+-- The input belongs together: the policy fits its schema, the tables are of that schema and conform to it, and the script is one for
+-- the policy's parameters.
 pub record IsInput (input : Input) : Type 0 where
   pub policy : PolicyFits input.policy
-  pub no_params : input.policy.params ≡ []
   pub schema : input.tables.schema ≡ input.policy.schema
   pub conform : Conforms input.policy.schema input.tables.rows
+  pub script : IsScript input.policy.params input.script
+
+-- ---- traces
+
+abbrev pub answer_in : Reply → List TraceEntry
+answer_in (Answer query rows by) = record { query = query; rows = rows } ∷ []
+answer_in (Blocked query why) = []
+answer_in (Unread fault) = []
+answer_in NoMemory = []
+
+-- the answer that the entry gives this request, if it gives one
+abbrev pub answer_of : ℕ → Entry → List TraceEntry
+answer_of number (Begin request version) = []
+answer_of number (Ask request version reply) = if request == number then answer_in reply else []
+answer_of number (End request) = []
+
+-- the trace of a request: the answers that entries give it, in order
+abbrev pub trace_of : ℕ → List Entry → List TraceEntry
+trace_of number entries = flat_map (answer_of number) entries
+
+-- ---- replies
 
 -- The user can't tell the database from the request's tables: it meets the schema, gives every view the same rows, and each
 -- earlier answered query its printed rows.
-pub record LooksAlike (input : Input) (trace : List TraceEntry) (d : RowSet) : Type 0 where
+pub record LooksAlike (input : Input) (context : Context) (trace : List TraceEntry) (d : RowSet) : Type 0 where
   pub conforms : Conforms input.policy.schema d
-  pub agrees : Agree input.policy no_context input.tables.rows d
-  pub records : Records trace no_context d
+  pub agrees : Agree input.policy context input.tables.rows d
+  pub records : Records trace context d
+
+-- the text reads as the query, for the policy's schema and parameters
+abbrev pub Reads : Input → List ℕ → Query → Type 0
+Reads input text query = ReadsQuery input.policy.schema input.policy.params text query
 
 -- The text reads as the query, which is covered; the rows are its answer in the request's tables, and in every database that
 -- the user can't tell from them.
-pub record Answered (input : Input) (trace : List TraceEntry) (text : List ℕ) (query : Query) (rows : List (List Value)) (cover : Covering) : Type 0 where
-  pub reads : ReadsQuestion input.policy.schema text query
-  pub covered : IsCover input.policy no_context query cover
-  pub answer : IsAnswer query no_context input.tables.rows rows
-  pub everywhere : (d : RowSet) → LooksAlike input trace d → IsAnswer query no_context d rows
+pub record Answered (input : Input) (context : Context) (trace : List TraceEntry) (text : List ℕ) (query : Query) (rows : List (List Value)) (cover : Covering) : Type 0 where
+  pub reads : Reads input text query
+  pub covered : IsCover input.policy context query cover
+  pub answer : IsAnswer query context input.tables.rows rows
+  pub everywhere : (d : RowSet) → LooksAlike input context trace d → IsAnswer query context d rows
 
 -- the text reads as the query, which isn't covered
-pub record IsUncovered (input : Input) (text : List ℕ) (query : Query) : Type 0 where
-  pub reads : ReadsQuestion input.policy.schema text query
-  pub uncovered : Covered input.policy no_context query → ⊥
+pub record IsUncovered (input : Input) (context : Context) (text : List ℕ) (query : Query) : Type 0 where
+  pub reads : Reads input text query
+  pub uncovered : Covered input.policy context query → ⊥
 
--- the text reads as no query
-pub record HasNoReading (input : Input) (text : List ℕ) : Type 0 where
-  pub none : (query : Query) → ReadsQuestion input.policy.schema text query → ⊥
+-- the text reads as no query, and this is its first fault
+abbrev pub HasFault : Input → List ℕ → ReadQueryFault → Type 0
+HasFault input text fault = query_of input.policy.schema input.policy.params text ≡ Err fault
 
--- A question's reply, after a trace of answered queries. Want of memory may stand in place of any other.
-abbrev pub Replies : Input → List TraceEntry → List ℕ → Reply → Type 0
-Replies input trace text (Answer query rows (Cover cover)) = Answered input trace text query rows cover
-Replies input trace text (Blocked query Uncovered) = IsUncovered input text query
-Replies input trace text (Unread why) = HasNoReading input text
-Replies input trace text NoMemory = ⊤
+-- A question's reply, under its request's context and after its trace. Want of memory may stand in place of any other.
+abbrev pub Replies : Input → Context → List TraceEntry → List ℕ → Reply → Type 0
+Replies input context trace text (Answer query rows (Cover cover)) = Answered input context trace text query rows cover
+Replies input context trace text (Blocked query Uncovered) = IsUncovered input context text query
+Replies input context trace text (Unread fault) = HasFault input text fault
+Replies input context trace text NoMemory = ⊤
 
--- an answer is appended to the trace, and no other reply
-abbrev pub trace_after : List TraceEntry → Reply → List TraceEntry
-trace_after trace (Answer query rows by) = trace ++ record { query = query; rows = rows } ∷ []
-trace_after trace (Blocked query why) = trace
-trace_after trace (Unread why) = trace
-trace_after trace NoMemory = trace
+-- ---- entries
 
--- the entry is of a question of request 0 over version 0 of the tables, with this reply
-abbrev pub IsAsk : Entry → Reply → Type 0
-IsAsk entry reply = entry ≡ Ask 0 0 reply
+-- the entry is of a question of the request over version 0 of the tables, with the reply that it has after earlier entries
+pub record IsAsk (input : Input) (earlier : List Entry) (request : ℕ) (text : List ℕ) (entry : Entry) : Type 0 where
+  pub context : Context
+  pub has : HasContext input.script request context
+  pub reply : Reply
+  pub is : entry ≡ Ask request 0 reply
+  pub replies : Replies input context (trace_of request earlier) text reply
 
--- the questions and their entries, one by one, from a trace on
-abbrev pub LegalAsks : Input → List TraceEntry → List (List ℕ) → List Entry → Type 0
-LegalAsks input trace [] [] = ⊤
-LegalAsks input trace [] (entry ∷ entries) = ⊥
-LegalAsks input trace (text ∷ texts) [] = ⊥
-LegalAsks input trace (text ∷ texts) (entry ∷ entries) =
-    (reply : Reply) × IsAsk entry reply × Replies input trace text reply × LegalAsks input (trace_after trace reply) texts entries
+-- what a line's entry is, after earlier entries
+abbrev pub IsEntry : Input → List Entry → ScriptEntry → Entry → Type 0
+IsEntry input earlier (said.Begin request name context) entry = entry ≡ Begin request 0
+IsEntry input earlier (said.Ask request name text) entry = IsAsk input earlier request text entry
+IsEntry input earlier (said.End request name) entry = entry ≡ End request
 
-abbrev pub LegalEntries : Input → List Entry → Type 0
-LegalEntries input [] = ⊥
-LegalEntries input (entry ∷ entries) = (entry ≡ Begin 0 0) × LegalAsks input [] input.script.asks entries
+-- the lines and their entries, one by one, after earlier entries
+abbrev pub AreEntries : Input → List Entry → List ScriptEntry → List Entry → Type 0
+AreEntries input earlier [] [] = ⊤
+AreEntries input earlier [] (entry ∷ entries) = ⊥
+AreEntries input earlier (line ∷ lines) [] = ⊥
+AreEntries input earlier (line ∷ lines) (entry ∷ entries) = IsEntry input earlier line entry × AreEntries input (earlier ++ entry ∷ []) lines entries
 
--- One entry for each line of the script, in order: the request begins with an empty trace, and each question is answered exactly
--- where it is covered, else blocked, or has no reading.
+-- One entry for each line of the script, in order. A request has an empty trace at its begin line, and each of its questions is
+-- answered exactly where it is covered, else blocked, or has no reading.
 pub record Legal (input : Input) (journal : Journal) : Type 0 where
   pub input_fits : IsInput input
-  pub entries : LegalEntries input journal.entries
+  pub entries : AreEntries input [] input.script.entries journal.entries
 
 unfoldable pub is_memory : Entry → Bool
 is_memory (Begin request version) = false
 is_memory (Ask request version (Answer query rows by)) = false
 is_memory (Ask request version (Blocked query why)) = false
-is_memory (Ask request version (Unread why)) = false
+is_memory (Ask request version (Unread fault)) = false
 is_memory (Ask request version NoMemory) = true
+is_memory (End request) = false
 
 -- whether some line answered want of memory
 abbrev pub lacks_memory : Journal → Bool

@@ -1,7 +1,8 @@
-pub mod Words
-pub mod Script
+pub mod Path
+pub mod Refusals
 pub mod Reading
 pub mod Legal
+pub mod Serving
 pub mod Text
 pub mod Ran
 pub mod Causes

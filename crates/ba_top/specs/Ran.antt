@@ -39,10 +39,10 @@ detail_of (fault.Limit what limit) = Limit what limit
 -- How the writing of a journal ends: all is written, and it is done, or some line lacked memory; or a front is written, and the sink
 -- failed or memory ran out.
 abbrev pub EndsRun : Input → Journal → SinkSeen → SinkSeen → Detail → Type 0
-EndsRun input journal s t Done = (lacks_memory journal ≡ false) × WroteLines (lines_of input.script.request journal) s t
-EndsRun input journal s t Write = SentLines {X = Unit {0}} (lines_of input.script.request journal) s t (Err Failed)
-EndsRun input journal s t Memory = ((lacks_memory journal ≡ true) × WroteLines (lines_of input.script.request journal) s t)
-    ⊎ SentLines {X = Unit {0}} (lines_of input.script.request journal) s t (Err NoRoom)
+EndsRun input journal s t Done = (lacks_memory journal ≡ false) × WroteLines (lines_of input.script journal) s t
+EndsRun input journal s t Write = SentLines {X = Unit {0}} (lines_of input.script journal) s t (Err Failed)
+EndsRun input journal s t Memory = ((lacks_memory journal ≡ true) × WroteLines (lines_of input.script journal) s t)
+    ⊎ SentLines {X = Unit {0}} (lines_of input.script journal) s t (Err NoRoom)
 EndsRun input journal s t Words = ⊥
 EndsRun input journal s t (BadInput file reason) = ⊥
 EndsRun input journal s t (Read file) = ⊥
@@ -58,6 +58,7 @@ EndsFault f s t detail = ((detail ≡ detail_of f) × WroteLines (fault_bytes f 
 abbrev pub EndsStop : Stop Refusal → SinkSeen → SinkSeen → Detail → Type 0
 EndsStop (Refused refusal.Words) s t detail = EndsFault fault.Words s t detail
 EndsStop (Refused (refusal.Input file reason)) s t detail = EndsFault (fault.Input file reason) s t detail
+EndsStop (Refused (refusal.Limit what limit)) s t detail = EndsFault (fault.Limit what limit) s t detail
 EndsStop (Unreadable file) s t detail = EndsFault (fault.Read file) s t detail
 EndsStop (TooLong file limit) s t detail = EndsFault (fault.Limit Bytes limit) s t detail
 EndsStop NoMemory s t detail = (detail ≡ Memory) × (t ≡ s)

@@ -1,57 +1,63 @@
 //! Reads the input that the words name.
 ghost use Rattle.std.specs.Prelude.{◌≡◌, [], All, IfOk, map, string_bytes, Err};
 ghost use Rattle.ba_model.specs.Conform.{RowFits};
-ghost use Rattle.ba_plain.specs.Files.{IsPlainPolicy, IsPlainSchema};
-ghost use Rattle.ba_plain.specs.Texts.{plain_policy_of, plain_schema_of};
+ghost use Rattle.ba_model.specs.Fit.{PolicyFits};
 ghost use Rattle.ba_plan.specs.Follows.{Follows, Gives};
+ghost use Rattle.ba_policy.specs.Reading.{policy_of};
+ghost use Rattle.ba_sql_ddl.specs.Reading.{schema_of};
+ghost use Rattle.ba_tables.specs.Broken.{checked};
 ghost use Rattle.ba_tables.specs.TableFile.{rows_of_file};
 ghost use Rattle.ba_top.specs.Legal.{IsInput, RowsOfTables};
-ghost use Rattle.ba_top.specs.Reading.{or_unbuilt, path_of, plan_of, reading_of, script_plan, table_plan, tables_plan};
-ghost use Rattle.ba_top.specs.Script.{plain_script_of};
-ghost use Rattle.ba_top.specs.declared.report.Refusal.TheVariants as refusals;
-ghost use Rattle.ba_wire.specs.declared.fault.Reason.TheVariants as reasons;
+ghost use Rattle.ba_top.specs.Reading.{command_plan, plan_of, reading_of, rows_plan, script_plan, table_plan, tables_plan};
+ghost use Rattle.ba_top.specs.Refusals.{broken_refusal, ddl_refusal, or_refused, policy_refusal, script_refusal, table_refusal};
+ghost use Rattle.ba_wire.specs.Reading.{script_of};
+ghost use Rattle.ba_wire.specs.Scripts.{IsScript};
 
-use crate::report::{Input, Refusal, Script};
-use crate::script::read_script;
-use crate::words::{Named, form};
+use crate::refusal::{
+    broken_refusal, ddl_refusal, path, policy_refusal, script_refusal, table_refusal,
+};
+use crate::report::{Input, Refusal};
+use ba_command::{Command, WordsError, read_words};
 use ba_model::list::List;
-use ba_model::policy::Policy;
+use ba_model::policy::{Parameter, Policy};
 use ba_model::schema::{Schema, Table};
 use ba_model::text::Str;
 use ba_model::value::{Row, RowSet};
 use ba_outside::Files;
-use ba_plain::{PlainError, read_policy, read_schema};
 use ba_plan::{Stop, read_file};
+use ba_policy::{PolicyError, read_policy};
+use ba_sql_ddl::{DdlError, read_schema};
+use ba_tables::broken::TablesError;
 use ba_tables::fault::TableError;
 use ba_tables::file;
 use ba_tables::tables::Tables;
-use ba_wire::fault::Reason;
-use std::alloc::{AllocError, Global};
+use ba_wire::entry::{Script, ScriptError};
+use ba_wire::read::read_script;
+use std::alloc::Global;
 
 /// The most bytes of a file.
 pub const MAX_BYTES: u64 = 67_108_864;
 
-// A file without a reading.
-fn unbuilt<T>(alloc: Global, file: &str) -> Result<T, Stop<Refusal>>
-    ensures { Gives result (Err (refusals.Input file.now reasons.Unbuilt)) }
-{
-    match Str::new(alloc, file) {
-        Ok(file) => Err(Stop::Refused(Refusal::Input {
-            file,
-            reason: Reason::Unbuilt,
-        })),
-        Err(_) => Err(Stop::NoMemory),
-    }
+/// The names of the files and of the table set.
+#[derive(Clone, Copy, Debug)]
+struct Named<'a> {
+    schema: &'a str,
+    policy: &'a str,
+    tables: &'a str,
+    script: &'a str,
 }
 
 fn schema_at(alloc: Global, file: &str, bytes: &List<u8>) -> Result<Schema, Stop<Refusal>>
-    ensures reads { Gives result (or_unbuilt file.now (plain_schema_of bytes.now)) }
-    ensures plain { IfOk result IsPlainSchema }
+    ensures reads { Gives result (or_refused (ddl_refusal file.now) (schema_of bytes.now)) }
+    ensures rules { IfOk result (λ schema. schema.rules ≡ []) }
 {
     match read_schema(alloc, bytes.as_slice()) {
         Ok(schema) => Ok(schema),
-        Err(PlainError::Unbuilt) => unbuilt(alloc, file),
-        Err(PlainError::NoMemory) => Err(Stop::NoMemory),
+        Err(DdlError::Fault(fault)) => {
+            let file = Str::new(alloc, file)?;
+            Err(Stop::Refused(ddl_refusal(file, fault)))
+        }
+        Err(DdlError::NoMemory) => Err(Stop::NoMemory),
     }
 }
 
@@ -61,13 +67,17 @@ fn policy_at(
     schema: &Schema,
     bytes: &List<u8>,
 ) -> Result<Policy, Stop<Refusal>>
-    ensures reads { Gives result (or_unbuilt file.now (plain_policy_of schema.now bytes.now)) }
-    ensures plain { IfOk result (IsPlainPolicy schema.now) }
+    ensures reads { Gives result (or_refused (policy_refusal file.now) (policy_of schema.now bytes.now)) }
+    ensures fits { IfOk result PolicyFits }
+    ensures same { IfOk result (λ policy. policy.schema ≡ schema.now) }
 {
     match read_policy(alloc, schema, bytes.as_slice()) {
         Ok(policy) => Ok(policy),
-        Err(PlainError::Unbuilt) => unbuilt(alloc, file),
-        Err(PlainError::NoMemory) => Err(Stop::NoMemory),
+        Err(PolicyError::Fault(fault)) => {
+            let file = Str::new(alloc, file)?;
+            Err(Stop::Refused(policy_refusal(file, fault)))
+        }
+        Err(PolicyError::NoMemory) => Err(Stop::NoMemory),
     }
 }
 
@@ -77,30 +87,57 @@ fn rows_at(
     table: &Table,
     bytes: &List<u8>,
 ) -> Result<List<Row>, Stop<Refusal>>
-    ensures reads { Gives result (or_unbuilt file.now (rows_of_file table.now bytes.now)) }
+    ensures reads { Gives result (or_refused (table_refusal file.now) (rows_of_file table.now bytes.now)) }
     ensures fit { IfOk result (All (RowFits table.now)) }
 {
     match file::rows_of_file(alloc, table, bytes.as_slice()) {
         Ok(rows) => Ok(rows),
-        Err(TableError::Fault(_)) => unbuilt(alloc, file),
+        Err(TableError::Fault(fault)) => {
+            let file = Str::new(alloc, file)?;
+            Err(Stop::Refused(table_refusal(file, fault)))
+        }
         Err(TableError::NoMemory) => Err(Stop::NoMemory),
     }
 }
 
-fn script_at(alloc: Global, file: &str, bytes: &List<u8>) -> Result<Script, Stop<Refusal>>
-    ensures { Gives result (or_unbuilt file.now (plain_script_of bytes.now)) }
+fn script_at(
+    alloc: Global,
+    file: &str,
+    params: &List<Parameter>,
+    bytes: &List<u8>,
+) -> Result<Script, Stop<Refusal>>
+    ensures reads { Gives result (or_refused (script_refusal file.now) (script_of params.now bytes.now)) }
+    ensures script { IfOk result (IsScript params.now) }
 {
-    match read_script(alloc, bytes.as_slice()) {
+    match read_script(alloc, params, bytes.as_slice()) {
         Ok(script) => Ok(script),
-        Err(PlainError::Unbuilt) => unbuilt(alloc, file),
-        Err(PlainError::NoMemory) => Err(Stop::NoMemory),
+        Err(ScriptError::Fault(fault)) => {
+            let file = Str::new(alloc, file)?;
+            Err(Stop::Refused(script_refusal(file, fault)))
+        }
+        Err(ScriptError::NoMemory) => Err(Stop::NoMemory),
     }
 }
 
-fn path(alloc: Global, set: &str, table: &Str) -> Result<String, AllocError>
-    ensures { IfOk result (λ name. string_bytes name ≡ path_of set.now table.now) }
+// The tables, where no key and no link is broken.
+fn checked_at(
+    alloc: Global,
+    set: &str,
+    schema: &Schema,
+    rows: RowSet,
+) -> Result<Tables, Stop<Refusal>>
+    requires fit { RowsOfTables schema.now.tables rows.tables }
+    requires rules { schema.now.rules ≡ [] }
+    ensures { Gives result (or_refused (broken_refusal set.now schema.now) (checked schema.now rows)) }
 {
-    format!(in alloc; "{set}/{table}.csv")
+    match Tables::check(alloc, schema, rows) {
+        Ok(tables) => Ok(tables),
+        Err(TablesError::Fault(fault)) => {
+            let refusal = broken_refusal(alloc, set, schema, fault)?;
+            Err(Stop::Refused(refusal))
+        }
+        Err(TablesError::NoMemory) => Err(Stop::NoMemory),
+    }
 }
 
 fn read_table<F: Files>(
@@ -112,19 +149,19 @@ fn read_table<F: Files>(
     ensures follows { Follows (table_plan set.now table.now) (F.seen files.old) (F.seen files.new) result }
     ensures fit { IfOk result (All (RowFits table.now)) }
 {
-    let name = path(alloc, set, &table.name)?;
+    let name = path(alloc, set, table.name.as_str())?;
     let bytes = read_file(alloc, files, name.as_str(), MAX_BYTES)?;
     rows_at(alloc, name.as_str(), table, &bytes)
 }
 
 // The rows of each table, in the schema's order.
-fn read_tables<F: Files>(
+fn read_rows<F: Files>(
     alloc: Global,
     files: &mut F,
     set: &str,
     tables: &[Table],
 ) -> Result<List<List<Row>>, Stop<Refusal>>
-    ensures follows { Follows (tables_plan set.now tables.now []) (F.seen files.old) (F.seen files.new) result }
+    ensures follows { Follows (rows_plan set.now tables.now []) (F.seen files.old) (F.seen files.new) result }
     ensures fit { IfOk result (λ lists. RowsOfTables tables.now lists) }
 {
     let mut lists = List::new(alloc);
@@ -135,27 +172,40 @@ fn read_tables<F: Files>(
     Ok(lists)
 }
 
+// The rows of a table set, which break no key and no link.
+fn read_tables<F: Files>(
+    alloc: Global,
+    files: &mut F,
+    set: &str,
+    schema: &Schema,
+) -> Result<Tables, Stop<Refusal>>
+    requires rules { schema.now.rules ≡ [] }
+    ensures follows { Follows (tables_plan set.now schema.now) (F.seen files.old) (F.seen files.new) result }
+    ensures schema { IfOk result (λ tables. tables.schema ≡ schema.now) }
+{
+    let lists = read_rows(alloc, files, set, schema.tables.as_slice())?;
+    let rows = RowSet { tables: lists };
+    checked_at(alloc, set, schema, rows)
+}
+
 // The last file, and all of the input.
 fn read_rest<F: Files>(
     alloc: Global,
     files: &mut F,
     name: &str,
-    schema: Schema,
     policy: Policy,
-    lists: List<List<Row>>,
+    tables: Tables,
 ) -> Result<Input, Stop<Refusal>>
-    requires schema { IsPlainSchema schema }
-    requires policy { IsPlainPolicy schema policy }
-    requires rows { RowsOfTables schema.tables lists }
-    ensures follows { Follows (script_plan name.now schema policy lists) (F.seen files.old) (F.seen files.new) result }
+    requires policy { PolicyFits policy }
+    requires schema { tables.schema ≡ policy.schema }
+    ensures follows { Follows (script_plan name.now policy tables) (F.seen files.old) (F.seen files.new) result }
     ensures input { IfOk result IsInput }
 {
     let bytes = read_file(alloc, files, name, MAX_BYTES)?;
-    let script = script_at(alloc, name, &bytes)?;
-    let rows = RowSet { tables: lists };
+    let script = script_at(alloc, name, &policy.params, &bytes)?;
     Ok(Input {
         policy,
-        tables: Tables::unkeyed(schema, rows),
+        tables,
         script,
     })
 }
@@ -173,8 +223,35 @@ fn read_named<F: Files>(
     let schema = schema_at(alloc, named.schema, &bytes)?;
     let text = read_file(alloc, files, named.policy, MAX_BYTES)?;
     let policy = policy_at(alloc, named.policy, &schema, &text)?;
-    let lists = read_tables(alloc, files, named.tables, schema.tables.as_slice())?;
-    read_rest(alloc, files, named.script, schema, policy, lists)
+    let tables = read_tables(alloc, files, named.tables, &schema)?;
+    read_rest(alloc, files, named.script, policy, tables)
+}
+
+fn read_command<F: Files>(
+    alloc: Global,
+    command: &Command,
+    files: &mut F,
+) -> Result<Input, Stop<Refusal>>
+    ensures follows { Follows (command_plan command.now) (F.seen files.old) (F.seen files.new) result }
+    ensures input { IfOk result IsInput }
+{
+    match command {
+        Command::Run {
+            schema,
+            policy,
+            tables,
+            script,
+            ..
+        } => {
+            let named = Named {
+                schema: schema.as_str(),
+                policy: policy.as_str(),
+                tables: tables.as_str(),
+                script: script.as_str(),
+            };
+            read_named(alloc, files, &named)
+        }
+    }
 }
 
 /// Reads the input that the words name: each file once, in order, up to the first fault.
@@ -186,8 +263,9 @@ pub(crate) fn read_input<F: Files>(
     ensures follows { Follows (plan_of (map string_bytes words.now)) (F.seen files.old) (F.seen files.new) result }
     ensures input { IfOk result IsInput }
 {
-    match form(words) {
-        Some(named) => read_named(alloc, files, &named),
-        None => Err(Stop::Refused(Refusal::Words)),
+    match read_words(alloc, words) {
+        Ok(command) => read_command(alloc, &command, files),
+        Err(WordsError::Words) => Err(Stop::Refused(Refusal::Words)),
+        Err(WordsError::NoMemory) => Err(Stop::NoMemory),
     }
 }

@@ -4,12 +4,11 @@
 
 mod input;
 mod print;
+mod refusal;
 mod report;
-mod script;
 mod serve;
 mod summary;
 mod top;
-mod words;
 
-pub use report::{By, Detail, Entry, Input, Journal, Outcome, Refusal, Reply, Script, Why};
+pub use report::{By, Detail, Entry, Input, Journal, Outcome, Refusal, Reply, Why};
 pub use top::blockaid;

@@ -1,14 +1,15 @@
 //! Writes the lines of a run.
-ghost use Rattle.std.specs.Prelude.{◌≡◌, [], ◌∷◌, IfOk, string_bytes};
+ghost use Rattle.std.specs.Prelude.{◌≡◌, [], ◌∷◌, IfOk, length, string_bytes};
 ghost use Rattle.ba_plan.specs.Sent.{SentLines};
 ghost use Rattle.ba_wire.specs.Printed.{fault_bytes, printed};
-ghost use Rattle.ba_top.specs.Text.{entry_bytes, entry_line, lines_of, reply_line, total_bytes};
+ghost use Rattle.ba_top.specs.Text.{entry_bytes, entry_line, lines_of, name_in, reply_line, total_bytes};
 
 use crate::report::{By, Entry, Journal, Reply, Why};
 use crate::summary::summary;
 use ba_model::text::Str;
 use ba_outside::{Sink, WriteFail};
 use ba_plan::send;
+use ba_wire::entry::{Script, ScriptEntry};
 use ba_wire::fault::{Fault, fault_text};
 use ba_wire::line::{Block, By as PrintedBy, Line, line_text};
 use ba_wire::summary::summary_text;
@@ -35,34 +36,50 @@ fn reply_line<'a>(request: &'a Str, line: u64, version: u32, reply: &'a Reply) -
                 version,
             },
         },
-        Reply::Unread(unread) => Line::Unread {
+        Reply::Unread(fault) => Line::Unread {
             line,
             request,
-            unread: *unread,
+            unread: fault,
             version,
         },
         Reply::NoMemory => Line::Memory { line },
     }
 }
 
-fn entry_line<'a>(request: &'a Str, line: u64, entry: &'a Entry) -> Line<'a>
-    ensures { printed result ≡ entry_line request.now line entry.now }
+fn entry_line<'a>(name: &'a Str, line: u64, entry: &'a Entry) -> Line<'a>
+    ensures { printed result ≡ entry_line name.now line entry.now }
 {
     match entry {
         Entry::Begin { version, .. } => Line::Begin {
-            begin: request,
+            begin: name,
             line,
             version: *version,
         },
-        Entry::Ask { version, reply, .. } => reply_line(request, line, *version, reply),
+        Entry::Ask { version, reply, .. } => reply_line(name, line, *version, reply),
+        Entry::End { .. } => Line::End { end: name, line },
+    }
+}
+
+fn name_in(said: &ScriptEntry) -> &Str
+    ensures { result.now ≡ name_in said.now }
+{
+    match said {
+        ScriptEntry::Begin { name, .. } => name,
+        ScriptEntry::Ask { name, .. } => name,
+        ScriptEntry::End { name, .. } => name,
     }
 }
 
 #[tactic(auto, unfolding(crate::specs::Text::entry_bytes))]
-fn entry_text(alloc: Global, request: &Str, line: u64, entry: &Entry) -> Result<String, AllocError>
-    ensures { IfOk result (λ text. string_bytes text ≡ entry_bytes request.now line entry.now) }
+fn entry_text(
+    alloc: Global,
+    said: &ScriptEntry,
+    line: u64,
+    entry: &Entry,
+) -> Result<String, AllocError>
+    ensures { IfOk result (λ text. string_bytes text ≡ entry_bytes said.now line entry.now) }
 {
-    line_text(alloc, &entry_line(request, line, entry))
+    line_text(alloc, &entry_line(name_in(said), line, entry))
 }
 
 // The summary's line, if there is memory for it and each of its numbers is one of 64 bits.
@@ -79,22 +96,26 @@ fn summary_line(alloc: Global, journal: &Journal) -> Result<String, WriteFail>
     }
 }
 
-/// Writes a line for each entry, in order, and then the summary.
+/// Writes a line for each line of the script, by its entry, in order, and then the summary.
 pub(crate) fn print<S: Sink>(
     alloc: Global,
-    request: &Str,
+    script: &Script,
     journal: &Journal,
     sink: &mut S,
 ) -> Result<(), WriteFail>
-    ensures { SentLines (lines_of request.now journal.now) (S.seen sink.old) (S.seen sink.new) result }
+    requires { length journal.now.entries ≡ length script.now.entries }
+    ensures { SentLines (lines_of script.now journal.now) (S.seen sink.old) (S.seen sink.new) result }
 {
-    let mut line = 1u64;
-    for entry in journal.entries.as_slice() {
-        let Ok(text) = entry_text(alloc, request, line, entry) else {
+    for i in 0..journal.entries.len() {
+        let Ok(text) = entry_text(
+            alloc,
+            script.entries.get(i),
+            i as u64 + 1,
+            journal.entries.get(i),
+        ) else {
             return Err(WriteFail::NoMemory);
         };
         send(sink, text.as_bytes())?;
-        line += 1;
     }
     let Ok(text) = summary_line(alloc, journal) else {
         return Err(WriteFail::NoMemory);

@@ -6,9 +6,10 @@ use ba_model::policy::Policy;
 use ba_model::query::Query;
 use ba_model::text::Str;
 use ba_model::value::Row;
+use ba_sql_query::ReadQueryFault;
 use ba_tables::tables::Tables;
+use ba_wire::entry::Script;
 use ba_wire::fault::{Reason, What};
-use ba_wire::line::Unread;
 
 /// What the words name, once it is read.
 #[derive(Debug, Drop)]
@@ -16,13 +17,6 @@ pub struct Input {
     pub policy: Policy,
     pub tables: Tables,
     pub script: Script,
-}
-
-/// The script of one request: its name and its questions, in order.
-#[derive(Debug, Drop)]
-pub struct Script {
-    pub request: Str,
-    pub asks: List<Str>,
 }
 
 /// Why a question is answered: the evidence.
@@ -52,8 +46,8 @@ pub enum Reply {
         query: Query,
         why: Why,
     },
-    /// The text reads as no query.
-    Unread(Unread),
+    /// The text reads as no query: its first fault.
+    Unread(ReadQueryFault),
     NoMemory,
 }
 
@@ -69,6 +63,9 @@ pub enum Entry {
         version: u32,
         reply: Reply,
     },
+    End {
+        request: u32,
+    },
 }
 
 /// What became of each line of the script, in order.
@@ -82,8 +79,10 @@ pub struct Journal {
 pub enum Refusal {
     /// The words are no command's form.
     Words,
-    /// A file without a reading.
+    /// A file without a reading, or one whose rows break a key or a link.
     Input { file: Str, reason: Reason },
+    /// A count of a file above its limit.
+    Limit { what: What, limit: u64 },
 }
 
 /// How a run ended.
@@ -93,7 +92,7 @@ pub enum Detail {
     Done,
     /// The words are no command's form.
     Words,
-    /// A file without a reading.
+    /// A file without a reading, or one whose rows break a key or a link.
     Input { file: Str, reason: Reason },
     /// A file that could not be read.
     Read { file: Str },

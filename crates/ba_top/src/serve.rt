@@ -1,11 +1,12 @@
 //! Answers the questions of a script.
-ghost use Rattle.std.specs.Prelude.{◌≡◌, ℕ, IfOk};
+ghost use Rattle.std.specs.Prelude.{◌≡◌, ◌++◌, ℕ, IfOk};
 ghost use Rattle.std.specs.Prelude.{List as Sequence};
 ghost use Rattle.ba_comply.specs.Comply.{Records};
 ghost use Rattle.ba_comply.specs.declared.trace.TraceEntry.{TraceEntry};
-ghost use Rattle.ba_model.specs.Conform.{no_context};
-ghost use Rattle.ba_plain.specs.Question.{ReadsQuestion};
-ghost use Rattle.ba_top.specs.Legal.{IsInput, Legal, Replies};
+ghost use Rattle.ba_model.specs.Fit.{ContextFits, kinds_of};
+ghost use Rattle.ba_top.specs.Legal.{IsEntry, IsInput, Legal, Reads, Replies, context_in};
+ghost use Rattle.ba_top.specs.Serving.{IsKnown, IsRecorded};
+ghost use Rattle.ba_top.specs.declared.report.Entry.{Entry as Answered};
 
 use crate::report::{By, Entry, Input, Journal, Reply, Why};
 use ba_comply::laws::answer_everywhere;
@@ -14,26 +15,31 @@ use ba_eval::answer;
 use ba_model::list::List;
 use ba_model::policy::Context;
 use ba_model::query::Query;
+use ba_model::same::Duplicate;
 use ba_model::text::Str;
 use ba_outside::Gate;
-use ba_plain::{PlainError, read_question};
-use ba_wire::line::Unread;
+use ba_sql_query::laws::query_reading;
+use ba_sql_query::{ReadQueryError, read_query};
+use ba_wire::entry::ScriptEntry;
 use std::alloc::{AllocError, Global};
 
 // Answers the query where it is covered, and else blocks it.
-fn decide(alloc: Global, input: &Input, query: Query) -> Result<Reply, AllocError>
-    requires { IsInput input.now }
-    ensures { IfOk result (λ reply. (trace : Sequence TraceEntry) (text : Sequence ℕ) → ReadsQuestion input.now.policy.schema text query
-        → Records trace no_context input.now.tables.rows → Replies input.now trace text reply) }
+fn decide(
+    alloc: Global,
+    input: &Input,
+    context: &Context,
+    query: Query,
+) -> Result<Reply, AllocError>
+    requires input { IsInput input.now }
+    requires fits { ContextFits (kinds_of input.now.policy.params) context.now }
+    ensures { IfOk result (λ reply. (trace : Sequence TraceEntry) (text : Sequence ℕ) → Reads input.now text query
+        → Records trace context.now input.now.tables.rows → Replies input.now context.now trace text reply) }
 {
     answer_everywhere();
-    let context = Context {
-        values: List::new(alloc),
-    };
-    let found = cover(alloc, &input.policy, &context, &query)?;
+    let found = cover(alloc, &input.policy, context, &query)?;
     match found {
         Some(cover) => {
-            let rows = answer(alloc, input.tables.rows(), &context, &query)?;
+            let rows = answer(alloc, input.tables.rows(), context, &query)?;
             Ok(Reply::Answer {
                 query,
                 rows,
@@ -48,17 +54,59 @@ fn decide(alloc: Global, input: &Input, query: Query) -> Result<Reply, AllocErro
 }
 
 // The reply to a question, whatever was answered before.
-fn reply_to(alloc: Global, input: &Input, text: &Str) -> Reply
-    requires { IsInput input.now }
-    ensures { (trace : Sequence TraceEntry) → Records trace no_context input.now.tables.rows → Replies input.now trace text.now result }
+fn reply_to(alloc: Global, input: &Input, context: &Context, text: &Str) -> Reply
+    requires input { IsInput input.now }
+    requires fits { ContextFits (kinds_of input.now.policy.params) context.now }
+    ensures { (trace : Sequence TraceEntry) → Records trace context.now input.now.tables.rows
+        → Replies input.now context.now trace text.now result }
 {
-    match read_question(alloc, &input.policy.schema, text.as_str()) {
-        Ok(query) => match decide(alloc, input, query) {
+    query_reading();
+    match read_query(
+        alloc,
+        &input.policy.schema,
+        &input.policy.params,
+        text.as_str(),
+    ) {
+        Ok(query) => match decide(alloc, input, context, query) {
             Ok(reply) => reply,
             Err(_) => Reply::NoMemory,
         },
-        Err(PlainError::Unbuilt) => Reply::Unread(Unread::Unbuilt),
-        Err(PlainError::NoMemory) => Reply::NoMemory,
+        Err(ReadQueryError::Fault(fault)) => Reply::Unread(fault),
+        Err(ReadQueryError::NoMemory) => Reply::NoMemory,
+    }
+}
+
+// Keeps the context of a request that begins.
+fn keep_context(
+    alloc: Global,
+    contexts: &mut List<Context>,
+    said: &ScriptEntry,
+) -> Result<(), AllocError>
+    ensures { IfOk result (λ _. contexts.new ≡ contexts.old ++ context_in said.now) }
+{
+    match said {
+        ScriptEntry::Begin { context, .. } => contexts.push(context.copy(alloc)?),
+        ScriptEntry::Ask { .. } | ScriptEntry::End { .. } => Ok(()),
+    }
+}
+
+// The entry of a line, whatever was answered before.
+fn entry_of(alloc: Global, input: &Input, contexts: &List<Context>, said: &ScriptEntry) -> Entry
+    requires input { IsInput input.now }
+    requires known { IsKnown input.now contexts.now said.now }
+    ensures { (earlier : Sequence Answered) → IsRecorded input.now earlier → IsEntry input.now earlier said.now result }
+{
+    match said {
+        ScriptEntry::Begin { request, .. } => Entry::Begin {
+            request: *request,
+            version: 0,
+        },
+        ScriptEntry::Ask { request, query, .. } => Entry::Ask {
+            request: *request,
+            version: 0,
+            reply: reply_to(alloc, input, contexts.get(*request as usize), query),
+        },
+        ScriptEntry::End { request, .. } => Entry::End { request: *request },
     }
 }
 
@@ -67,21 +115,14 @@ pub(crate) fn serve<G: Gate>(alloc: Global, input: &Input, gate: &G) -> Result<J
     requires { IsInput input.now }
     ensures { IfOk result (λ journal. Legal input.now journal) }
 {
+    let mut contexts = List::new(alloc);
     let mut entries = List::new(alloc);
-    gate.pass(0, 0);
-    entries.push(Entry::Begin {
-        request: 0,
-        version: 0,
-    })?;
     let mut point = 0u32;
-    for text in input.script.asks.as_slice() {
-        point = point.saturating_add(1);
+    for said in input.script.entries.as_slice() {
         gate.pass(0, point);
-        entries.push(Entry::Ask {
-            request: 0,
-            version: 0,
-            reply: reply_to(alloc, input, text),
-        })?;
+        point = point.saturating_add(1);
+        keep_context(alloc, &mut contexts, said)?;
+        entries.push(entry_of(alloc, input, &contexts, said))?;
     }
     Ok(Journal { entries })
 }

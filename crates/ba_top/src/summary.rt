@@ -13,7 +13,7 @@ fn is_begin(entry: &Entry) -> bool
 {
     match entry {
         Entry::Begin { .. } => true,
-        Entry::Ask { .. } => false,
+        Entry::Ask { .. } | Entry::End { .. } => false,
     }
 }
 
@@ -22,7 +22,7 @@ fn is_answer(entry: &Entry) -> bool
     ensures { result ≡ is_answer entry.now }
 {
     match entry {
-        Entry::Begin { .. } => false,
+        Entry::Begin { .. } | Entry::End { .. } => false,
         Entry::Ask { reply, .. } => match reply {
             Reply::Answer { .. } => true,
             Reply::Blocked { .. } | Reply::Unread(_) | Reply::NoMemory => false,
@@ -35,7 +35,7 @@ fn is_block(entry: &Entry) -> bool
     ensures { result ≡ is_block entry.now }
 {
     match entry {
-        Entry::Begin { .. } => false,
+        Entry::Begin { .. } | Entry::End { .. } => false,
         Entry::Ask { reply, .. } => match reply {
             Reply::Blocked { .. } => true,
             Reply::Answer { .. } | Reply::Unread(_) | Reply::NoMemory => false,
@@ -48,7 +48,7 @@ fn is_unread(entry: &Entry) -> bool
     ensures { result ≡ is_unread entry.now }
 {
     match entry {
-        Entry::Begin { .. } => false,
+        Entry::Begin { .. } | Entry::End { .. } => false,
         Entry::Ask { reply, .. } => match reply {
             Reply::Unread(_) => true,
             Reply::Answer { .. } | Reply::Blocked { .. } | Reply::NoMemory => false,
@@ -61,7 +61,7 @@ fn is_memory(entry: &Entry) -> bool
     ensures { result ≡ is_memory entry.now }
 {
     match entry {
-        Entry::Begin { .. } => false,
+        Entry::Begin { .. } | Entry::End { .. } => false,
         Entry::Ask { reply, .. } => match reply {
             Reply::NoMemory => true,
             Reply::Answer { .. } | Reply::Blocked { .. } | Reply::Unread(_) => false,
@@ -74,7 +74,7 @@ fn row_count(entry: &Entry) -> usize
     ensures { result ≡ row_count entry.now }
 {
     match entry {
-        Entry::Begin { .. } => 0,
+        Entry::Begin { .. } | Entry::End { .. } => 0,
         Entry::Ask { reply, .. } => match reply {
             Reply::Answer { rows, .. } => rows.len(),
             Reply::Blocked { .. } | Reply::Unread(_) | Reply::NoMemory => 0,

@@ -1,10 +1,10 @@
 //! The top call.
-ghost use Rattle.std.specs.Prelude.{◌≡◌, ◌⊎◌, List, ℕ, map, string_bytes, IfSome};
+ghost use Rattle.std.specs.Prelude.{◌≡◌, ◌⊎◌, List, ℕ, length, map, string_bytes, IfSome};
 ghost use Rattle.ba_outside.specs.Causes.{Rose};
-ghost use Rattle.ba_plan.specs.Ends.{AsksFront, FailedAt, LongAt};
+ghost use Rattle.ba_plan.specs.Ends.{AsksFront, FailedAt};
 ghost use Rattle.ba_plan.specs.Follows.{Follows};
 ghost use Rattle.ba_plan.specs.Plan.{names_of, outcome_of};
-ghost use Rattle.ba_top.specs.Causes.{Tells, settled};
+ghost use Rattle.ba_top.specs.Causes.{IsLimit, Tells, settled};
 ghost use Rattle.ba_top.specs.Headline.{Headline};
 ghost use Rattle.ba_top.specs.Ran.{EndsFault, EndsRun, EndsStop, Ran, detail_of, status_of};
 ghost use Rattle.ba_top.specs.Reading.{plan_of};
@@ -47,9 +47,10 @@ fn detail(fault: Fault) -> Detail
 }
 
 fn end_run<S: Sink>(alloc: Global, input: &Input, journal: &Journal, sink: &mut S) -> Detail
+    requires { length journal.now.entries ≡ length input.now.script.entries }
     ensures { EndsRun input.now journal.now (S.seen sink.old) (S.seen sink.new) result }
 {
-    match print(alloc, &input.script.request, journal, sink) {
+    match print(alloc, &input.script, journal, sink) {
         Ok(()) => {
             if has_memory_line(journal) {
                 Detail::Memory
@@ -81,6 +82,7 @@ fn end_stop<S: Sink>(alloc: Global, stop: Stop<Refusal>, sink: &mut S) -> Detail
             Refusal::Input { file, reason } => {
                 end_fault(alloc, Fault::Input { file, reason }, sink)
             }
+            Refusal::Limit { what, limit } => end_fault(alloc, Fault::Limit { what, limit }, sink),
         },
         Stop::Read(file) => end_fault(alloc, Fault::Read { file }, sink),
         Stop::TooLong(_, limit) => {
@@ -114,10 +116,11 @@ fn run<F: Files, S: Sink, G: Gate>(
 ///
 /// Reads the schema S, the policy P, the file D/T.csv of each table T in the schema's order and the script F, each once; then answers
 /// or blocks each question of the script; then writes a line for each line of the script, in order, and the summary. A question is
-/// answered exactly where single views of the policy cover it.
+/// answered exactly where single views of the policy cover it, under its request's context.
 ///
-/// The first fault ends the run with one fault line: words of another form (status 2), a file that isn't of the plain form (3), a file
-/// that can't be read (4), a file of more than 67,108,864 bytes (7). A write that fails ends it with status 5, want of memory with 6.
+/// The first fault ends the run with one fault line: words of another form (status 2), a file that has no reading, or rows that break
+/// a key or a link (3), a file that can't be read (4), a count above its limit (7). A write that fails ends it with status 5, want
+/// of memory with 6.
 pub fn blockaid<F: Files, S: Sink, G: Gate + Sync>(
     alloc: Global,
     words: &[String],
@@ -136,9 +139,9 @@ pub fn blockaid<F: Files, S: Sink, G: Gate + Sync>(
 
     // A read fault names the last name asked for, and the files' count rose.
     ensures read { (file : List ℕ) → result.detail ≡ Detail.Read file → FailedAt file (F.seen files.old) (F.seen files.new) }
-    // A count above its limit is of the bytes of the last name asked for.
+    // A count above its limit is one of what was read, or of the bytes of the last name asked for.
     ensures limit { (what : What) (limit : ℕ) → result.detail ≡ Detail.Limit what limit
-        → (file : List ℕ) × LongAt file limit (F.seen files.old) (F.seen files.new) }
+        → IsLimit (map string_bytes words.now) what limit (F.seen files.old) (F.seen files.new) }
     // A write fault comes only where the sink's count rose.
     ensures write { result.detail ≡ Detail.Write → Rose (S.seen sink.old).faults (S.seen sink.new).faults }
 

@@ -1,4 +1,10 @@
+pub mod ContextLemmas
+pub mod FitLemmas
 pub mod FormLemmas
 pub mod LineLemmas
+pub mod MeaningLemmas
+pub mod OpenLemmas
 pub mod PrintedLemmas
+pub mod SaysLemmas
 pub mod ScriptLemmas
+pub mod TrackingLemmas

@@ -1,12 +1,12 @@
 -- No printed value has a float, and none nests deeper than the reader goes.
-use Rattle.std.proofs.Common.{◌≡◌, List, [], ◌∷◌, false, ◌≤◌, map, refl, pos, negsuc, arith}
-use Rattle.serde_json.specs.Data.{depth, items_depth}
+use Rattle.std.proofs.Common.{◌≡◌, ℕ, List, [], ◌∷◌, false, ◌≤◌, map, Option, Some, None, refl, pos, negsuc, arith}
+use Rattle.serde_json.specs.Data.{depth, items_depth, members_depth}
 use Rattle.serde_json.specs.Read.{max_depth}
 use Rattle.serde_json.specs.View.{items_of}
-use Rattle.serde_json.specs.Written.{has_float, items_have_float}
+use Rattle.serde_json.specs.Written.{has_float, items_have_float, members_have_float}
 use Rattle.ba_model.specs.declared.value.Value.{Value}
 use Rattle.ba_model.specs.declared.value.Value.TheVariants as value
-use Rattle.ba_wire.specs.Printed.{Printed, begin, answer, block, unread, memory, value_json, row_json, json_of}
+use Rattle.ba_wire.specs.Printed.{Printed, begin, end, answer, block, unread, memory, word_member, unsupported_in, value_json, row_json, json_of}
 
 value_whole : (v : Value) → has_float (value_json v) ≡ false
 value_whole value.Null = refl
@@ -22,12 +22,17 @@ rows_whole : (rs : List (List Value)) → items_have_float (items_of (map row_js
 rows_whole [] = refl
 rows_whole (r ∷ rs) = rw (row_whole r) (rows_whole rs)
 
+word_whole : (word : Option (List ℕ)) → members_have_float (word_member word) ≡ false
+word_whole None = refl
+word_whole (Some word) = refl
+
 pub json_whole : (p : Printed) → has_float (json_of p) ≡ false
 unfolding json_of
 json_whole (begin request line version) = refl
+json_whole (end request line) = refl
 json_whole (answer by line request rows version) = rw (rows_whole rows) refl
 json_whole (block why line request version) = refl
-json_whole (unread line request why version) = refl
+json_whole (unread line request why version) = word_whole (unsupported_in why)
 json_whole (memory line) = refl
 
 row_flat : (vs : List Value) → items_depth (items_of (map value_json vs)) ≤ 0
@@ -40,10 +45,15 @@ rows_flat : (rs : List (List Value)) → items_depth (items_of (map row_json rs)
 rows_flat [] = omega arith
 rows_flat (r ∷ rs) = let first = row_flat r in let rest = rows_flat rs in omega arith
 
+word_flat : (word : Option (List ℕ)) → members_depth (word_member word) ≤ 0
+word_flat None = omega arith
+word_flat (Some word) = omega arith
+
 pub json_shallow : (p : Printed) → depth (json_of p) ≤ max_depth
 unfolding json_of
 json_shallow (begin request line version) = omega arith
+json_shallow (end request line) = omega arith
 json_shallow (answer by line request rows version) = let flat = rows_flat rows in omega arith
 json_shallow (block why line request version) = omega arith
-json_shallow (unread line request why version) = omega arith
+json_shallow (unread line request why version) = let flat = word_flat (unsupported_in why) in omega arith
 json_shallow (memory line) = omega arith

@@ -6,7 +6,7 @@ use Rattle.serde_json.specs.Data.{Data}
 use Rattle.serde_json.specs.Read.{read}
 use Rattle.ba_wire.specs.declared.script.ScriptLine.{ScriptLine}
 use Rattle.ba_wire.specs.declared.script.LineReason.{LineReason}
-use Rattle.ba_wire.specs.declared.script.LineReason.TheVariants.{Json}
+use Rattle.ba_wire.specs.declared.script.LineReason.TheVariants.{Json, Shape}
 use Rattle.ba_wire.specs.Script.{IsJson, line_at, line_or, script_line_of}
 
 -- the line that a value is, where the text is UTF-8
@@ -44,3 +44,13 @@ none_read bytes (Some d) reading text none = absurd (none d (record { utf8 = tex
 
 pub no_line_of_no_json : (bytes : List ℕ) → ((d : Data) → ¬ (IsJson bytes d)) → script_line_of bytes ≡ Err Json
 no_line_of_no_json bytes none = line_of_no_json bytes (λ text. none_read bytes (read bytes) refl text none)
+
+shaped : (bytes : List ℕ) (b : Bool) (o : Option Data) → is_utf8 bytes ≡ b → read bytes ≡ o → under b o ≡ Err Shape → (d : Data) × IsJson bytes d
+unfolding under
+shaped bytes true (Some d) text reading e = (d, record { utf8 = IsUtf8-from_is_utf8 bytes text; reads = reading })
+shaped bytes true None text reading e = cc e
+shaped bytes false o text reading e = cc e
+
+-- what has no shape is JSON
+pub json_of_shape : (bytes : List ℕ) → script_line_of bytes ≡ Err Shape → (d : Data) × IsJson bytes d
+json_of_shape bytes e = shaped bytes (is_utf8 bytes) (read bytes) refl refl (sym (under_is bytes) ∙ e)

@@ -1,21 +1,25 @@
 -- What the printed lines say, and their bytes: compact JSON with its keys in byte order, and a line feed.
-use Rattle.std.specs.Prelude.{◌≡◌, ℕ, List, [], ◌∷◌, ◌++◌, map, codes, true, Some}
-use Rattle.serde_json.specs.Data.{Data, null, boolean, number, string, array, object, unsigned, no_members, member}
+use Rattle.std.specs.Prelude.{◌≡◌, ℕ, List, [], ◌∷◌, ◌++◌, map, codes, true, Option, Some, None}
+use Rattle.std.specs.Fmt.{decimal}
+use Rattle.serde_json.specs.Data.{Data, Members, null, boolean, number, string, array, object, unsigned, no_members, member}
 use Rattle.serde_json.specs.Find.{of_integer}
 use Rattle.serde_json.specs.Read.{read}
 use Rattle.serde_json.specs.View.{items_of}
 use Rattle.serde_json.specs.Written.{compact_text}
 use Rattle.ba_model.specs.declared.value.Value.{Value}
 use Rattle.ba_model.specs.declared.value.Value.TheVariants as value
+use Rattle.ba_sql_query.specs.declared.fault.ReadQueryFault.{ReadQueryFault}
+use Rattle.ba_sql_query.specs.declared.fault.ReadQueryFault.TheVariants as query
+use Rattle.ba_wire.specs.Names.{◌␣◌, fault_name, fault_words}
 use Rattle.ba_wire.specs.declared.line.By.{By}
 use Rattle.ba_wire.specs.declared.line.By.TheVariants as by
 use Rattle.ba_wire.specs.declared.line.Block.{Block}
 use Rattle.ba_wire.specs.declared.line.Block.TheVariants as blocked
-use Rattle.ba_wire.specs.declared.line.Unread.{Unread}
-use Rattle.ba_wire.specs.declared.line.Unread.TheVariants as unreadable
 use Rattle.ba_wire.specs.declared.line.Line.{Line}
 use Rattle.ba_wire.specs.declared.line.Line.TheVariants as lines
 use Rattle.ba_wire.specs.declared.summary.Summary.{Summary}
+use Rattle.ba_wire.specs.declared.fault.LineFault.{LineFault}
+use Rattle.ba_wire.specs.declared.fault.LineFault.TheVariants as line_fault
 use Rattle.ba_wire.specs.declared.fault.Reason.{Reason}
 use Rattle.ba_wire.specs.declared.fault.Reason.TheVariants as reason
 use Rattle.ba_wire.specs.declared.fault.What.{What}
@@ -27,17 +31,20 @@ use Rattle.ba_wire.specs.declared.fault.Fault.TheVariants as fault
 pub data Printed : Type 0 where
   -- the request begins at this line, over this version of the tables
   begin : (request : List ℕ) (line version : ℕ) → Printed
+  -- the request ends at this line
+  end : (request : List ℕ) (line : ℕ) → Printed
   answer : By → (line : ℕ) (request : List ℕ) (rows : List (List Value)) (version : ℕ) → Printed
   block : Block → (line : ℕ) (request : List ℕ) (version : ℕ) → Printed
-  unread : (line : ℕ) (request : List ℕ) → Unread → (version : ℕ) → Printed
+  unread : (line : ℕ) (request : List ℕ) → ReadQueryFault → (version : ℕ) → Printed
   -- the line found no memory
   memory : (line : ℕ) → Printed
 
 abbrev pub printed : Line → Printed
 printed (lines.Begin request line version) = begin request.now line version
+printed (lines.End request line) = end request.now line
 printed (lines.Answer by line request rows version) = answer by line request.now rows.now version
 printed (lines.Block blocked line request version) = block blocked line request.now version
-printed (lines.Unread line request why version) = unread line request.now why version
+printed (lines.Unread line request fault version) = unread line request.now fault.now version
 printed (lines.Memory line) = memory line
 
 abbrev pub by_name : By → List ℕ
@@ -46,14 +53,58 @@ by_name by.Cover = codes "cover"
 abbrev pub block_name : Block → List ℕ
 block_name blocked.Uncovered = codes "uncovered"
 
-abbrev pub unread_name : Unread → List ℕ
-unread_name unreadable.Unbuilt = codes "unbuilt"
+-- what isn't supported, if that is the fault
+abbrev pub unsupported_in : ReadQueryFault → Option (List ℕ)
+unsupported_in (query.Unsupported word) = Some word
+unsupported_in (query.Lex it) = None
+unsupported_in query.Syntax = None
+unsupported_in query.UnknownTable = None
+unsupported_in query.UnknownColumn = None
+unsupported_in query.Ambiguous = None
+unsupported_in query.UnknownParam = None
+unsupported_in query.KindDiffers = None
+unsupported_in query.OrderOnText = None
+unsupported_in query.HeadDiffers = None
+unsupported_in query.TooMany = None
 
-abbrev pub reason_name : Reason → List ℕ
-reason_name reason.Unbuilt = codes "unbuilt"
+abbrev pub line_name : LineFault → List ℕ
+line_name line_fault.Json = codes "json"
+line_name line_fault.Shape = codes "shape"
+line_name line_fault.Begun = codes "begun"
+line_name line_fault.Unbegun = codes "unbegun"
+line_name line_fault.Context = codes "context"
+
+-- numbers in decimal
+unfoldable pub reason_text : Reason → List ℕ
+reason_text (reason.Text it) = fault_words it
+reason_text (reason.Nullable table column) = codes "nullable" ␣ table ␣ column
+reason_text reason.DuplicateTable = codes "duplicate_table"
+reason_text reason.DuplicateColumn = codes "duplicate_column"
+reason_text reason.WidthDiffers = codes "width_differs"
+reason_text reason.EmptyKey = codes "empty_key"
+reason_text (reason.DuplicateParam name) = codes "duplicate_param" ␣ name
+reason_text (reason.DuplicateView name) = codes "duplicate_view" ␣ name
+reason_text (reason.View name it) = codes "view" ␣ name ␣ fault_words it
+reason_text reason.Header = codes "header"
+reason_text (reason.Width row) = codes "width" ␣ decimal row
+reason_text (reason.Utf8 row) = codes "utf8" ␣ decimal row
+reason_text (reason.Number row column) = codes "number" ␣ decimal row ␣ decimal column
+reason_text (reason.Key key first second) = codes "key" ␣ decimal key ␣ codes "rows" ␣ decimal first ␣ decimal second
+reason_text (reason.Link link row) = codes "link" ␣ decimal link ␣ codes "row" ␣ decimal row
+reason_text (reason.Line line why) = codes "line" ␣ decimal line ␣ line_name why
 
 abbrev pub what_name : What → List ℕ
 what_name what.Bytes = codes "bytes"
+what_name what.Tables = codes "tables"
+what_name what.Columns = codes "columns"
+what_name what.Keys = codes "keys"
+what_name what.Links = codes "links"
+what_name what.Views = codes "views"
+what_name what.Params = codes "params"
+what_name what.Rows = codes "rows"
+what_name what.Lines = codes "lines"
+what_name what.Requests = codes "requests"
+what_name what.Asks = codes "asks"
 
 abbrev pub count : ℕ → Data
 count n = number (unsigned n)
@@ -69,11 +120,19 @@ row_json row = array (items_of (map value_json row))
 abbrev pub rows_json : List (List Value) → Data
 rows_json rows = array (items_of (map row_json rows))
 
+-- what isn't supported has a key of its own
+abbrev pub word_member : Option (List ℕ) → Members
+word_member None = no_members
+word_member (Some word) = member (codes "word") (string word) no_members
+
 unfoldable pub json_of : Printed → Data
 json_of (begin request line version) =
     object (member (codes "begin") (string request)
     (member (codes "line") (count line)
     (member (codes "version") (count version) no_members)))
+json_of (end request line) =
+    object (member (codes "end") (string request)
+    (member (codes "line") (count line) no_members))
 json_of (answer by line request rows version) =
     object (member (codes "by") (string (by_name by))
     (member (codes "line") (count line)
@@ -85,11 +144,11 @@ json_of (block blocked line request version) =
     (member (codes "line") (count line)
     (member (codes "request") (string request)
     (member (codes "version") (count version) no_members))))
-json_of (unread line request why version) =
+json_of (unread line request fault version) =
     object (member (codes "line") (count line)
     (member (codes "request") (string request)
-    (member (codes "unread") (string (unread_name why))
-    (member (codes "version") (count version) no_members))))
+    (member (codes "unread") (string (fault_name fault))
+    (member (codes "version") (count version) (word_member (unsupported_in fault))))))
 json_of (memory line) =
     object (member (codes "line") (count line)
     (member (codes "memory") (boolean true) no_members))
@@ -113,7 +172,7 @@ fault_json fault.Words =
 fault_json (fault.Input file reason) =
     object (member (codes "fault") (string (codes "input"))
     (member (codes "file") (string file)
-    (member (codes "reason") (string (reason_name reason))
+    (member (codes "reason") (string (reason_text reason))
     (member (codes "status") (count 3) no_members))))
 fault_json (fault.Read file) =
     object (member (codes "fault") (string (codes "read"))

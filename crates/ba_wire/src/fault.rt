@@ -1,19 +1,68 @@
 //! The one line of a run that a fault ended.
 #![tactic(auto, unfolding(crate::specs::Printed::fault_json))]
 
-ghost use Rattle.std.specs.Prelude.{◌≡◌, IfOk, string_bytes};
+ghost use Rattle.std.specs.Prelude.{◌≡◌, codes, IfOk, string_bytes};
+ghost use Rattle.std.specs.Fmt.{decimal};
+ghost use Rattle.ba_wire.specs.Names.{◌␣◌, fault_words};
 ghost use Rattle.ba_wire.specs.Object.{made};
-ghost use Rattle.ba_wire.specs.Printed.{ReadsBack, reason_name, what_name, fault_json, fault_bytes};
+ghost use Rattle.ba_wire.specs.Printed.{ReadsBack, line_name, reason_text, what_name, fault_json, fault_bytes};
 
+use crate::names::fault_words;
 use crate::object::Object;
 use ba_model::text::Str;
+use ba_sql_query::ReadQueryFault;
 use std::alloc::{AllocError, Global};
 
-/// Why a file has no reading.
+/// Why a line of a script is none, after the lines before it. Of several reasons the first of this order is told.
 #[derive(Clone, Copy, Debug, PartialEq, Eq)]
+pub enum LineFault {
+    /// It isn't UTF-8, or no JSON value.
+    Json,
+    /// The JSON value isn't an object with exactly the keys of one form, each with its type and length.
+    Shape,
+    /// It begins a request whose name is open.
+    Begun,
+    /// It asks or ends a request whose name isn't open.
+    Unbegun,
+    /// Its context lacks a parameter, has another name, or a value of another kind.
+    Context,
+}
+
+/// Why a file has no reading.
+#[derive(Debug, Drop)]
 pub enum Reason {
-    /// It isn't of the form that the program reads so far.
-    Unbuilt,
+    /// The fault of a schema's or a policy's text, by its name.
+    Text { fault: ReadQueryFault },
+    /// The column may be NULL.
+    Nullable { table: Str, column: Str },
+    /// Two tables have one name.
+    DuplicateTable,
+    /// Two columns of a table have one name, or a key repeats a column.
+    DuplicateColumn,
+    /// A link has more or fewer target columns than columns.
+    WidthDiffers,
+    /// A key or link has no column.
+    EmptyKey,
+    /// Two parameters have this name.
+    DuplicateParam { name: Str },
+    /// Two views have this name.
+    DuplicateView { name: Str },
+    /// The fault of this view's query.
+    View { name: Str, fault: ReadQueryFault },
+    /// The header isn't the column names in order.
+    Header,
+    /// A row has more or fewer fields than columns. Rows are numbered from 1.
+    Width { row: u64 },
+    /// A row isn't UTF-8.
+    Utf8 { row: u64 },
+    /// A field isn't a whole number of 64 bits. Columns are numbered from 0.
+    Number { row: u64, column: u32 },
+    /// Two rows are equal on a key of their table. Keys are numbered from 0.
+    Key { key: u32, first: u64, second: u64 },
+    /// A row has no target of a link of its table. Links are numbered from 0.
+    Link { link: u32, row: u64 },
+    /// A line of the script is none. Lines are numbered from 1.
+    Line { line: u64, reason: LineFault },
 }
 
 /// A counted quantity that has a limit.
@@ -21,6 +70,26 @@ pub enum Reason {
 pub enum What {
     /// The bytes of a file.
     Bytes,
+    /// The tables of a schema.
+    Tables,
+    /// The columns of a table.
+    Columns,
+    /// The keys of a table.
+    Keys,
+    /// The links of a table.
+    Links,
+    /// The views of a policy.
+    Views,
+    /// The parameters of a policy.
+    Params,
+    /// The rows of a table.
+    Rows,
+    /// The lines of a script.
+    Lines,
+    /// The requests of a script.
+    Requests,
+    /// The questions of a request.
+    Asks,
 }
 
 /// What ended a run before its first line.
@@ -36,14 +105,60 @@ pub enum Fault {
     Limit { what: What, limit: u64 },
 }
 
-impl Reason {
+impl LineFault {
     fn name(self) -> &'static str
-        ensures { result.now ≡ reason_name self }
+        ensures { result.now ≡ line_name self }
     {
         match self {
-            Reason::Unbuilt => "unbuilt",
+            LineFault::Json => "json",
+            LineFault::Shape => "shape",
+            LineFault::Begun => "begun",
+            LineFault::Unbegun => "unbegun",
+            LineFault::Context => "context",
         }
     }
+}
+
+impl Reason {
+    #[tactic(auto, unfolding(crate::specs::Printed::reason_text))]
+    fn text(&self, alloc: Global) -> Result<String, AllocError>
+        ensures { IfOk result (λ text. string_bytes text ≡ reason_text self.now) }
+    {
+        match self {
+            Reason::Text { fault } => fault_words(alloc, fault),
+            Reason::Nullable { table, column } => format!(in alloc; "nullable {table} {column}"),
+            Reason::DuplicateTable => String::from_str(alloc, "duplicate_table"),
+            Reason::DuplicateColumn => String::from_str(alloc, "duplicate_column"),
+            Reason::WidthDiffers => String::from_str(alloc, "width_differs"),
+            Reason::EmptyKey => String::from_str(alloc, "empty_key"),
+            Reason::DuplicateParam { name } => format!(in alloc; "duplicate_param {name}"),
+            Reason::DuplicateView { name } => format!(in alloc; "duplicate_view {name}"),
+            Reason::View { name, fault } => view_text(alloc, name, fault),
+            Reason::Header => String::from_str(alloc, "header"),
+            Reason::Width { row } => format!(in alloc; "width {row}"),
+            Reason::Utf8 { row } => format!(in alloc; "utf8 {row}"),
+            Reason::Number { row, column } => format!(in alloc; "number {row} {column}"),
+            Reason::Key { key, first, second } => {
+                format!(in alloc; "key {key} rows {first} {second}")
+            }
+            Reason::Link { link, row } => format!(in alloc; "link {link} row {row}"),
+            Reason::Line { line, reason } => line_text(alloc, *line, *reason),
+        }
+    }
+}
+
+fn view_text(alloc: Global, name: &Str, fault: &ReadQueryFault) -> Result<String, AllocError>
+    ensures { IfOk result (λ text. string_bytes text ≡ codes "view" ␣ name.now ␣ fault_words fault.now) }
+{
+    let words = fault_words(alloc, fault)?;
+    format!(in alloc; "view {name} {words}")
+}
+
+fn line_text(alloc: Global, line: u64, reason: LineFault) -> Result<String, AllocError>
+    ensures { IfOk result (λ text. string_bytes text ≡ codes "line" ␣ decimal line ␣ line_name reason) }
+{
+    let name = reason.name();
+    format!(in alloc; "line {line} {name}")
 }
 
 impl What {
@@ -52,6 +167,16 @@ impl What {
     {
         match self {
             What::Bytes => "bytes",
+            What::Tables => "tables",
+            What::Columns => "columns",
+            What::Keys => "keys",
+            What::Links => "links",
+            What::Views => "views",
+            What::Params => "params",
+            What::Rows => "rows",
+            What::Lines => "lines",
+            What::Requests => "requests",
+            What::Asks => "asks",
         }
     }
 }
@@ -61,7 +186,7 @@ fn fault_object(alloc: Global, fault: &Fault) -> Result<Object, AllocError>
 {
     match fault {
         Fault::Words => words_object(alloc),
-        Fault::Input { file, reason } => input_object(alloc, file, *reason),
+        Fault::Input { file, reason } => input_object(alloc, file, reason),
         Fault::Read { file } => read_object(alloc, file),
         Fault::Limit { what, limit } => limit_object(alloc, *what, *limit),
     }
@@ -76,13 +201,14 @@ fn words_object(alloc: Global) -> Result<Object, AllocError>
         .with_text("usage", "blockaid run|check|gen")
 }
 
-fn input_object(alloc: Global, file: &Str, reason: Reason) -> Result<Object, AllocError>
-    ensures { IfOk result (λ it. made it ≡ fault_json (Fault.Input file.now reason)) }
+fn input_object(alloc: Global, file: &Str, reason: &Reason) -> Result<Object, AllocError>
+    ensures { IfOk result (λ it. made it ≡ fault_json (Fault.Input file.now reason.now)) }
 {
+    let text = reason.text(alloc)?;
     Object::new(alloc)
         .with_text("fault", "input")?
         .with_text("file", file.as_str())?
-        .with_text("reason", reason.name())?
+        .with_text("reason", text.as_str())?
         .with_count("status", 3)
 }
 

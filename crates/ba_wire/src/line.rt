@@ -1,15 +1,17 @@
 //! The lines of a run.
 #![tactic(auto, unfolding(crate::specs::Printed::json_of))]
 
-ghost use Rattle.std.specs.Prelude.{◌≡◌, IfOk, string_bytes};
+ghost use Rattle.std.specs.Prelude.{◌≡◌, IfOk, option_copied, string_bytes};
 ghost use Rattle.serde_json.specs.View.{view};
 ghost use Rattle.ba_wire.specs.Object.{made};
-ghost use Rattle.ba_wire.specs.Printed.{ReadsBack, by_name, block_name, unread_name, value_json, row_json, rows_json, begin, answer, block, unread, memory, printed, json_of, line_bytes};
+ghost use Rattle.ba_wire.specs.Printed.{ReadsBack, by_name, block_name, unsupported_in, value_json, row_json, rows_json, begin, end, answer, block, unread, memory, printed, json_of, line_bytes};
 
+use crate::names::fault_name;
 use crate::object::Object;
 use ba_model::list::List;
 use ba_model::text::Str;
 use ba_model::value::{Row, Value};
+use ba_sql_query::ReadQueryFault;
 use serde_json::Value as Json;
 use std::alloc::{AllocError, Global};
 
@@ -27,13 +29,6 @@ pub enum Block {
     Uncovered,
 }
 
-/// Why a question has no reading.
-#[derive(Clone, Copy, Debug, PartialEq, Eq)]
-pub enum Unread {
-    /// It isn't of the form that the program reads so far.
-    Unbuilt,
-}
-
 /// One printed line of a run: `line` is the script's line, from 1, and `version` that of the request's tables, from 0.
 #[derive(Clone, Copy, Debug)]
 pub enum Line<'a> {
@@ -42,6 +37,11 @@ pub enum Line<'a> {
         begin: &'a Str,
         line: u64,
         version: u32,
+    },
+    /// The request of this name ends.
+    End {
+        end: &'a Str,
+        line: u64,
     },
     /// A question's answer: its rows, in order.
     Answer {
@@ -60,7 +60,7 @@ pub enum Line<'a> {
     Unread {
         line: u64,
         request: &'a Str,
-        unread: Unread,
+        unread: &'a ReadQueryFault,
         version: u32,
     },
     /// The line found no memory.
@@ -89,13 +89,13 @@ impl Block {
     }
 }
 
-impl Unread {
-    fn name(self) -> &'static str
-        ensures { result.now ≡ unread_name self }
-    {
-        match self {
-            Unread::Unbuilt => "unbuilt",
-        }
+// What isn't supported, if that is the fault.
+fn unsupported_in(fault: &ReadQueryFault) -> Option<&Str>
+    ensures { option_copied result ≡ unsupported_in fault.now }
+{
+    match fault {
+        ReadQueryFault::Unsupported(word) => Some(word),
+        _ => None,
     }
 }
 
@@ -138,6 +138,14 @@ fn begin_object(alloc: Global, request: &Str, line: u64, version: u32) -> Result
         .with_count("version", version as u64)
 }
 
+fn end_object(alloc: Global, request: &Str, line: u64) -> Result<Object, AllocError>
+    ensures { IfOk result (λ it. made it ≡ json_of (end request.now line)) }
+{
+    Object::new(alloc)
+        .with_text("end", request.as_str())?
+        .with_count("line", line)
+}
+
 fn answer_object(
     alloc: Global,
     by: By,
@@ -176,16 +184,20 @@ fn unread_object(
     alloc: Global,
     line: u64,
     request: &Str,
-    why: Unread,
+    fault: &ReadQueryFault,
     version: u32,
 ) -> Result<Object, AllocError>
-    ensures { IfOk result (λ it. made it ≡ json_of (unread line request.now why version)) }
+    ensures { IfOk result (λ it. made it ≡ json_of (unread line request.now fault.now version)) }
 {
-    Object::new(alloc)
+    let object = Object::new(alloc)
         .with_count("line", line)?
         .with_text("request", request.as_str())?
-        .with_text("unread", why.name())?
-        .with_count("version", version as u64)
+        .with_text("unread", fault_name(fault))?
+        .with_count("version", version as u64)?;
+    match unsupported_in(fault) {
+        Some(word) => object.with_text("word", word.as_str()),
+        None => Ok(object),
+    }
 }
 
 fn memory_object(alloc: Global, line: u64) -> Result<Object, AllocError>
@@ -205,6 +217,7 @@ fn line_object(alloc: Global, line: &Line) -> Result<Object, AllocError>
             line,
             version,
         } => begin_object(alloc, begin, *line, *version),
+        Line::End { end, line } => end_object(alloc, end, *line),
         Line::Answer {
             by,
             line,
@@ -223,7 +236,7 @@ fn line_object(alloc: Global, line: &Line) -> Result<Object, AllocError>
             request,
             unread,
             version,
-        } => unread_object(alloc, *line, request, *unread, *version),
+        } => unread_object(alloc, *line, request, unread, *version),
         Line::Memory { line } => memory_object(alloc, *line),
     }
 }

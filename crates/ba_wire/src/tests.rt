@@ -1,2 +1,3 @@
 mod printed;
+mod reading;
 mod scripts;

@@ -1,9 +1,11 @@
-use crate::fault::{Fault, Reason, What, fault_text};
-use crate::line::{Block, By, Line, Unread, line_text};
+use crate::fault::{Fault, LineFault, Reason, What, fault_text};
+use crate::line::{Block, By, Line, line_text};
 use crate::summary::{Summary, summary_text};
+use ba_lex::LexFault;
 use ba_model::list::List;
 use ba_model::text::Str;
 use ba_model::value::{Row, Value};
+use ba_sql_query::ReadQueryFault;
 use std::alloc::{AllocError, Global};
 use std::test::Fail;
 
@@ -95,7 +97,7 @@ fn plain_first_run(rt: HostRuntime) -> Result<(), Fail> {
     let unread = Line::Unread {
         line: 2,
         request,
-        unread: Unread::Unbuilt,
+        unread: &ReadQueryFault::Syntax,
         version: 4294967295,
     };
     let table = [
@@ -106,7 +108,14 @@ fn plain_first_run(rt: HostRuntime) -> Result<(), Fail> {
         ),
         (
             unread,
-            "{\"line\":2,\"request\":\"r1\",\"unread\":\"unbuilt\",\"version\":4294967295}\n",
+            "{\"line\":2,\"request\":\"r1\",\"unread\":\"syntax\",\"version\":4294967295}\n",
+        ),
+        (
+            Line::End {
+                end: request,
+                line: 4,
+            },
+            "{\"end\":\"r1\",\"line\":4}\n",
         ),
         (Line::Memory { line: 9 }, "{\"line\":9,\"memory\":true}\n"),
     ];
@@ -171,7 +180,7 @@ fn faults(rt: HostRuntime) -> Result<(), Fail> {
     let alloc = rt.alloc();
     let schema = Fault::Input {
         file: Str::new(alloc, "t0/Users.csv")?,
-        reason: Reason::Unbuilt,
+        reason: Reason::Header,
     };
     let policy = Fault::Read {
         file: Str::new(alloc, "P")?,
@@ -187,7 +196,7 @@ fn faults(rt: HostRuntime) -> Result<(), Fail> {
         ),
         (
             schema,
-            "{\"fault\":\"input\",\"file\":\"t0/Users.csv\",\"reason\":\"unbuilt\",\"status\":3}\n",
+            "{\"fault\":\"input\",\"file\":\"t0/Users.csv\",\"reason\":\"header\",\"status\":3}\n",
         ),
         (policy, "{\"fault\":\"read\",\"file\":\"P\",\"status\":4}\n"),
         (
@@ -197,6 +206,248 @@ fn faults(rt: HostRuntime) -> Result<(), Fail> {
     ];
     for (fault, want) in &table {
         assert_eq!(rt; fault_text(alloc, fault)?.as_str(), *want);
+    }
+    Ok(())
+}
+
+fn unread_line(alloc: Global, fault: &ReadQueryFault) -> Result<String, AllocError> {
+    let request = Str::new(alloc, "r1")?;
+    line_text(
+        alloc,
+        &Line::Unread {
+            line: 4,
+            request: &request,
+            unread: fault,
+            version: 0,
+        },
+    )
+}
+
+#[test]
+fn unread_questions(rt: HostRuntime) -> Result<(), Fail> {
+    let alloc = rt.alloc();
+    let table = [
+        (ReadQueryFault::Lex(LexFault::TooLong), "too_long"),
+        (ReadQueryFault::Lex(LexFault::BadByte), "bad_byte"),
+        (ReadQueryFault::Lex(LexFault::OpenQuote), "open_quote"),
+        (
+            ReadQueryFault::Lex(LexFault::NumberTooLarge),
+            "number_too_large",
+        ),
+        (ReadQueryFault::Syntax, "syntax"),
+        (ReadQueryFault::UnknownTable, "unknown_table"),
+        (ReadQueryFault::UnknownColumn, "unknown_column"),
+        (ReadQueryFault::Ambiguous, "ambiguous"),
+        (ReadQueryFault::UnknownParam, "unknown_param"),
+        (ReadQueryFault::KindDiffers, "kind_differs"),
+        (ReadQueryFault::OrderOnText, "order_on_text"),
+        (ReadQueryFault::HeadDiffers, "head_differs"),
+        (ReadQueryFault::TooMany, "too_many"),
+    ];
+    for (fault, name) in &table {
+        let want = format!(in alloc;
+            "{{\"line\":4,\"request\":\"r1\",\"unread\":\"{name}\",\"version\":0}}\n"
+        )?;
+        assert_eq!(rt; unread_line(alloc, fault)?.as_str(), want.as_str());
+    }
+    Ok(())
+}
+
+#[test]
+fn unread_for_a_word(rt: HostRuntime) -> Result<(), Fail> {
+    let alloc = rt.alloc();
+    let fault = ReadQueryFault::Unsupported(Str::new(alloc, "ALL")?);
+    assert_eq!(rt;
+        unread_line(alloc, &fault)?.as_str(),
+        "{\"line\":4,\"request\":\"r1\",\"unread\":\"unsupported\",\"version\":0,\"word\":\"ALL\"}\n"
+    );
+    Ok(())
+}
+
+fn input_line(alloc: Global, reason: Reason) -> Result<String, AllocError> {
+    let file = Str::new(alloc, "S")?;
+    fault_text(alloc, &Fault::Input { file, reason })
+}
+
+// The line of a file's fault.
+fn input_words(alloc: Global, reason: &str) -> Result<String, AllocError> {
+    format!(in alloc;
+        "{{\"fault\":\"input\",\"file\":\"S\",\"reason\":\"{reason}\",\"status\":3}}\n"
+    )
+}
+
+#[test]
+fn reasons_by_name(rt: HostRuntime) -> Result<(), Fail> {
+    let alloc = rt.alloc();
+    let table = [
+        (Reason::DuplicateTable, "duplicate_table"),
+        (Reason::DuplicateColumn, "duplicate_column"),
+        (Reason::WidthDiffers, "width_differs"),
+        (Reason::EmptyKey, "empty_key"),
+        (Reason::Header, "header"),
+        (
+            Reason::Text {
+                fault: ReadQueryFault::UnknownTable,
+            },
+            "unknown_table",
+        ),
+        (
+            Reason::Text {
+                fault: ReadQueryFault::Lex(LexFault::BadByte),
+            },
+            "bad_byte",
+        ),
+    ];
+    for (reason, name) in table {
+        let want = input_words(alloc, name)?;
+        assert_eq!(rt; input_line(alloc, reason)?.as_str(), want.as_str());
+    }
+    Ok(())
+}
+
+#[test]
+fn reasons_with_numbers(rt: HostRuntime) -> Result<(), Fail> {
+    let alloc = rt.alloc();
+    let table = [
+        (
+            Reason::Width {
+                row: 18446744073709551615,
+            },
+            "width 18446744073709551615",
+        ),
+        (Reason::Utf8 { row: 2 }, "utf8 2"),
+        (Reason::Number { row: 3, column: 0 }, "number 3 0"),
+        (
+            Reason::Key {
+                key: 0,
+                first: 1,
+                second: 3,
+            },
+            "key 0 rows 1 3",
+        ),
+        (Reason::Link { link: 1, row: 10 }, "link 1 row 10"),
+        (
+            Reason::Line {
+                line: 1,
+                reason: LineFault::Json,
+            },
+            "line 1 json",
+        ),
+        (
+            Reason::Line {
+                line: 2,
+                reason: LineFault::Shape,
+            },
+            "line 2 shape",
+        ),
+        (
+            Reason::Line {
+                line: 3,
+                reason: LineFault::Begun,
+            },
+            "line 3 begun",
+        ),
+        (
+            Reason::Line {
+                line: 4,
+                reason: LineFault::Unbegun,
+            },
+            "line 4 unbegun",
+        ),
+        (
+            Reason::Line {
+                line: 65536,
+                reason: LineFault::Context,
+            },
+            "line 65536 context",
+        ),
+    ];
+    for (reason, words) in table {
+        let want = input_words(alloc, words)?;
+        assert_eq!(rt; input_line(alloc, reason)?.as_str(), want.as_str());
+    }
+    Ok(())
+}
+
+#[test]
+fn reasons_with_names(rt: HostRuntime) -> Result<(), Fail> {
+    let alloc = rt.alloc();
+    let table = Str::new(alloc, "Events")?;
+    let column = Str::new(alloc, "Duration")?;
+    let nullable = input_line(alloc, Reason::Nullable { table, column })?;
+    assert_eq!(rt;
+        nullable.as_str(),
+        input_words(alloc, "nullable Events Duration")?.as_str()
+    );
+    let name = Str::new(alloc, "MyUId")?;
+    let param = input_line(alloc, Reason::DuplicateParam { name })?;
+    assert_eq!(rt;
+        param.as_str(),
+        input_words(alloc, "duplicate_param MyUId")?.as_str()
+    );
+    Ok(())
+}
+
+#[test]
+fn reasons_of_views(rt: HostRuntime) -> Result<(), Fail> {
+    let alloc = rt.alloc();
+    let name = Str::new(alloc, "V1")?;
+    let twice = input_line(alloc, Reason::DuplicateView { name })?;
+    assert_eq!(rt;
+        twice.as_str(),
+        input_words(alloc, "duplicate_view V1")?.as_str()
+    );
+    let name = Str::new(alloc, "V2")?;
+    let fault = ReadQueryFault::TooMany;
+    let bad = input_line(alloc, Reason::View { name, fault })?;
+    assert_eq!(rt;
+        bad.as_str(),
+        input_words(alloc, "view V2 too_many")?.as_str()
+    );
+    Ok(())
+}
+
+#[test]
+fn reasons_with_a_word(rt: HostRuntime) -> Result<(), Fail> {
+    let alloc = rt.alloc();
+    let fault = ReadQueryFault::Unsupported(Str::new(alloc, "CHECK")?);
+    let text = input_line(alloc, Reason::Text { fault })?;
+    assert_eq!(rt;
+        text.as_str(),
+        input_words(alloc, "unsupported CHECK")?.as_str()
+    );
+    let name = Str::new(alloc, "V3")?;
+    let fault = ReadQueryFault::Unsupported(Str::new(alloc, "+")?);
+    let view = input_line(alloc, Reason::View { name, fault })?;
+    assert_eq!(rt;
+        view.as_str(),
+        input_words(alloc, "view V3 unsupported +")?.as_str()
+    );
+    Ok(())
+}
+
+#[test]
+fn limits(rt: HostRuntime) -> Result<(), Fail> {
+    let alloc = rt.alloc();
+    let table = [
+        (What::Bytes, "bytes"),
+        (What::Tables, "tables"),
+        (What::Columns, "columns"),
+        (What::Keys, "keys"),
+        (What::Links, "links"),
+        (What::Views, "views"),
+        (What::Params, "params"),
+        (What::Rows, "rows"),
+        (What::Lines, "lines"),
+        (What::Requests, "requests"),
+        (What::Asks, "asks"),
+    ];
+    for (what, name) in table {
+        let want = format!(in alloc;
+            "{{\"fault\":\"limit\",\"limit\":256,\"status\":7,\"what\":\"{name}\"}}\n"
+        )?;
+        let fault = Fault::Limit { what, limit: 256 };
+        assert_eq!(rt; fault_text(alloc, &fault)?.as_str(), want.as_str());
     }
     Ok(())
 }

@@ -1,16 +1,20 @@
-use Rattle.std.proofs.Common.{◌+◌, drop, take, subst, sym}
+use Rattle.std.proofs.Common.{[], subst, Err, Ok}
+use Rattle.std.proofs.lemmas.Result.{err_from_is_err_and}
 use Rattle.ba_plan.specs.Follows.{Follows}
-use Rattle.ba_top.specs.Legal.{RowsOfTables}
-use Rattle.ba_top.specs.Reading.{tables_plan}
-use Rattle.ba_top.proofs.InputLemmas.{fit_more, tables_step}
+use Rattle.ba_top.specs.Reading.{rows_plan}
+use Rattle.ba_top.proofs.InputLemmas.{tables_err, tables_ok}
 use Rattle.ba_top.proofs.input.read_tables.Goals as goal
 
-pub loop-table-preserved : goal.loop-table-preserved
-loop-table-preserved g c =
-    let seen = g.F.Files.seen in record {
-      follows = λ t r h.
-          c.loop-table.invariant.follows t r
-          (tables_step c.args.set.now c.args.tables.now c.loop-table.lists c.loop-table.table-index c.table-item.result (seen c.loop-table.files) (seen c.read_table.new.files) t r c.in_ok-list.list c.loop-table-test.true c.table-item.is c.in_ok-list.ensures.follows
-          (subst (λ z. Follows (tables_plan c.args.set.now (drop (c.loop-table.table-index + 1) c.args.tables.now) z) (seen c.read_table.new.files) t r) c.in_ok-push.ensures.ok h));
-      fit = subst (RowsOfTables (take (c.loop-table.table-index + 1) c.args.tables.now)) (sym c.in_ok-push.ensures.ok) (fit_more c.args.tables.now c.loop-table.lists c.loop-table.table-index c.table-item.result c.in_ok-list.list c.loop-table-test.true c.table-item.is c.loop-table.invariant.fit c.in_ok-list.ensures.fit);
-    }
+pub returns-in_err-lists-clause-follows : goal.returns-in_err-lists-clause-follows
+returns-in_err-lists-clause-follows g c =
+    let seen = g.F.Files.seen in
+    let p = err_from_is_err_and c.from_residual.result c.from_residual.ensures.1 in
+    let e = c.in_err-lists.field-0.0 in
+    rw (p.1, p.2) (tables_err c.args.set.now c.args.schema.now (seen c.args.files.now) (seen c.read_rows.new.files) e
+    (subst (λ z. Follows (rows_plan c.args.set.now z []) (seen c.args.files.now) (seen c.read_rows.new.files) (Err e)) c.as_slice.ensures c.in_err-lists.ensures.follows))
+
+pub returns-clause-follows : goal.returns-clause-follows
+returns-clause-follows g c =
+    let seen = g.F.Files.seen in
+    tables_ok c.args.set.now c.args.schema.now c.in_ok-lists.lists (seen c.args.files.now) (seen c.read_rows.new.files) c.checked_at.result
+    (subst (λ z. Follows (rows_plan c.args.set.now z []) (seen c.args.files.now) (seen c.read_rows.new.files) (Ok c.in_ok-lists.lists)) c.as_slice.ensures c.in_ok-lists.ensures.follows) c.checked_at.ensures

@@ -1,12 +1,14 @@
-use Rattle.std.proofs.Common.{List, ◌++◌, drop}
-use Rattle.ba_comply.specs.Comply.{Records}
-use Rattle.ba_comply.specs.declared.trace.TraceEntry.{TraceEntry}
-use Rattle.ba_model.specs.Conform.{no_context}
-use Rattle.ba_top.specs.Legal.{LegalAsks, LegalEntries}
+use Rattle.std.proofs.Common.{◌≡◌, List, [], ◌++◌, drop, take}
+use Rattle.ba_top.specs.Legal.{AreEntries, contexts_of}
+use Rattle.ba_top.specs.Serving.{IsRecorded}
 use Rattle.ba_top.specs.declared.report.Entry.{Entry}
 use Rattle.ba_top.proofs.serve.serve.Given as goal
 
--- after some trace of answers in the tables, whatever entries the questions that are left have completes the entries
-abbrev pub invariant-loop-text : goal.invariant-loop-text
-invariant-loop-text g l =
-    (trace : List TraceEntry) × Records trace no_context l.input.tables.rows × ((more : List Entry) → LegalAsks l.input trace (drop l.text-index l.text-items) more → LegalEntries l.input (l.entries ++ more))
+-- all answers so far are recorded, the contexts are those of the lines so far, and whatever entries the lines that are left have
+-- completes the entries
+abbrev pub invariant-loop-said : goal.invariant-loop-said
+invariant-loop-said g l = record {
+  recorded : IsRecorded l.input l.entries;
+  contexts : l.contexts ≡ contexts_of (take l.said-index l.said-items);
+  entries : (more : List Entry) → AreEntries l.input l.entries (drop l.said-index l.said-items) more → AreEntries l.input [] l.input.script.entries (l.entries ++ more);
+}

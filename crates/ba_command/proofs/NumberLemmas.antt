@@ -1,0 +1,52 @@
+-- The numbers that std's `parse` reads.
+use Rattle.std.proofs.Common.{◌≡◌, ◌∙◌, ◌&&◌, ◌<◌, ◌^◌, ℕ, List, [], ◌∷◌, Bool, true, false, cond, length, nat_lt, Some, Result, Ok, Err, refl, sym}
+use Rattle.std.proofs.Common.{arith}
+use Rattle.std.proofs.lemmas.Bool.Decides.{nat_tests}
+use Rattle.std.specs.List.{list_all}
+use Rattle.std.specs.Char.{digit_value}
+use Rattle.std.specs.Str.Parse.{AllDigits, ParsesUnsigned, digits_value, without_leading_plus}
+use Rattle.clap.specs.ValueTests.{is_numeral}
+use Rattle.ba_command.specs.Words.{number_or}
+
+both : (a b : Bool) → a ≡ true → b ≡ true → (a && b) ≡ true
+both true b e f = f
+both false b e f = cc e
+
+halves : (a b : Bool) → (a && b) ≡ true → (a ≡ true) × (b ≡ true)
+halves true b e = (refl, e)
+halves false b e = cc e
+
+tested : (ds : List ℕ) → AllDigits 10 ds → list_all (λ c. nat_lt (digit_value c) 10) ds ≡ true
+tested [] h = refl
+tested (c ∷ cs) h = both _ _ (let l : digit_value c < 10 = h.0 in grind (arith, nat_tests)) (tested cs h.1)
+
+told : (ds : List ℕ) → list_all (λ c. nat_lt (digit_value c) 10) ds ≡ true → AllDigits 10 ds
+told [] h = tt
+told (c ∷ cs) h = let p = halves _ _ h in (let l : nat_lt (digit_value c) 10 ≡ true = p.0 in grind (arith, nat_tests), told cs p.1)
+
+-- a number that is read
+pub read_number : {E : Type 0} (other n : ℕ) (text : List ℕ) (r : Result ℕ E) → ParsesUnsigned 32 10 text r → r ≡ Ok n → n ≡ number_or other (Some text)
+read_number other n text (Ok x) h e =
+    let ds = without_leading_plus text in
+    let passes : (is_numeral ds && nat_lt (digits_value 10 ds) (2 ^ 32)) ≡ true =
+    both _ _ (both _ _ (let l : 0 < length ds = h.0.0.0 in grind (arith, nat_tests)) (tested ds h.0.0.1))
+    (let l : digits_value 10 ds < 2 ^ 32 = h.0.1 in grind (arith, nat_tests)) in
+    rw passes (sym (cc e) ∙ h.1)
+read_number other n text (Err x) h e = cc e
+
+-- a text that is refused
+pub other_number : {E : Type 0} (other : ℕ) (text : List ℕ) (r : Result ℕ E) (x : E) → ParsesUnsigned 32 10 text r → r ≡ Err x
+    → other ≡ number_or other (Some text)
+other_number other text (Ok y) x h e = cc e
+other_number other text (Err y) x h e = by (is_numeral (without_leading_plus text) && nat_lt (digits_value 10 (without_leading_plus text)) (2 ^ 32)) refl
+  where
+    by : (b : Bool) → (is_numeral (without_leading_plus text) && nat_lt (digits_value 10 (without_leading_plus text)) (2 ^ 32)) ≡ b
+        → other ≡ cond b (digits_value 10 (without_leading_plus text)) other
+    by true t =
+        let p = halves _ _ t in
+        let q = halves _ _ p.0 in
+        let some : 0 < length (without_leading_plus text) = let l : nat_lt 0 (length (without_leading_plus text)) ≡ true = q.0 in grind (arith, nat_tests) in
+        let fits : digits_value 10 (without_leading_plus text) < 2 ^ 32 =
+        let l : nat_lt (digits_value 10 (without_leading_plus text)) (2 ^ 32) ≡ true = p.1 in grind (arith, nat_tests) in
+        absurd (h ((some, told _ q.1), fits))
+    by false t = refl

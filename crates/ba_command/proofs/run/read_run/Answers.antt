@@ -1,0 +1,19 @@
+use Rattle.std.proofs.Common.{◌∙◌, map, string_bytes, ap, subst}
+use Rattle.clap.specs.Words.{app_of}
+use Rattle.clap.specs.Faults.{is_simple_and_free}
+use Rattle.ba_command.specs.Words.{Answers}
+use Rattle.ba_command.proofs.FormLemmas.{form_ok, free, refused}
+use Rattle.ba_command.proofs.run.read_run.Goals as goal
+
+pub returns-in-Ok : goal.returns-in-Ok
+returns-in-Ok c =
+    let is = c.in_ok-form.ensures in
+    let none = c.in-Ok.ensures.kinds (ap is_simple_and_free is ∙ free) in
+    subst (Answers c.command_of.result)
+    (form_ok (app_of c.in_ok-form.form) (map string_bytes c.args.words.now) c.in-Ok.matches is c.in-Ok.ensures.matches none) c.command_of.ensures
+
+pub returns-in-Err : goal.returns-in-Err
+returns-in-Err c =
+    let is = c.in_ok-form.ensures in
+    let some = c.in-Err.ensures.kinds (ap is_simple_and_free is ∙ free) in
+    refused (app_of c.in_ok-form.form) (map string_bytes c.args.words.now) c.in-Err.e c.refusal.result is some c.refusal.ensures

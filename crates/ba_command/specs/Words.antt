@@ -1,0 +1,81 @@
+-- The command that words ask for, over what `clap` says of a simple command.
+use Rattle.std.specs.Prelude.{◌≡◌, ℕ, ◌^◌, ◌&&◌, List, [], ◌∷◌, true, nat_lt, codes, Option, Some, None, Result, Ok, Err, if◌then◌else◌}
+use Rattle.std.specs.Str.{bytes_eq}
+use Rattle.std.specs.Str.Parse.{digits_value, without_leading_plus}
+use Rattle.clap.specs.Faults.{fault_of}
+use Rattle.clap.specs.Kinds.{Kinds}
+use Rattle.clap.specs.Simple.{App, matches_of, new_app, new_rule, on_top, with_rule}
+use Rattle.clap.specs.ValueTests.{is_numeral}
+use Rattle.clap.specs.Walk.{Rule, Text, first_of}
+use Rattle.clap.specs.declared.builder.action.ArgAction.TheVariants.{Set}
+use Rattle.clap.specs.declared.builder.value_parser.ValueParser.TheVariants as parser
+use Rattle.ba_command.specs.declared.command.Command.{Command}
+use Rattle.ba_command.specs.declared.command.Command.TheVariants.{Run}
+use Rattle.ba_command.specs.declared.command.WordsError.{WordsError}
+use Rattle.ba_command.specs.declared.command.WordsError.TheVariants as errors
+use Rattle.ba_command.specs.declared.run.TheConstants.{BUDGET, MAX_BUDGET, MAX_WORKERS, MIN_BUDGET, MIN_WORKERS, WORKERS}
+
+-- an option with one value: `--id VALUE` or `--id=VALUE`
+abbrev pub option_rule : Text → Rule
+option_rule id = record (new_rule id) { long = Some id; action = Some Set }
+
+-- one whose value is a number between two
+abbrev pub number_rule : Text → ℕ → ℕ → Rule
+number_rule id least most = record (option_rule id) { parser = Some (parser.Unsigned least most) }
+
+-- one that must be given
+abbrev pub needed : Rule → Rule
+needed rule = record rule { required = true }
+
+-- a command with no help and no version, whose words leave out its name
+abbrev pub bare : App
+bare = on_top (λ s. record s { no_binary_name = true; disable_help_flag = true; disable_version_flag = true }) (new_app (codes "run"))
+
+-- run --schema S --policy P --tables D --script F [--workers N] [--budget B]
+abbrev pub run_app : App
+run_app = with_rule (with_rule (with_rule (with_rule (with_rule (with_rule bare
+    (needed (option_rule (codes "schema"))))
+    (needed (option_rule (codes "policy"))))
+    (needed (option_rule (codes "tables"))))
+    (needed (option_rule (codes "script"))))
+    (number_rule (codes "workers") MIN_WORKERS MAX_WORKERS))
+    (number_rule (codes "budget") MIN_BUDGET MAX_BUDGET)
+
+-- the number that a text spells, or another
+abbrev pub number_or : ℕ → Option Text → ℕ
+number_or other None = other
+number_or other (Some text) =
+    let n = digits_value 10 (without_leading_plus text) in
+    if is_numeral (without_leading_plus text) && nat_lt n (2 ^ 32) then n else other
+
+abbrev pub with_texts : Option Text → Option Text → Option Text → Option Text → ℕ → ℕ → Option Command
+with_texts (Some schema) (Some policy) (Some tables) (Some script) workers budget = Some (Run schema policy tables script workers budget)
+with_texts None policy tables script workers budget = None
+with_texts (Some schema) None tables script workers budget = None
+with_texts (Some schema) (Some policy) None script workers budget = None
+with_texts (Some schema) (Some policy) (Some tables) None workers budget = None
+
+-- the command that the values of the options are
+abbrev pub command_from : (Text → Option Text) → Option Command
+command_from given = with_texts (given (codes "schema")) (given (codes "policy")) (given (codes "tables")) (given (codes "script"))
+    (number_or WORKERS (given (codes "workers"))) (number_or BUDGET (given (codes "budget")))
+
+-- where `clap` finds no fault
+abbrev pub unless_fault : Kinds → Option Command → Option Command
+unless_fault [] found = found
+unless_fault (kind ∷ kinds) found = None
+
+-- what the words behind `run` ask for
+unfoldable pub run_of : List Text → Option Command
+run_of words = unless_fault (fault_of run_app words) (command_from (λ id. first_of id (matches_of run_app words)))
+
+-- the command that the words ask for, if they are a command's form
+abbrev pub command_of : List Text → Option Command
+command_of [] = None
+command_of (name ∷ words) = if bytes_eq name (codes "run") then run_of words else None
+
+-- the command, or bad words exactly where there is none, or want of memory
+abbrev pub Answers : Result Command WordsError → Option Command → Type 0
+Answers (Ok command) found = found ≡ Some command
+Answers (Err errors.NoMemory) found = Unit {0}
+Answers (Err errors.Words) found = found ≡ None

@@ -1,0 +1,12 @@
+//! The words of a command line.
+#![tactic(auto)]
+
+mod command;
+mod run;
+#[cfg(test)]
+mod tests;
+mod words;
+
+pub use command::{Command, WordsError};
+pub use run::{BUDGET, MAX_BUDGET, MAX_WORKERS, MIN_BUDGET, MIN_WORKERS, WORKERS};
+pub use words::read_words;

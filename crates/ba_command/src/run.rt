@@ -1,0 +1,142 @@
+//! The options of the command `run`, read by `clap`.
+ghost use Rattle.std.specs.Prelude.{◌≡◌, ◌≢◌, false, map, string_bytes, IfOk};
+ghost use Rattle.clap.specs.Words.{app_of, first_value, found_of, kind_of, rule_of};
+ghost use Rattle.ba_command.specs.Words.{Answers, bare, command_from, needed, number_or, number_rule, option_rule, run_app, run_of};
+
+use crate::command::{Command, WordsError};
+use ba_model::text::Str;
+use clap::builder::ValueParser;
+use clap::error::ErrorKind;
+use clap::{Arg, ArgAction, ArgMatches, Command as Form, Error};
+use std::alloc::{AllocError, Global};
+
+/// The fewest workers.
+pub const MIN_WORKERS: u64 = 1;
+
+/// The most workers so far.
+pub const MAX_WORKERS: u64 = 1;
+
+/// The workers where the words don't say.
+pub const WORKERS: u32 = 1;
+
+/// The least budget.
+pub const MIN_BUDGET: u64 = 16;
+
+/// The greatest budget.
+pub const MAX_BUDGET: u64 = 100_000;
+
+/// The budget where the words don't say.
+pub const BUDGET: u32 = 2000;
+
+// An option with one value.
+fn option<'a>(alloc: Global, id: &'a str) -> Arg<'a>
+    ensures rule { rule_of result ≡ option_rule id.entry.now }
+    ensures local { result.global ≡ false }
+{
+    Arg::new(alloc, id).long(id).action(ArgAction::Set)
+}
+
+// An option that must be given.
+fn needed<'a>(alloc: Global, id: &'a str) -> Arg<'a>
+    ensures rule { rule_of result ≡ needed (option_rule id.entry.now) }
+    ensures local { result.global ≡ false }
+{
+    option(alloc, id).required(true)
+}
+
+// An option whose value is a number of a range.
+fn number<'a>(alloc: Global, id: &'a str, least: u64, most: u64) -> Arg<'a>
+    ensures rule { rule_of result ≡ number_rule id.entry.now least most }
+    ensures local { result.global ≡ false }
+{
+    option(alloc, id).value_parser(ValueParser::Unsigned(least, most))
+}
+
+// The command without its options.
+fn bare<'a>(alloc: Global) -> Form<'a>
+    ensures { app_of result ≡ bare }
+{
+    Form::new(alloc, "run")
+        .no_binary_name(true)
+        .disable_help_flag(true)
+        .disable_version_flag(true)
+}
+
+fn run_form<'a>(alloc: Global) -> Result<Form<'a>, AllocError>
+    ensures { IfOk result (λ form. app_of form ≡ run_app) }
+{
+    bare(alloc)
+        .arg(needed(alloc, "schema"))?
+        .arg(needed(alloc, "policy"))?
+        .arg(needed(alloc, "tables"))?
+        .arg(needed(alloc, "script"))?
+        .arg(number(alloc, "workers", MIN_WORKERS, MAX_WORKERS))?
+        .arg(number(alloc, "budget", MIN_BUDGET, MAX_BUDGET))
+}
+
+// The number given under an id, or another.
+fn number_of(matches: &ArgMatches<'_>, id: &str, other: u32) -> u32
+    ensures { result ≡ number_or other (first_value (found_of matches.now) id.now) }
+{
+    match matches.get_str(id) {
+        Some(text) => match text.parse::<u32>() {
+            Ok(number) => number,
+            Err(_) => other,
+        },
+        None => other,
+    }
+}
+
+// The text given under an id.
+fn text_of(alloc: Global, matches: &ArgMatches<'_>, id: &str) -> Result<Option<Str>, AllocError>
+    ensures { IfOk result (λ text. text ≡ first_value (found_of matches.now) id.now) }
+{
+    match matches.get_str(id) {
+        Some(text) => Ok(Some(Str::new(alloc, text)?)),
+        None => Ok(None),
+    }
+}
+
+fn command_of(alloc: Global, matches: &ArgMatches<'_>) -> Result<Command, WordsError>
+    ensures { Answers result (command_from (first_value (found_of matches.now))) }
+{
+    let schema = text_of(alloc, matches, "schema")?;
+    let policy = text_of(alloc, matches, "policy")?;
+    let tables = text_of(alloc, matches, "tables")?;
+    let script = text_of(alloc, matches, "script")?;
+    let workers = number_of(matches, "workers", WORKERS);
+    let budget = number_of(matches, "budget", BUDGET);
+    match (schema, policy, tables, script) {
+        (Some(schema), Some(policy), Some(tables), Some(script)) => Ok(Command::Run {
+            schema,
+            policy,
+            tables,
+            script,
+            workers,
+            budget,
+        }),
+        _ => Err(WordsError::Words),
+    }
+}
+
+// Want of memory, or bad words.
+fn refusal(e: &Error) -> WordsError
+    ensures { result ≡ WordsError.Words → kind_of e.now ≢ ErrorKind.OutOfMemory }
+{
+    if e.kind() == ErrorKind::OutOfMemory {
+        WordsError::NoMemory
+    } else {
+        WordsError::Words
+    }
+}
+
+/// What the words behind `run` ask for.
+pub(crate) fn read_run(alloc: Global, words: &[String]) -> Result<Command, WordsError>
+    ensures { Answers result (run_of (map string_bytes words.now)) }
+{
+    let form = run_form(alloc)?;
+    match form.try_get_matches_from(words) {
+        Ok(matches) => command_of(alloc, &matches),
+        Err(e) => Err(refusal(&e)),
+    }
+}

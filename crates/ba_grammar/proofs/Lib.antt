@@ -1,0 +1,5 @@
+pub mod WordLemmas
+pub mod ListedLemmas
+pub mod SeveralLemmas
+pub mod EachLemmas
+pub mod KeywordLemmas

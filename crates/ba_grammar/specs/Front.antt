@@ -1,0 +1,106 @@
+-- Words read from the left: what stands at their front, and the words behind it.
+use Rattle.std.specs.Prelude.{ℕ, zero, suc, ℤ, Bool, false, ◌==◌, List, [], ◌∷◌, drop, length, Option, Some, None, Result, Ok, Err, codes, if◌then◌else◌}
+use Rattle.ba_lex.specs.Word.{is_word}
+use Rattle.ba_lex.specs.declared.token.Lexeme.{Lexeme}
+use Rattle.ba_lex.specs.declared.token.Lexeme.TheVariants.{Word, Quoted, Number, Text, Param, Sign as SignWord}
+use Rattle.ba_lex.specs.declared.token.Sign.{Sign}
+use Rattle.ba_lex.specs.declared.token.Sign.TheVariants.{LeftParen, RightParen, Comma, Semicolon, Equal}
+use Rattle.ba_grammar.specs.Errors.{◌>>=◌}
+use Rattle.ba_grammar.specs.Items.{is_among, sign_number}
+use Rattle.ba_grammar.specs.declared.error.Syntax.{Syntax}
+use Rattle.ba_grammar.specs.declared.error.Syntax.TheVariants.{Syntax as syntax}
+
+-- what was read, and the words behind it
+abbrev pub Read : Type 0 → Type 0
+Read A = Result (A × List Lexeme) Syntax
+
+-- ---- one word
+
+abbrev pub is_keyword : List ℕ → Lexeme → Bool
+is_keyword k (Word w) = is_word w k
+is_keyword k (Quoted n) = false
+is_keyword k (Number n) = false
+is_keyword k (Text t) = false
+is_keyword k (Param p) = false
+is_keyword k (SignWord s) = false
+
+abbrev pub word_of : Lexeme → Option (List ℕ)
+word_of (Word w) = Some w
+word_of (Quoted n) = None
+word_of (Number n) = None
+word_of (Text t) = None
+word_of (Param p) = None
+word_of (SignWord s) = None
+
+abbrev pub begins : (Lexeme → Bool) → List Lexeme → Bool
+begins test [] = false
+begins test (x ∷ xs) = test x
+
+-- the words behind the first, which passes the test
+abbrev pub past : (Lexeme → Bool) → List Lexeme → Result (List Lexeme) Syntax
+past test [] = Err syntax
+past test (x ∷ xs) = if test x then Ok xs else Err syntax
+
+abbrev pub is_sign : Sign → Lexeme → Bool
+is_sign s (SignWord t) = sign_number t == sign_number s
+is_sign s (Word w) = false
+is_sign s (Quoted n) = false
+is_sign s (Number n) = false
+is_sign s (Text t) = false
+is_sign s (Param p) = false
+
+abbrev pub any_of : Lexeme → List Lexeme → Read (List ℕ)
+any_of (Word w) rest = Ok (w, rest)
+any_of (Quoted n) rest = Err syntax
+any_of (Number n) rest = Err syntax
+any_of (Text t) rest = Err syntax
+any_of (Param p) rest = Err syntax
+any_of (SignWord s) rest = Err syntax
+
+unfoldable pub any_at : List Lexeme → Read (List ℕ)
+any_at [] = Err syntax
+any_at (x ∷ xs) = any_of x xs
+
+-- a word that isn't reserved, or a quoted name
+abbrev pub name_of : List (List ℕ) → Lexeme → List Lexeme → Read (List ℕ)
+name_of reserved (Word w) rest = if is_among reserved w then Err syntax else Ok (w, rest)
+name_of reserved (Quoted n) rest = Ok (n, rest)
+name_of reserved (Number n) rest = Err syntax
+name_of reserved (Text t) rest = Err syntax
+name_of reserved (Param p) rest = Err syntax
+name_of reserved (SignWord s) rest = Err syntax
+
+unfoldable pub name_at : List (List ℕ) → List Lexeme → Read (List ℕ)
+name_at reserved [] = Err syntax
+name_at reserved (x ∷ xs) = name_of reserved x xs
+
+abbrev pub number_of : Lexeme → List Lexeme → Read ℤ
+number_of (Number n) rest = Ok (n, rest)
+number_of (Word w) rest = Err syntax
+number_of (Quoted n) rest = Err syntax
+number_of (Text t) rest = Err syntax
+number_of (Param p) rest = Err syntax
+number_of (SignWord s) rest = Err syntax
+
+unfoldable pub number_at : List Lexeme → Read ℤ
+number_at [] = Err syntax
+number_at (x ∷ xs) = number_of x xs
+
+-- ---- several, of which item reads one; there are at most fuel of them
+
+-- those behind commas
+unfoldable pub more : {X : Type 0} → (List Lexeme → Read X) → ℕ → List Lexeme → Read (List X)
+more item zero words = Ok ([], words)
+more item (suc fuel) words =
+    if begins (is_sign Comma) words then (item (drop 1 words) >>= λ x. (more item fuel x.1 >>= λ y. Ok (x.0 ∷ y.0, y.1)))
+    else Ok ([], words)
+
+-- one, and those behind commas
+abbrev pub listed : {X : Type 0} → (List Lexeme → Read X) → List Lexeme → Read (List X)
+listed item words = item words >>= λ x. (more item (length words) x.1 >>= λ y. Ok (x.0 ∷ y.0, y.1))
+
+-- one after the other, all of the words
+unfoldable pub all : {X : Type 0} → (List Lexeme → Read X) → ℕ → List Lexeme → Result (List X) Syntax
+all item fuel [] = Ok []
+all item zero (w ∷ ws) = Err syntax
+all item (suc fuel) (w ∷ ws) = item (w ∷ ws) >>= λ x. (all item fuel x.1 >>= λ xs. Ok (x.0 ∷ xs))

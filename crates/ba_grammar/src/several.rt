@@ -1,0 +1,64 @@
+//! Several of one sort, one after the other.
+ghost use Rattle.std.specs.Prelude.{◌≡◌, length};
+ghost use Rattle.ba_grammar.specs.Errors.{Gives, Sees};
+ghost use Rattle.ba_grammar.specs.Front.{all, listed};
+
+use crate::error::ReadError;
+use crate::word::begins_with_sign;
+use ba_lex::{Lexeme, Sign};
+use ba_model::list::List;
+use std::alloc::Global;
+
+/// What a grammar reads at the front of words.
+pub trait Element: Drop {
+    ghost use Rattle.ba_lex.specs.declared.token.Lexeme.{Lexeme as Word};
+    ghost use Rattle.ba_grammar.specs.Front.{Read};
+    ghost use Rattle.std.specs.Prelude.{List as Sequence};
+
+    ghost read_at: { Sequence Word → Read Self };
+
+    fn read(alloc: Global, words: &[Lexeme]) -> Result<(Self, &[Lexeme]), ReadError>
+        ensures { Sees (λ x. (x.0, x.1.now)) result (read_at words.now) };
+}
+
+/// One or more, with commas between them, and the words behind.
+pub fn listed<T: Element>(
+    alloc: Global,
+    words: &[Lexeme],
+) -> Result<(List<T>, &[Lexeme]), ReadError>
+    ensures { Sees (λ x. (x.0, x.1.now)) result (listed T.read_at words.now) }
+{
+    let (first, behind) = T::read(alloc, words)?;
+    let mut found = List::new(alloc);
+    found.push(first)?;
+    let mut rest = behind;
+    for _ in 0..words.len() {
+        if !begins_with_sign(rest, Sign::Comma) {
+            return Ok((found, rest));
+        }
+        let (next, behind) = T::read(alloc, &rest[1..])?;
+        found.push(next)?;
+        rest = behind;
+    }
+    Ok((found, rest))
+}
+
+/// All of the words, one after the other; of no words none.
+pub fn all<T: Element>(alloc: Global, words: &[Lexeme]) -> Result<List<T>, ReadError>
+    ensures { Gives result (all T.read_at (length words.now) words.now) }
+{
+    let mut found = List::new(alloc);
+    let mut rest = words;
+    for _ in 0..words.len() {
+        if rest.is_empty() {
+            return Ok(found);
+        }
+        let (next, behind) = T::read(alloc, rest)?;
+        found.push(next)?;
+        rest = behind;
+    }
+    if !rest.is_empty() {
+        return Err(ReadError::Syntax);
+    }
+    Ok(found)
+}

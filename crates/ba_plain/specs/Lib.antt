@@ -1,9 +1,0 @@
-pub mod Errors
-pub mod Grammar
-pub mod Meaning
-pub mod Names
-pub mod Reader
-pub mod Words
-pub mod Texts
-pub mod Question
-pub mod Files

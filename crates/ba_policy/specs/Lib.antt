@@ -1,0 +1,6 @@
+pub mod Faults
+pub mod Statements
+pub mod Reader
+pub mod Meaning
+pub mod Reading
+pub mod Laws

@@ -1,0 +1,14 @@
+//! Reads a file as a policy.
+#![tactic(auto)]
+
+mod draft;
+mod error;
+pub mod laws;
+mod names;
+mod policy;
+mod statement;
+#[cfg(test)]
+mod tests;
+
+pub use error::{Kept, PolicyError, PolicyFault};
+pub use policy::read_policy;

@@ -1,0 +1,172 @@
+-- The first fault of a draft, by the function and as the model tells it.
+use Rattle.std.proofs.Common.{◌≡◌, ℕ, ◌<◌, Bool, true, false, not, nat_eq, List, [], ◌∷◌, All, Option, Some, None, Ok, refl, sym, ap, subst, lit<}
+use Rattle.std.specs.List.{AllByRecursion, IsDistinct, list_all, list_any}
+use Rattle.std.proofs.lemmas.Bool.{and_from, and_parts, false_from_ne_true, not_from_false, not-true, or_from, or_parts}
+use Rattle.std.proofs.lemmas.List.Elements.{All-from_recursion, recursion_from_All}
+use Rattle.ba_model.specs.SchemaFaults.{AreTables, ColumnsDistinct, IsFirstFault, Lacks, OfFault, column_names, columns_there, kinds_agree, rank, some_columns, table_names, targets_there, widths_agree}
+use Rattle.ba_model.specs.declared.check_schema.Counted.{Counted}
+use Rattle.ba_model.specs.declared.check_schema.SchemaError.{SchemaError}
+use Rattle.ba_model.specs.declared.check_schema.SchemaError.TheVariants as check
+use Rattle.ba_model.specs.declared.check_schema.SchemaFault.{SchemaFault}
+use Rattle.ba_model.specs.declared.check_schema.SchemaFault.TheVariants.{DuplicateTable, DuplicateColumn, UnknownTable, UnknownColumn, WidthDiffers, KindDiffers, EmptyKey, TooMany}
+use Rattle.ba_model.specs.declared.schema.Column.{Column}
+use Rattle.ba_model.specs.declared.schema.Schema.{Schema}
+use Rattle.ba_model.specs.declared.schema.Table.{Table}
+use Rattle.ba_sql_ddl.specs.Check.{AreNotNull, are_distinct, checked, columns_distinct, first_fault}
+use Rattle.ba_sql_ddl.specs.Faults.{Fails, of_check}
+use Rattle.ba_sql_ddl.specs.Meaning.{first_nullable, nullable_column}
+use Rattle.ba_sql_ddl.specs.Numbers.{same_name}
+use Rattle.ba_sql_ddl.specs.declared.error.DdlError.{DdlError}
+
+-- ---- the tests of names and keys
+
+no_other : {A : Type 0} (p : A → Bool) (ys : List A) → list_any p ys ≡ false → AllByRecursion (λ y. p y ≡ false) ys
+no_other p [] h = tt
+no_other p (y ∷ ys) h = let q = or_parts (p y) (list_any p ys) h in (q.0, no_other p ys q.1)
+
+other_none : {A : Type 0} (p : A → Bool) (ys : List A) → AllByRecursion (λ y. p y ≡ false) ys → list_any p ys ≡ false
+other_none p [] h = refl
+other_none p (y ∷ ys) h = or_from (p y) (list_any p ys) h.0 (other_none p ys h.1)
+
+pub distinct_sound : {A : Type 0} (eq : A → A → Bool) (xs : List A) → are_distinct eq xs ≡ true → IsDistinct eq xs
+unfolding IsDistinct
+distinct_sound eq [] h = tt
+distinct_sound eq (x ∷ xs) h =
+    let p = and_parts (not (list_any (eq x) xs)) (are_distinct eq xs) h in
+    (no_other (eq x) xs (not-true (list_any (eq x) xs) p.0), distinct_sound eq xs p.1)
+
+pub distinct_complete : {A : Type 0} (eq : A → A → Bool) (xs : List A) → IsDistinct eq xs → are_distinct eq xs ≡ true
+unfolding IsDistinct
+distinct_complete eq [] h = refl
+distinct_complete eq (x ∷ xs) h =
+    and_from (not (list_any (eq x) xs)) (are_distinct eq xs) (not_from_false (list_any (eq x) xs) (other_none (eq x) xs h.0)) (distinct_complete eq xs h.1)
+
+all_sound : {A : Type 0} (P : A → Type 0) (p : A → Bool) → ((x : A) → p x ≡ true → P x) → (xs : List A) → list_all p xs ≡ true → AllByRecursion P xs
+all_sound P p sound [] h = tt
+all_sound P p sound (x ∷ xs) h = let q = and_parts (p x) (list_all p xs) h in (sound x q.0, all_sound P p sound xs q.1)
+
+all_complete : {A : Type 0} (P : A → Type 0) (p : A → Bool) → ((x : A) → P x → p x ≡ true) → (xs : List A) → AllByRecursion P xs → list_all p xs ≡ true
+all_complete P p complete [] h = refl
+all_complete P p complete (x ∷ xs) h = and_from (p x) (list_all p xs) (complete x h.0) (all_complete P p complete xs h.1)
+
+columns_sound : (t : Table) → columns_distinct t ≡ true → ColumnsDistinct t
+columns_sound t h =
+    let p = and_parts (are_distinct same_name (column_names t.columns)) (list_all (are_distinct nat_eq) t.keys) h in
+    record {
+      names = distinct_sound same_name (column_names t.columns) p.0;
+      keys = All-from_recursion (IsDistinct nat_eq) t.keys (all_sound (IsDistinct nat_eq) (are_distinct nat_eq) (distinct_sound nat_eq) t.keys p.1);
+    }
+
+columns_complete : (t : Table) → ColumnsDistinct t → columns_distinct t ≡ true
+columns_complete t h =
+    and_from (are_distinct same_name (column_names t.columns)) (list_all (are_distinct nat_eq) t.keys) (distinct_complete same_name (column_names t.columns) h.names)
+    (all_complete (IsDistinct nat_eq) (are_distinct nat_eq) (distinct_complete nat_eq) t.keys (recursion_from_All (IsDistinct nat_eq) t.keys h.keys))
+
+pub table_names_tell : (tables : List Table) → Lacks DuplicateTable tables → are_distinct same_name (table_names tables) ≡ true
+table_names_tell tables h = distinct_complete same_name (table_names tables) h
+
+table_names_fail : (tables : List Table) → ¬ Lacks DuplicateTable tables → are_distinct same_name (table_names tables) ≡ false
+table_names_fail tables h = false_from_ne_true (are_distinct same_name (table_names tables)) (λ e. h (distinct_sound same_name (table_names tables) e))
+
+pub columns_tell : (tables : List Table) → Lacks DuplicateColumn tables → list_all columns_distinct tables ≡ true
+columns_tell tables h = all_complete ColumnsDistinct columns_distinct columns_complete tables (recursion_from_All ColumnsDistinct tables h)
+
+columns_fail : (tables : List Table) → ¬ Lacks DuplicateColumn tables → list_all columns_distinct tables ≡ false
+columns_fail tables h = false_from_ne_true (list_all columns_distinct tables) (λ e. h (All-from_recursion ColumnsDistinct tables (all_sound ColumnsDistinct columns_distinct columns_sound tables e)))
+
+pub names_told : (tables : List Table) → are_distinct same_name (table_names tables) ≡ true → Lacks DuplicateTable tables
+names_told tables e = distinct_sound same_name (table_names tables) e
+
+pub columns_told : (tables : List Table) → list_all columns_distinct tables ≡ true → Lacks DuplicateColumn tables
+columns_told tables e = All-from_recursion ColumnsDistinct tables (all_sound ColumnsDistinct columns_distinct columns_sound tables e)
+
+-- ---- the first fault
+
+pub no_fault : (tables : List Table) → AreTables tables → first_fault tables ≡ None
+unfolding first_fault
+no_fault tables h =
+    rw (table_names_tell tables (h.lacks DuplicateTable))
+    (rw (columns_tell tables (h.lacks DuplicateColumn))
+    (rw (h.lacks UnknownTable) (rw (h.lacks UnknownColumn) (rw (h.lacks WidthDiffers) (rw (h.lacks KindDiffers) (rw (h.lacks EmptyKey) (rw (h.lacks (TooMany Rattle.ba_model.specs.declared.check_schema.Counted.TheVariants.Tables 0)) refl)))))))
+
+below : (f g : SchemaFault) (tables : List Table) → IsFirstFault f tables → rank g < rank f → Lacks g tables
+below f g tables h lt = h.first g lt
+
+pub the_fault : (f : SchemaFault) (tables : List Table) → IsFirstFault f tables → first_fault tables ≡ Some f
+unfolding first_fault
+the_fault DuplicateTable tables h = rw (table_names_fail tables h.has) refl
+the_fault DuplicateColumn tables h =
+    rw (table_names_tell tables (below DuplicateColumn DuplicateTable tables h (lit< tt))) (rw (columns_fail tables h.has) refl)
+the_fault UnknownTable tables h =
+    rw (table_names_tell tables (below UnknownTable DuplicateTable tables h (lit< tt)))
+    (rw (columns_tell tables (below UnknownTable DuplicateColumn tables h (lit< tt)))
+    (rw (false_from_ne_true (list_all (targets_there tables) tables) h.has) refl))
+the_fault UnknownColumn tables h =
+    rw (table_names_tell tables (below UnknownColumn DuplicateTable tables h (lit< tt)))
+    (rw (columns_tell tables (below UnknownColumn DuplicateColumn tables h (lit< tt)))
+    (rw (below UnknownColumn UnknownTable tables h (lit< tt))
+    (rw (false_from_ne_true (list_all (columns_there tables) tables) h.has) refl)))
+the_fault WidthDiffers tables h =
+    rw (table_names_tell tables (below WidthDiffers DuplicateTable tables h (lit< tt)))
+    (rw (columns_tell tables (below WidthDiffers DuplicateColumn tables h (lit< tt)))
+    (rw (below WidthDiffers UnknownTable tables h (lit< tt))
+    (rw (below WidthDiffers UnknownColumn tables h (lit< tt))
+    (rw (false_from_ne_true (list_all widths_agree tables) h.has) refl))))
+the_fault KindDiffers tables h =
+    rw (table_names_tell tables (below KindDiffers DuplicateTable tables h (lit< tt)))
+    (rw (columns_tell tables (below KindDiffers DuplicateColumn tables h (lit< tt)))
+    (rw (below KindDiffers UnknownTable tables h (lit< tt))
+    (rw (below KindDiffers UnknownColumn tables h (lit< tt))
+    (rw (below KindDiffers WidthDiffers tables h (lit< tt))
+    (rw (false_from_ne_true (list_all (kinds_agree tables) tables) h.has) refl)))))
+the_fault EmptyKey tables h =
+    rw (table_names_tell tables (below EmptyKey DuplicateTable tables h (lit< tt)))
+    (rw (columns_tell tables (below EmptyKey DuplicateColumn tables h (lit< tt)))
+    (rw (below EmptyKey UnknownTable tables h (lit< tt))
+    (rw (below EmptyKey UnknownColumn tables h (lit< tt))
+    (rw (below EmptyKey WidthDiffers tables h (lit< tt))
+    (rw (below EmptyKey KindDiffers tables h (lit< tt))
+    (rw (false_from_ne_true (list_all some_columns tables) h.has) refl))))))
+the_fault (TooMany what limit) tables h =
+    rw (table_names_tell tables (below (TooMany what limit) DuplicateTable tables h (lit< tt)))
+    (rw (columns_tell tables (below (TooMany what limit) DuplicateColumn tables h (lit< tt)))
+    (rw (below (TooMany what limit) UnknownTable tables h (lit< tt))
+    (rw (below (TooMany what limit) UnknownColumn tables h (lit< tt))
+    (rw (below (TooMany what limit) WidthDiffers tables h (lit< tt))
+    (rw (below (TooMany what limit) KindDiffers tables h (lit< tt))
+    (rw (below (TooMany what limit) EmptyKey tables h (lit< tt))
+    (rw h.has.0 (ap (λ (n : ℕ). Some (TooMany what n)) (sym h.has.1)))))))))
+
+-- ---- the schema, or the fault
+
+pub checked_gives : (tables : List Table) (s : Schema) → first_nullable tables ≡ None → AreTables s.tables → s.tables ≡ tables → s.rules ≡ [] → checked tables ≡ Ok s
+unfolding checked
+checked_gives tables s none are same rules =
+    rw (none, no_fault tables (subst AreTables same are)) (λ i. Ok (record { tables = sym same i; rules = sym rules i }))
+
+pub checked_fails : (tables : List Table) (e : SchemaError) (d : DdlError) → first_nullable tables ≡ None → OfFault e (λ f. IsFirstFault f tables) → d ≡ of_check e → Fails d (checked tables)
+unfolding checked
+checked_fails tables check.NoMemory d none h same = rw same tt
+checked_fails tables (check.Fault f) d none h same = rw (same, none, the_fault f tables h) refl
+
+-- ---- no nullable column
+
+columns_not_null : (cs : List Column) → nullable_column cs ≡ None → AllByRecursion (λ c. c.nullable ≡ false) cs
+columns_not_null [] e = tt
+columns_not_null (c ∷ cs) e = at c.nullable refl (columns_not_null cs)
+  where
+    at : (b : Bool) → c.nullable ≡ b → (nullable_column cs ≡ None → AllByRecursion (λ c. c.nullable ≡ false) cs) → AllByRecursion (λ c. c.nullable ≡ false) (c ∷ cs)
+    at false h below = (h, below (rw h at e))
+    at true h below = let wrong : ◌≡◌ {A = Option (List ℕ)} (Some c.name) None = rw h at e in cc
+
+tables_not_null : (ts : List Table) → first_nullable ts ≡ None → AllByRecursion (λ t. All (λ c. c.nullable ≡ false) t.columns) ts
+tables_not_null [] e = tt
+tables_not_null (t ∷ ts) e = at (nullable_column t.columns) refl (tables_not_null ts)
+  where
+    at : (o : Option (List ℕ)) → nullable_column t.columns ≡ o → (first_nullable ts ≡ None → AllByRecursion (λ t. All (λ c. c.nullable ≡ false) t.columns) ts) → AllByRecursion (λ t. All (λ c. c.nullable ≡ false) t.columns) (t ∷ ts)
+    at None h below = (All-from_recursion (λ (c : Column). c.nullable ≡ false) t.columns (columns_not_null t.columns h), below (rw h at e))
+    at (Some n) h below = let wrong : ◌≡◌ {A = Option (List ℕ × List ℕ)} (Some (t.name, n)) None = rw h at e in cc
+
+pub not_null : (tables found : List Table) → first_nullable tables ≡ None → found ≡ tables → AreNotNull found
+not_null tables found e same =
+    subst AreNotNull (sym same) (record { columns = All-from_recursion (λ (t : Table). All (λ (c : Column). c.nullable ≡ false) t.columns) tables (tables_not_null tables e) })

@@ -1,0 +1,11 @@
+pub mod RuleLemmas
+pub mod DraftLemmas
+pub mod CheckLemmas
+pub mod FormLemmas
+pub mod TableLemmas
+pub mod NumberLemmas
+pub mod ScanLemmas
+pub mod NullLemmas
+pub mod MeaningLemmas
+pub mod FaultLemmas
+pub mod ReadingLemmas

@@ -1,0 +1,7 @@
+use Rattle.std.proofs.Common.{◌≡◌, ◌++◌, take, map}
+use Rattle.std.specs.List.{flat_map}
+use Rattle.ba_sql_ddl.specs.Meaning as meaning
+use Rattle.ba_sql_ddl.proofs.draft.add_own_links.Given as goal
+
+abbrev pub invariant-loop-rule : goal.invariant-loop-rule
+invariant-loop-rule l = l.found ≡ l.initial.found ++ map (meaning.link_of l.scope l.columns) (flat_map (meaning.own_links l.column.name) (take l.rule-index l.column.rules))

@@ -1,0 +1,10 @@
+use Rattle.std.proofs.lemmas.Result.{err_from_is_err_and}
+use Rattle.ba_sql_ddl.proofs.read.NameElement.read.Goals as goal
+
+pub returns-in_err-text : goal.returns-in_err-text
+returns-in_err-text c =
+    let p = err_from_is_err_and c.from_residual.result c.from_residual.ensures.1 in
+    rw (p.1, p.2) c.in_err-text.ensures
+
+pub returns : goal.returns
+returns c = c.in_ok-text.ensures

@@ -1,0 +1,12 @@
+mod DoubledLemmas
+mod ListLemmas
+mod TokenLemmas
+mod SpellsLemmas
+mod StandsLemmas
+mod PrintedLemmas
+mod WritableLemmas
+mod WrittenLemmas
+mod SupportedLemmas
+mod PlaceLemmas
+mod MeansLemmas
+mod ReadsLemmas

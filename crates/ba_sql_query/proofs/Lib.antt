@@ -1,0 +1,15 @@
+pub mod EachLemmas
+pub mod RangeLemmas
+pub mod TransferLemmas
+pub mod KindLemmas
+pub mod StackLemmas
+pub mod CountLemmas
+pub mod ReadLemmas
+pub mod ResolvedLemmas
+pub mod PartsLemmas
+pub mod PlaceLemmas
+pub mod NameLemmas
+pub mod TreeLemmas
+pub mod ReadingLemmas
+pub mod LackLemmas
+pub mod FaultLemmas

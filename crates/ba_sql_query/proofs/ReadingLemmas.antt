@@ -1,0 +1,268 @@
+-- A text by the function, and in SQL's terms.
+use Rattle.std.proofs.Common.{◌≡◌, ◌≢◌, ℕ, Bool, true, not, ◌==◌, List, [], ◌∷◌, ◌++◌, length, map, Option, Some, None, Result, Ok, Err, refl, sym, ap, ap₂, subst, ◌∙◌, arith}
+use Rattle.std.specs.List.{AllByRecursion, AllZip, flat_map, list_all, zip}
+use Rattle.std.proofs.lemmas.Bool.{eqb-true}
+use Rattle.std.proofs.lemmas.Bool.Decides.{nat_tests}
+use Rattle.std.proofs.lemmas.List.{length-map}
+use Rattle.std.proofs.lemmas.List.Elements.{All-from_recursion, recursion_from_All}
+use Rattle.ba_lex.specs.Tokens.{lexemes_of, tokens_of}
+use Rattle.ba_lex.specs.declared.token.LexFault.{LexFault}
+use Rattle.ba_lex.specs.declared.token.Lexeme.{Lexeme}
+use Rattle.ba_lex.specs.declared.token.Token.{Token}
+use Rattle.ba_model.specs.Fit.{kinds_of}
+use Rattle.ba_model.specs.QueryFaults as faults
+use Rattle.ba_model.specs.declared.policy.Parameter.{Parameter}
+use Rattle.ba_model.specs.declared.query.Operand.{Operand}
+use Rattle.ba_model.specs.declared.query.Part.{Part}
+use Rattle.ba_model.specs.declared.query.Query.{Query}
+use Rattle.ba_model.specs.declared.schema.Kind.{Kind}
+use Rattle.ba_model.specs.declared.schema.Kind.TheVariants.{Int as IntKind, Text as TextKind}
+use Rattle.ba_model.specs.declared.schema.Schema.{Schema}
+use Rattle.ba_sql_syntax.specs.Grammar.{HasTree}
+use Rattle.ba_sql_syntax.specs.Written.{HaveTrees, written_of}
+use Rattle.ba_sql_syntax.specs.declared.fault.SyntaxFault.{SyntaxFault}
+use Rattle.ba_sql_syntax.specs.declared.written.QueryText.{QueryText}
+use Rattle.ba_sql_syntax.specs.declared.written.Select.{Select}
+use Rattle.ba_sql_syntax.proofs.TextLemmas.{written_complete, written_sound, written_trees}
+use Rattle.std.specs.Prelude.{IfOk}
+use Rattle.ba_sql_query.specs.Errors.{Gives, ◌>>=◌}
+use Rattle.ba_sql_query.specs.Meaning.{fault_of, heads_agree, kind_in, kinds_agree, orders_numbers, query_of_parts, query_of_selects, query_of_written, same_heads, same_kind, unless}
+use Rattle.ba_sql_query.specs.Parts.{members, part_of, parts_of, select_parts, written_part}
+use Rattle.ba_sql_query.specs.Reads.{HasParts, HaveOneHead, IsQueryOf, IsSelectOf, ReadsQuery, ReadsWords}
+use Rattle.ba_sql_query.specs.Resolve.{first_of_names, names_of, or_first, select_of}
+use Rattle.ba_sql_query.specs.Texts.{from_syntax, from_tokens, query_of, query_of_words}
+use Rattle.ba_sql_query.specs.declared.fault.ReadQueryError.{ReadQueryError}
+use Rattle.ba_sql_query.specs.declared.fault.ReadQueryFault.{ReadQueryFault}
+use Rattle.ba_sql_query.specs.declared.resolved.ResolvedSelect.{ResolvedSelect}
+use Rattle.ba_sql_query.proofs.NameLemmas.{each_zip, select_complete, select_sound, zip_each}
+use Rattle.ba_sql_query.proofs.PartsLemmas.{HasNone, none_from}
+use Rattle.ba_sql_query.proofs.ReadLemmas.{bind_ok, err_ok, ok_same}
+use Rattle.ba_sql_query.proofs.ResolvedLemmas.{and_both, and_left, and_right, names_selects}
+use Rattle.ba_sql_query.proofs.TransferLemmas.{all_map}
+use Rattle.ba_sql_query.proofs.TreeLemmas.{form_members, form_of}
+
+-- ---- parts
+
+abbrev joined : {B : Type 0} → List (List B) → List B
+joined pieces = flat_map (λ piece. piece) pieces
+
+pub joined_map : (selects : List ResolvedSelect) → joined (map select_parts selects) ≡ parts_of selects
+joined_map [] = refl
+joined_map (s ∷ ss) = ap (λ ps. select_parts s ++ ps) (joined_map ss)
+
+has_parts : (schema : Schema) (params : List Parameter) (select : Select) (s : ResolvedSelect) → HasTree select.condition → IsSelectOf schema params select s → HasParts s (select_parts s)
+unfolding select_parts
+has_parts schema params select s tree h = record { members = members s.condition; form = form_of schema params select s tree h; are = refl }
+
+pub all_parts : (schema : Schema) (params : List Parameter) (selects : List Select) (ss : List ResolvedSelect) → AllByRecursion (λ select. HasTree select.condition) selects → AllZip (IsSelectOf schema params) selects ss → AllZip HasParts ss (map select_parts ss)
+all_parts schema params [] [] t z = tt
+all_parts schema params [] (s ∷ ss) t z = absurd z
+all_parts schema params (x ∷ xs) [] t z = absurd z
+all_parts schema params (x ∷ xs) (s ∷ ss) t z = (has_parts schema params x s t.0 z.0, all_parts schema params xs ss t.1 z.1)
+
+parts_are : (s : ResolvedSelect) (parts : List Part) → HasParts s parts → select_parts s ≡ parts
+unfolding select_parts
+parts_are s parts h = ap (map (part_of s)) (form_members s.condition h.members h.form) ∙ sym h.are
+
+pub joined_parts : (ss : List ResolvedSelect) (parts : List (List Part)) → AllZip HasParts ss parts → parts_of ss ≡ joined parts
+joined_parts [] [] z = refl
+joined_parts [] (p ∷ ps) z = absurd z
+joined_parts (s ∷ ss) [] z = absurd z
+joined_parts (s ∷ ss) (p ∷ ps) z = ap₂ (λ (xs ys : List Part). xs ++ ys) (parts_are s p z.0) (joined_parts ss ps z.1)
+
+-- ---- heads
+
+module _ (schema : Schema) (params : List Parameter) where
+  kind_same : (a b : Option Kind) → same_kind a b ≡ true → a ≡ b
+  kind_same None None e = refl
+  kind_same None (Some k) e = cc
+  kind_same (Some IntKind) None e = cc
+  kind_same (Some IntKind) (Some IntKind) e = refl
+  kind_same (Some IntKind) (Some TextKind) e = cc
+  kind_same (Some TextKind) None e = cc
+  kind_same (Some TextKind) (Some IntKind) e = cc
+  kind_same (Some TextKind) (Some TextKind) e = refl
+
+  same_itself : (a : Option Kind) → same_kind a a ≡ true
+  same_itself None = refl
+  same_itself (Some IntKind) = refl
+  same_itself (Some TextKind) = refl
+
+  same_is : (a b : Option Kind) → a ≡ b → same_kind a b ≡ true
+  same_is a b e = subst (λ (k : Option Kind). same_kind a k ≡ true) e (same_itself a)
+
+  module _ (f g : Operand → Option Kind) where
+    abbrev alike : List Operand → List Operand → Bool
+    alike xs ys = list_all (λ x. same_kind (f x.0) (g x.1)) (zip xs ys)
+
+    alike_map : (xs ys : List Operand) → length xs ≡ length ys → alike xs ys ≡ true → map g ys ≡ map f xs
+    alike_map [] [] e h = refl
+    alike_map [] (y ∷ ys) e h = absurd (omega (arith, e))
+    alike_map (x ∷ xs) [] e h = absurd (omega (arith, e))
+    alike_map (x ∷ xs) (y ∷ ys) e h =
+        ap₂ (λ (k : Option Kind) (ks : List (Option Kind)). k ∷ ks) (sym (kind_same (f x) (g y) (and_left (same_kind (f x) (g y)) (alike xs ys) h)))
+        (alike_map xs ys (omega (arith, e)) (and_right (same_kind (f x) (g y)) (alike xs ys) h))
+
+    map_alike : (xs ys : List Operand) → map f xs ≡ map g ys → alike xs ys ≡ true
+    map_alike [] [] e = refl
+    map_alike [] (y ∷ ys) e = refl
+    map_alike (x ∷ xs) [] e = refl
+    map_alike (x ∷ xs) (y ∷ ys) e = and_both (same_kind (f x) (g y)) (alike xs ys) (same_is (f x) (g y) cc) (map_alike xs ys cc)
+
+    map_length : (xs ys : List Operand) → map f xs ≡ map g ys → length xs ≡ length ys
+    map_length xs ys e = sym (length-map xs f) ∙ ap length e ∙ length-map ys g
+
+  equal_length : (n m : ℕ) → n ≡ m → (n == m) ≡ true
+  equal_length n m e = grind (arith, nat_tests)
+
+  abbrev kinds : ResolvedSelect → List (Option Kind)
+  kinds s = map (kind_in schema params s) s.head
+
+  heads_same : (s t : ResolvedSelect) → same_heads schema params s t ≡ true → kinds t ≡ kinds s
+  heads_same s t e =
+      alike_map (kind_in schema params s) (kind_in schema params t) s.head t.head
+      (eqb-true (length s.head) (length t.head) (and_left (length s.head == length t.head) (alike (kind_in schema params s) (kind_in schema params t) s.head t.head) e))
+      (and_right (length s.head == length t.head) (alike (kind_in schema params s) (kind_in schema params t) s.head t.head) e)
+
+  same_from : (s t : ResolvedSelect) → kinds s ≡ kinds t → same_heads schema params s t ≡ true
+  same_from s t e =
+      and_both (length s.head == length t.head) (alike (kind_in schema params s) (kind_in schema params t) s.head t.head)
+      (equal_length (length s.head) (length t.head) (map_length (kind_in schema params s) (kind_in schema params t) s.head t.head e))
+      (map_alike (kind_in schema params s) (kind_in schema params t) s.head t.head e)
+
+  all_same : (s : ResolvedSelect) (ss : List ResolvedSelect) → list_all (same_heads schema params s) ss ≡ true → AllByRecursion (λ t. kinds t ≡ kinds s) ss
+  all_same s [] e = tt
+  all_same s (t ∷ ts) e = (heads_same s t (and_left (same_heads schema params s t) (list_all (same_heads schema params s) ts) e), all_same s ts (and_right (same_heads schema params s t) (list_all (same_heads schema params s) ts) e))
+
+  same_all : (s : ResolvedSelect) (ks : List (Option Kind)) (ss : List ResolvedSelect) → kinds s ≡ ks → AllByRecursion (λ t. kinds t ≡ ks) ss → list_all (same_heads schema params s) ss ≡ true
+  same_all s ks [] e h = refl
+  same_all s ks (t ∷ ts) e h = and_both (same_heads schema params s t) (list_all (same_heads schema params s) ts) (same_from s t (e ∙ sym h.0)) (same_all s ks ts e h.1)
+
+  some_kinds : (f : Operand → Option Kind) (xs : List Operand) → not (faults.is_empty xs) ≡ true → map f xs ≢ []
+  some_kinds f [] e h = cc
+  some_kinds f (x ∷ xs) e h = cc
+
+  kinds_some : (f : Operand → Option Kind) (xs : List Operand) → map f xs ≢ [] → not (faults.is_empty xs) ≡ true
+  kinds_some f [] h = absurd (h refl)
+  kinds_some f (x ∷ xs) h = refl
+
+  pub heads_sound : (ss : List ResolvedSelect) → heads_agree schema params ss ≡ true → HaveOneHead schema params ss
+  heads_sound [] e = cc
+  heads_sound (s ∷ ss) e = record {
+    kinds = kinds s;
+    some_kind = some_kinds (kind_in schema params s) s.head (and_left (not (faults.is_empty s.head)) (list_all (same_heads schema params s) ss) e);
+    some_select = λ k. cc;
+    heads = All-from_recursion (λ t. kinds t ≡ kinds s) (s ∷ ss) (refl, all_same s ss (and_right (not (faults.is_empty s.head)) (list_all (same_heads schema params s) ss) e));
+  }
+
+  pub heads_complete : (ss : List ResolvedSelect) → HaveOneHead schema params ss → heads_agree schema params ss ≡ true
+  heads_complete [] h = absurd (h.some_select refl)
+  heads_complete (s ∷ ss) h =
+      let all = recursion_from_All (λ t. kinds t ≡ h.kinds) (s ∷ ss) h.heads in
+      and_both (not (faults.is_empty s.head)) (list_all (same_heads schema params s) ss)
+      (kinds_some (kind_in schema params s) s.head (λ k. h.some_kind (sym all.0 ∙ k)))
+      (same_all s h.kinds ss all.0 all.1)
+
+  -- ---- all tests
+
+  from_none : (ss : List ResolvedSelect) → HasNone schema params ss → fault_of schema params ss ≡ None
+  unfolding fault_of
+  from_none ss h = rw (h.kinds, h.orders, h.heads, h.some, h.within) refl
+
+  pub kinds_lacks : (ss : List ResolvedSelect) → list_all (faults.kinds_agree schema (kinds_of params) []) (map written_part ss) ≡ kinds_agree schema params ss
+  kinds_lacks ss = all_map (faults.kinds_agree schema (kinds_of params) []) written_part ss
+
+  pub orders_lacks : (ss : List ResolvedSelect) → list_all (faults.orders_numbers schema (kinds_of params) []) (map written_part ss) ≡ orders_numbers schema params ss
+  orders_lacks ss = all_map (faults.orders_numbers schema (kinds_of params) []) written_part ss
+
+  pub not_empty : {X : Type 0} (xs : List X) → not (faults.is_empty xs) ≡ true → xs ≢ []
+  not_empty [] e h = cc
+  not_empty (x ∷ xs) e h = cc
+
+  pub empty_not : {X : Type 0} (xs : List X) → xs ≢ [] → not (faults.is_empty xs) ≡ true
+  empty_not [] h = absurd (h refl)
+  empty_not (x ∷ xs) h = refl
+
+  unless_ok : (o : Option ReadQueryFault) (p q : Query) → unless o p ≡ Ok q → (o ≡ None) × (p ≡ q)
+  unless_ok None p q e = (refl, ok_same p q e)
+  unless_ok (Some f) p q e = absurd (err_ok q e)
+
+  names_complete : (text : QueryText) (ss : List ResolvedSelect) → AllZip (IsSelectOf schema params) text.selects ss → names_of schema params text ≡ Ok ss
+  unfolding names_of
+  names_complete text ss z =
+      ap (λ (r : Result (List ResolvedSelect) ReadQueryFault). or_first r (first_of_names schema params text.selects)) (zip_each (select_of schema params) (IsSelectOf schema params) (select_complete schema params) text.selects ss z)
+
+  pub meaning_sound : (text : QueryText) (q : Query) → HaveTrees text → query_of_written schema params text ≡ Ok q → IsQueryOf schema params text q
+  unfolding query_of_written
+  meaning_sound text q trees e =
+      let a = bind_ok (names_of schema params text) (query_of_selects schema params) q e in
+      let names = each_zip (select_of schema params) (IsSelectOf schema params) (select_sound schema params) text.selects a.0 (names_selects schema params text a.0 a.1) in
+      let b = unless_ok (fault_of schema params a.0) (query_of_parts (parts_of a.0)) q a.2 in
+      let none = none_from schema params a.0 b.0 in
+      let parts : parts_of a.0 ≡ q.parts = ap (λ (x : Query). x.parts) b.1 in
+      record {
+        selects = a.0;
+        names = names;
+        parts = map select_parts a.0;
+        forms = all_parts schema params text.selects a.0 (recursion_from_All (λ select. HasTree select.condition) text.selects trees) names;
+        made = sym parts ∙ sym (joined_map a.0);
+        kinds = kinds_lacks a.0 ∙ none.kinds;
+        orders = orders_lacks a.0 ∙ none.orders;
+        heads = heads_sound a.0 none.heads;
+        some_part = subst (λ (ps : List Part). ps ≢ []) parts (not_empty (parts_of a.0) none.some);
+        few = subst (λ (ps : List Part). faults.within ps ≡ true) parts none.within;
+      }
+
+  pub meaning_complete : (text : QueryText) (q : Query) → IsQueryOf schema params text q → query_of_written schema params text ≡ Ok q
+  unfolding query_of_written
+  meaning_complete text q h =
+      let parts : parts_of h.selects ≡ q.parts = joined_parts h.selects h.parts h.forms ∙ sym h.made in
+      let none : HasNone schema params h.selects = record {
+        kinds = sym (kinds_lacks h.selects) ∙ h.kinds;
+        orders = sym (orders_lacks h.selects) ∙ h.orders;
+        heads = heads_complete h.selects h.heads;
+        some = empty_not (parts_of h.selects) (subst (λ (ps : List Part). ps ≢ []) (sym parts) h.some_part);
+        within = subst (λ (ps : List Part). faults.within ps ≡ true) (sym parts) h.few;
+      } in
+      rw (names_complete text h.selects h.names) (rw (from_none h.selects none) (λ i. Ok (record { parts = parts i })))
+
+  -- ---- words and texts
+
+  pub syntax_ok : (r : Result QueryText SyntaxFault) (text : QueryText) → from_syntax r ≡ Ok text → r ≡ Ok text
+  syntax_ok (Ok t) text e = ap (λ (x : QueryText). Ok x) (ok_same t text e)
+  syntax_ok (Err f) text e = absurd (err_ok text e)
+
+  pub words_sound : (words : List Lexeme) (q : Query) → query_of_words schema params words ≡ Ok q → ReadsWords schema params words q
+  unfolding query_of_words
+  words_sound words q e =
+      let a = bind_ok (from_syntax (written_of words)) (query_of_written schema params) q e in
+      let w = syntax_ok (written_of words) a.0 a.1 in
+      let s = written_sound words a.0 w in
+      record { supported = s.0; written = a.0; form = s.1; means = meaning_sound a.0 q (written_trees words (Ok a.0) w) a.2 }
+
+  pub words_complete : (words : List Lexeme) (q : Query) → ReadsWords schema params words q → query_of_words schema params words ≡ Ok q
+  unfolding query_of_words
+  words_complete words q h = rw (written_complete words h.written (h.supported, h.form)) (meaning_complete h.written q h.means)
+
+  pub tokens_ok : (r : Result (List Token) LexFault) (words : List Lexeme) → from_tokens r ≡ Ok words → (ts : List Token) × (r ≡ Ok ts) × (lexemes_of ts ≡ words)
+  tokens_ok (Ok ts) words e = (ts, refl, ok_same (lexemes_of ts) words e)
+  tokens_ok (Err f) words e = absurd (err_ok words e)
+
+  pub text_sound : (text : List ℕ) (q : Query) → query_of schema params text ≡ Ok q → ReadsQuery schema params text q
+  unfolding query_of
+  text_sound text q e =
+      let a = bind_ok (from_tokens (tokens_of 65536 text)) (query_of_words schema params) q e in
+      let t = tokens_ok (tokens_of 65536 text) a.0 a.1 in
+      record { tokens = t.0; are = t.1; reads = subst (λ (ws : List Lexeme). ReadsWords schema params ws q) (sym t.2) (words_sound a.0 q a.2) }
+
+  pub text_complete : (text : List ℕ) (q : Query) → ReadsQuery schema params text q → query_of schema params text ≡ Ok q
+  unfolding query_of
+  text_complete text q h = rw h.are (words_complete (lexemes_of h.tokens) q h.reads)
+
+  pub one_query : (text : List ℕ) (p q : Query) → ReadsQuery schema params text p → ReadsQuery schema params text q → p ≡ q
+  one_query text p q a b = ok_same p q (sym (text_complete text p a) ∙ text_complete text q b)
+
+-- what a reader returned, against what the text reads as
+pub reads : {X : Type 0} (r : Result X ReadQueryError) (read : Result X ReadQueryFault) (P : X → Type 0) → Gives r read → ((x : X) → read ≡ Ok x → P x) → IfOk r P
+reads (Ok x) read P g sound = sound x g
+reads (Err e) read P g sound = tt

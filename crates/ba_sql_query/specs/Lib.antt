@@ -1,0 +1,9 @@
+pub mod Errors
+pub mod Names
+pub mod Resolve
+pub mod Parts
+pub mod Meaning
+pub mod Resolved
+pub mod Texts
+pub mod Reads
+pub mod Faults

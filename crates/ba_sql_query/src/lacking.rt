@@ -1,0 +1,255 @@
+//! The first fault of a text's names.
+ghost use Rattle.std.specs.Prelude.{◌≡◌, IfOk};
+ghost use Rattle.std.specs.List.{list_all};
+ghost use Rattle.ba_sql_query.specs.Errors.{lacks};
+ghost use Rattle.ba_sql_query.specs.Resolve.{constant_lacks, first_of_names, heads_lack, item_lacks, names_lack, node_lacks, select_lacks, side_lacks, test_lacks, text_lacks};
+
+use crate::fault::{ReadQueryError, ReadQueryFault};
+use crate::names::{column_of, param_of, source_of};
+use crate::resolve::tables_of;
+use ba_model::policy::Parameter;
+use ba_model::schema::Schema;
+use ba_sql_syntax::written::{Constant, Heads, Item, Node, Select, Side, Source, Test};
+use std::alloc::{AllocError, Global};
+
+// Whether it isn't refused by a fault of this rank.
+fn lacks<T: Drop>(rank: u8, found: Result<T, ReadQueryFault>) -> bool
+    ensures { result ≡ lacks rank found }
+{
+    match found {
+        Ok(_) => true,
+        Err(fault) => fault.rank() != rank,
+    }
+}
+
+#[tactic(auto, unfolding(crate::specs::Resolve::constant_lacks))]
+fn constant_lacks(rank: u8, params: &[Parameter], constant: &Constant) -> bool
+    ensures { result ≡ constant_lacks rank params.now constant.now }
+{
+    match constant {
+        Constant::Value(_) => true,
+        Constant::Param(name) => lacks(rank, param_of(params, name)),
+    }
+}
+
+fn constants_lack(rank: u8, params: &[Parameter], constants: &[Constant]) -> bool
+    ensures { result ≡ list_all (constant_lacks rank params.now) constants.now }
+{
+    constants
+        .iter()
+        .all(|constant| constant_lacks(rank, params, constant))
+}
+
+#[tactic(auto, unfolding(crate::specs::Resolve::side_lacks))]
+fn side_lacks(
+    rank: u8,
+    schema: &Schema,
+    params: &[Parameter],
+    sources: &[Source],
+    from: &[u32],
+    side: &Side,
+) -> bool
+    ensures { result ≡ side_lacks rank schema.now params.now sources.now from.now side.now }
+{
+    match side {
+        Side::Column(name) => lacks(rank, column_of(schema, sources, from, name)),
+        Side::Constant(constant) => constant_lacks(rank, params, constant),
+    }
+}
+
+#[tactic(auto, unfolding(crate::specs::Resolve::test_lacks))]
+fn test_lacks(
+    rank: u8,
+    schema: &Schema,
+    params: &[Parameter],
+    sources: &[Source],
+    from: &[u32],
+    test: &Test,
+) -> bool
+    ensures { result ≡ test_lacks rank schema.now params.now sources.now from.now test.now }
+{
+    match test {
+        Test::Compare { left, right, .. } => {
+            side_lacks(rank, schema, params, sources, from, left)
+                && side_lacks(rank, schema, params, sources, from, right)
+        }
+        Test::Among { side, among } => {
+            side_lacks(rank, schema, params, sources, from, side)
+                && constants_lack(rank, params, among.as_slice())
+        }
+    }
+}
+
+#[tactic(auto, unfolding(crate::specs::Resolve::node_lacks))]
+fn node_lacks(
+    rank: u8,
+    schema: &Schema,
+    params: &[Parameter],
+    sources: &[Source],
+    from: &[u32],
+    node: &Node,
+) -> bool
+    ensures { result ≡ node_lacks rank schema.now params.now sources.now from.now node.now }
+{
+    match node {
+        Node::Test(test) => test_lacks(rank, schema, params, sources, from, test),
+        Node::And | Node::Or => true,
+    }
+}
+
+fn nodes_lack(
+    rank: u8,
+    schema: &Schema,
+    params: &[Parameter],
+    sources: &[Source],
+    from: &[u32],
+    nodes: &[Node],
+) -> bool
+    ensures { result ≡ list_all (node_lacks rank schema.now params.now sources.now from.now) nodes.now }
+{
+    nodes.iter().all(|node| node_lacks(rank, schema, params, sources, from, node))
+}
+
+#[tactic(auto, unfolding(crate::specs::Resolve::item_lacks))]
+fn item_lacks(
+    rank: u8,
+    schema: &Schema,
+    params: &[Parameter],
+    sources: &[Source],
+    from: &[u32],
+    item: &Item,
+) -> bool
+    ensures { result ≡ item_lacks rank schema.now params.now sources.now from.now item.now }
+{
+    match item {
+        Item::AllOf(name) => lacks(rank, source_of(sources, name)),
+        Item::One(side) => side_lacks(rank, schema, params, sources, from, side),
+    }
+}
+
+fn items_lack(
+    rank: u8,
+    schema: &Schema,
+    params: &[Parameter],
+    sources: &[Source],
+    from: &[u32],
+    items: &[Item],
+) -> bool
+    ensures { result ≡ list_all (item_lacks rank schema.now params.now sources.now from.now) items.now }
+{
+    items.iter().all(|item| item_lacks(rank, schema, params, sources, from, item))
+}
+
+#[tactic(auto, unfolding(crate::specs::Resolve::heads_lack))]
+fn heads_lack(
+    rank: u8,
+    schema: &Schema,
+    params: &[Parameter],
+    sources: &[Source],
+    from: &[u32],
+    heads: &Heads,
+) -> bool
+    ensures { result ≡ heads_lack rank schema.now params.now sources.now from.now heads.now }
+{
+    match heads {
+        Heads::All => true,
+        Heads::Items(items) => items_lack(rank, schema, params, sources, from, items.as_slice()),
+    }
+}
+
+fn names_lack(
+    rank: u8,
+    schema: &Schema,
+    params: &[Parameter],
+    select: &Select,
+    from: &[u32],
+) -> bool
+    ensures { result ≡ names_lack rank schema.now params.now select.now from.now }
+{
+    let sources = select.sources.as_slice();
+    heads_lack(rank, schema, params, sources, from, &select.heads)
+        && nodes_lack(
+            rank,
+            schema,
+            params,
+            sources,
+            from,
+            select.condition.as_slice(),
+        )
+}
+
+#[tactic(auto, unfolding(crate::specs::Resolve::select_lacks))]
+fn select_lacks(
+    alloc: Global,
+    rank: u8,
+    schema: &Schema,
+    params: &[Parameter],
+    select: &Select,
+) -> Result<bool, AllocError>
+    ensures { IfOk result (λ lacking. lacking ≡ select_lacks rank schema.now params.now select.now) }
+{
+    let from = tables_of(alloc, schema, select.sources.as_slice());
+    match from {
+        Ok(from) => Ok(names_lack(rank, schema, params, select, from.as_slice())),
+        Err(ReadQueryError::Fault(fault)) => Ok(fault.rank() != rank),
+        Err(ReadQueryError::NoMemory) => Err(AllocError),
+    }
+}
+
+fn text_lacks(
+    alloc: Global,
+    rank: u8,
+    schema: &Schema,
+    params: &[Parameter],
+    selects: &[Select],
+) -> Result<bool, AllocError>
+    ensures { IfOk result (λ lacking. lacking ≡ text_lacks rank schema.now params.now selects.now) }
+{
+    for select in selects {
+        let lacking = select_lacks(alloc, rank, schema, params, select)?;
+        if !lacking {
+            return Ok(false);
+        }
+    }
+    Ok(true)
+}
+
+/// The fault of least rank that refuses a name; `UnknownParam` where no other does.
+#[tactic(auto, unfolding(crate::specs::Resolve::first_of_names))]
+pub fn first_of_names(
+    alloc: Global,
+    schema: &Schema,
+    params: &[Parameter],
+    selects: &[Select],
+) -> Result<ReadQueryFault, AllocError>
+    ensures { IfOk result (λ fault. fault ≡ first_of_names schema.now params.now selects.now) }
+{
+    if !text_lacks(
+        alloc,
+        ReadQueryFault::UnknownTable.rank(),
+        schema,
+        params,
+        selects,
+    )? {
+        return Ok(ReadQueryFault::UnknownTable);
+    }
+    if !text_lacks(
+        alloc,
+        ReadQueryFault::UnknownColumn.rank(),
+        schema,
+        params,
+        selects,
+    )? {
+        return Ok(ReadQueryFault::UnknownColumn);
+    }
+    if !text_lacks(
+        alloc,
+        ReadQueryFault::Ambiguous.rank(),
+        schema,
+        params,
+        selects,
+    )? {
+        return Ok(ReadQueryFault::Ambiguous);
+    }
+    Ok(ReadQueryFault::UnknownParam)
+}

@@ -1,0 +1,20 @@
+//! Reads a text as a query.
+#![tactic(auto)]
+
+mod count;
+mod expand;
+pub mod fault;
+mod kinds;
+mod lacking;
+pub mod laws;
+mod names;
+mod query;
+pub mod read;
+mod resolve;
+mod resolved;
+
+pub use fault::{ReadQueryError, ReadQueryFault};
+pub use read::{read_query, read_words};
+
+#[cfg(test)]
+mod tests;

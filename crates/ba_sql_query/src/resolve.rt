@@ -1,0 +1,302 @@
+//! A text with its names as numbers.
+ghost use Rattle.std.specs.Prelude.{◌≡◌, ◌++◌, [], ◌∷◌, IfOk, OnOk, map, min, length, slice_get};
+ghost use Rattle.std.specs.List.{range_with_len};
+ghost use Rattle.ba_sql_query.specs.Errors.{Gives, Sees, each, each_flat};
+ghost use Rattle.ba_sql_query.specs.Names.{constant_of, table_of};
+ghost use Rattle.ba_sql_query.specs.Resolve.{all_columns, columns_or, heads_of, item_of, names_of, node_of, select_of, selects_of, source_columns, tables_of, test_of};
+
+use crate::fault::{ReadQueryError, ReadQueryFault};
+use crate::lacking::first_of_names;
+use crate::names::{columns_of, constant_of, operand_of, source_of, table_of};
+use crate::resolved::{ResolvedNode, ResolvedSelect, ResolvedTest};
+use ba_model::list::List;
+use ba_model::policy::Parameter;
+use ba_model::query::{Atom, Operand};
+use ba_model::schema::{Column, Schema};
+use ba_sql_syntax::written::{Constant, Heads, Item, Node, QueryText, Select, Source, Test};
+use std::alloc::{AllocError, Global};
+
+/// How many numbers of 32 bits there are, without the last.
+const MOST: usize = 0xffff_ffff;
+
+fn as_number(count: usize) -> u32
+    ensures { result ≡ min count 0xffff_ffff }
+{
+    count.min(MOST) as u32
+}
+
+fn columns_or(schema: &Schema, table: Option<u32>) -> &[Column]
+    ensures { result.now ≡ columns_or schema.now table }
+{
+    match table {
+        Some(table) => columns_of(schema, table),
+        None => &[],
+    }
+}
+
+fn numbered_columns(alloc: Global, place: u32, count: u32) -> Result<Vec<Operand>, AllocError>
+    ensures { IfOk result (λ v. v.items ≡ map (Operand.Col place) (range_with_len 0 count)) }
+{
+    (0..count).map(|n| Operand::Col(place, n)).collect(alloc)
+}
+
+// All columns of the source at a place.
+fn source_columns(
+    alloc: Global,
+    schema: &Schema,
+    from: &[u32],
+    place: u32,
+) -> Result<Vec<Operand>, AllocError>
+    ensures { IfOk result (λ v. v.items ≡ source_columns schema.now from.now place) }
+{
+    let columns = columns_or(schema, from.get(place as usize).copied());
+    numbered_columns(alloc, place, as_number(columns.len()))
+}
+
+// All columns of all sources.
+fn all_columns(alloc: Global, schema: &Schema, from: &[u32]) -> Result<List<Operand>, AllocError>
+    ensures { IfOk result (λ operands. operands ≡ all_columns schema.now from.now) }
+{
+    let mut found = Vec::new(alloc);
+    for place in 0..as_number(from.len()) {
+        let mut columns = source_columns(alloc, schema, from, place)?;
+        found.append(&mut columns)?;
+    }
+    Ok(List::from_vec(found))
+}
+
+fn one(alloc: Global, operand: Operand) -> Result<Vec<Operand>, AllocError>
+    ensures { IfOk result (λ v. v.items ≡ operand ∷ []) }
+{
+    let mut list = Vec::new(alloc);
+    list.push(operand)?;
+    Ok(list)
+}
+
+#[tactic(auto, unfolding(crate::specs::Resolve::item_of))]
+fn item_of(
+    alloc: Global,
+    schema: &Schema,
+    params: &[Parameter],
+    sources: &[Source],
+    from: &[u32],
+    item: &Item,
+) -> Result<Vec<Operand>, ReadQueryError>
+    ensures { Sees (λ v. v.items) result (item_of schema.now params.now sources.now from.now item.now) }
+{
+    match item {
+        Item::AllOf(name) => {
+            let place = source_of(sources, name)?;
+            Ok(source_columns(alloc, schema, from, place)?)
+        }
+        Item::One(side) => {
+            let operand = operand_of(alloc, schema, params, sources, from, side)?;
+            Ok(one(alloc, operand)?)
+        }
+    }
+}
+
+fn items_of(
+    alloc: Global,
+    schema: &Schema,
+    params: &[Parameter],
+    sources: &[Source],
+    from: &[u32],
+    items: &[Item],
+) -> Result<List<Operand>, ReadQueryError>
+    ensures { Gives result (each_flat (item_of schema.now params.now sources.now from.now) items.now) }
+{
+    let mut found = Vec::new(alloc);
+    for item in items {
+        let mut operands = item_of(alloc, schema, params, sources, from, item)?;
+        found.append(&mut operands)?;
+    }
+    Ok(List::from_vec(found))
+}
+
+#[tactic(auto, unfolding(crate::specs::Resolve::heads_of))]
+fn heads_of(
+    alloc: Global,
+    schema: &Schema,
+    params: &[Parameter],
+    sources: &[Source],
+    from: &[u32],
+    heads: &Heads,
+) -> Result<List<Operand>, ReadQueryError>
+    ensures { Gives result (heads_of schema.now params.now sources.now from.now heads.now) }
+{
+    match heads {
+        Heads::All => Ok(all_columns(alloc, schema, from)?),
+        Heads::Items(items) => items_of(alloc, schema, params, sources, from, items.as_slice()),
+    }
+}
+
+fn constants_of(
+    alloc: Global,
+    params: &[Parameter],
+    constants: &[Constant],
+) -> Result<List<Operand>, ReadQueryError>
+    ensures { Gives result (each (constant_of params.now) constants.now) }
+{
+    let mut found = List::new(alloc);
+    for constant in constants {
+        let operand = constant_of(alloc, params, constant)?;
+        found.push(operand)?;
+    }
+    Ok(found)
+}
+
+#[tactic(auto, unfolding(crate::specs::Resolve::test_of))]
+fn test_of(
+    alloc: Global,
+    schema: &Schema,
+    params: &[Parameter],
+    sources: &[Source],
+    from: &[u32],
+    test: &Test,
+) -> Result<ResolvedTest, ReadQueryError>
+    ensures { Gives result (test_of schema.now params.now sources.now from.now test.now) }
+{
+    match test {
+        Test::Compare { op, left, right } => {
+            let left = operand_of(alloc, schema, params, sources, from, left)?;
+            let right = operand_of(alloc, schema, params, sources, from, right)?;
+            let op = *op;
+            Ok(ResolvedTest::One(Atom { op, left, right }))
+        }
+        Test::Among { side, among } => {
+            let side = operand_of(alloc, schema, params, sources, from, side)?;
+            let among = constants_of(alloc, params, among.as_slice())?;
+            Ok(ResolvedTest::Among { side, among })
+        }
+    }
+}
+
+#[tactic(auto, unfolding(crate::specs::Resolve::node_of))]
+fn node_of(
+    alloc: Global,
+    schema: &Schema,
+    params: &[Parameter],
+    sources: &[Source],
+    from: &[u32],
+    node: &Node,
+) -> Result<ResolvedNode, ReadQueryError>
+    ensures { Gives result (node_of schema.now params.now sources.now from.now node.now) }
+{
+    match node {
+        Node::Test(test) => {
+            let test = test_of(alloc, schema, params, sources, from, test)?;
+            Ok(ResolvedNode::Test(test))
+        }
+        Node::And => Ok(ResolvedNode::And),
+        Node::Or => Ok(ResolvedNode::Or),
+    }
+}
+
+fn nodes_of(
+    alloc: Global,
+    schema: &Schema,
+    params: &[Parameter],
+    sources: &[Source],
+    from: &[u32],
+    nodes: &[Node],
+) -> Result<List<ResolvedNode>, ReadQueryError>
+    ensures { Gives result (each (node_of schema.now params.now sources.now from.now) nodes.now) }
+{
+    let mut found = List::new(alloc);
+    for node in nodes {
+        let next = node_of(alloc, schema, params, sources, from, node)?;
+        found.push(next)?;
+    }
+    Ok(found)
+}
+
+fn numbers_of(
+    alloc: Global,
+    schema: &Schema,
+    sources: &[Source],
+) -> Result<List<u32>, ReadQueryError>
+    ensures { Gives result (each (λ source. table_of schema.now source.table) sources.now) }
+{
+    let mut found = List::new(alloc);
+    for source in sources {
+        let table = table_of(schema, &source.table)?;
+        found.push(table)?;
+    }
+    Ok(found)
+}
+
+/// The numbers of the sources' tables; `UnknownTable` where one isn't there, or no source.
+#[tactic(auto, unfolding(crate::specs::Resolve::tables_of))]
+pub fn tables_of(
+    alloc: Global,
+    schema: &Schema,
+    sources: &[Source],
+) -> Result<List<u32>, ReadQueryError>
+    ensures { Gives result (tables_of schema.now sources.now) }
+{
+    if sources.is_empty() {
+        return Err(ReadQueryError::Fault(ReadQueryFault::UnknownTable));
+    }
+    numbers_of(alloc, schema, sources)
+}
+
+#[tactic(auto, unfolding(crate::specs::Resolve::select_of))]
+fn select_of(
+    alloc: Global,
+    schema: &Schema,
+    params: &[Parameter],
+    select: &Select,
+) -> Result<ResolvedSelect, ReadQueryError>
+    ensures { Gives result (select_of schema.now params.now select.now) }
+{
+    let sources = select.sources.as_slice();
+    let from = tables_of(alloc, schema, sources)?;
+    let numbers = from.as_slice();
+    let head = heads_of(alloc, schema, params, sources, numbers, &select.heads)?;
+    let nodes = select.condition.as_slice();
+    let condition = nodes_of(alloc, schema, params, sources, numbers, nodes)?;
+    Ok(ResolvedSelect {
+        from,
+        head,
+        condition,
+    })
+}
+
+fn selects_of(
+    alloc: Global,
+    schema: &Schema,
+    params: &[Parameter],
+    selects: &[Select],
+) -> Result<List<ResolvedSelect>, ReadQueryError>
+    ensures { Gives result (selects_of schema.now params.now selects.now) }
+{
+    let mut found = List::new(alloc);
+    for select in selects {
+        let next = select_of(alloc, schema, params, select)?;
+        found.push(next)?;
+    }
+    Ok(found)
+}
+
+/// The text with its names as numbers, or the first fault of its names.
+#[tactic(auto, unfolding(crate::specs::Resolve::names_of))]
+pub fn names_of(
+    alloc: Global,
+    schema: &Schema,
+    params: &[Parameter],
+    text: &QueryText,
+) -> Result<List<ResolvedSelect>, ReadQueryError>
+    ensures { Gives result (names_of schema.now params.now text.now) }
+{
+    let selects = text.selects.as_slice();
+    let found = selects_of(alloc, schema, params, selects);
+    match found {
+        Ok(resolved) => Ok(resolved),
+        Err(ReadQueryError::NoMemory) => Err(ReadQueryError::NoMemory),
+        Err(ReadQueryError::Fault(_)) => {
+            let first = first_of_names(alloc, schema, params, selects)?;
+            Err(ReadQueryError::Fault(first))
+        }
+    }
+}

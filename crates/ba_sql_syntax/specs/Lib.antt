@@ -1,0 +1,6 @@
+pub mod Terminals
+pub mod Scan
+pub mod Reader
+pub mod Progress
+pub mod Grammar
+pub mod Written

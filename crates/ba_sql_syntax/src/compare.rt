@@ -1,0 +1,119 @@
+//! Conditions without AND and OR.
+ghost use Rattle.std.specs.Prelude.{◌≡◌};
+ghost use Rattle.ba_grammar.specs.Errors.{Sees};
+ghost use Rattle.ba_sql_syntax.specs.Grammar.{compared, comparison};
+ghost use Rattle.ba_sql_syntax.specs.Reader.{among_at, compared_at, comparison_at, comparison_of, constant_at, test_at};
+ghost use Rattle.ba_sql_syntax.specs.Terminals.{terminal, terminals};
+
+use crate::several::{Element, listed};
+use crate::side::side;
+use crate::word::{Key, begins_with, constant, past, past_sign};
+use crate::written::{Constant, Side, Test};
+use ba_grammar::ReadError;
+use ba_lex::{Lexeme, Sign};
+use ba_model::query::Op;
+use std::alloc::Global;
+
+/// What a sign compares by, and whether its sides are turned round.
+#[derive(Clone, Copy, Debug, PartialEq, Eq)]
+pub struct Comparison {
+    pub op: Op,
+    pub turned: bool,
+}
+
+impl Comparison {
+    fn of_sign(sign: Sign) -> Option<Comparison>
+        ensures { result ≡ comparison sign }
+    {
+        let (op, turned) = match sign {
+            Sign::Equal => (Op::Eq, false),
+            Sign::NotEqual | Sign::BangEqual => (Op::Ne, false),
+            Sign::Less => (Op::Lt, false),
+            Sign::LessEqual => (Op::Le, false),
+            Sign::Greater => (Op::Lt, true),
+            Sign::GreaterEqual => (Op::Le, true),
+            _ => return None,
+        };
+        Some(Comparison { op, turned })
+    }
+
+    fn test(self, left: Side, right: Side) -> Test
+        ensures { result ≡ compared self left right }
+    {
+        let op = self.op;
+        if self.turned {
+            return Test::Compare {
+                op,
+                left: right,
+                right: left,
+            };
+        }
+        Test::Compare { op, left, right }
+    }
+}
+
+impl Element for Constant {
+    ghost read_at = { constant_at };
+
+    fn read(alloc: Global, words: &[Lexeme]) -> Result<(Constant, &[Lexeme]), ReadError> {
+        constant(alloc, words)
+    }
+}
+
+#[tactic(auto, using(crate::proofs::TerminalLemmas::no_comparison))]
+fn comparison_of<'a>(
+    word: &Lexeme,
+    rest: &'a [Lexeme],
+) -> Result<(Comparison, &'a [Lexeme]), ReadError>
+    ensures { Sees (λ x. (x.0, terminals x.1.now)) result (comparison_of (terminal word.now) (terminals rest.now)) }
+{
+    match word {
+        Lexeme::Sign(sign) => match Comparison::of_sign(*sign) {
+            Some(comparison) => Ok((comparison, rest)),
+            None => Err(ReadError::Syntax),
+        },
+        _ => Err(ReadError::Syntax),
+    }
+}
+
+#[tactic(auto, unfolding(crate::specs::Reader::comparison_at))]
+fn compares_by(words: &[Lexeme]) -> Result<(Comparison, &[Lexeme]), ReadError>
+    ensures { Sees (λ x. (x.0, terminals x.1.now)) result (comparison_at (terminals words.now)) }
+{
+    match words {
+        [first, rest @ ..] => comparison_of(first, rest),
+        [] => Err(ReadError::Syntax),
+    }
+}
+
+#[tactic(auto, unfolding(crate::specs::Reader::compared_at))]
+fn compared(alloc: Global, left: Side, words: &[Lexeme]) -> Result<(Test, &[Lexeme]), ReadError>
+    ensures { Sees (λ x. (x.0, terminals x.1.now)) result (compared_at left (terminals words.now)) }
+{
+    let (comparison, rest) = compares_by(words)?;
+    let (right, rest) = side(alloc, rest)?;
+    Ok((comparison.test(left, right), rest))
+}
+
+#[tactic(auto, unfolding(crate::specs::Reader::among_at))]
+fn among(alloc: Global, side: Side, words: &[Lexeme]) -> Result<(Test, &[Lexeme]), ReadError>
+    ensures { Sees (λ x. (x.0, terminals x.1.now)) result (among_at side (terminals words.now)) }
+{
+    let rest = past(words, Key::In)?;
+    let rest = past_sign(rest, Sign::LeftParen)?;
+    let (among, rest) = listed::<Constant>(alloc, rest)?;
+    let rest = past_sign(rest, Sign::RightParen)?;
+    Ok((Test::Among { side, among }, rest))
+}
+
+/// A comparison of two sides, or IN with its constants.
+#[tactic(auto, unfolding(crate::specs::Reader::test_at))]
+pub fn test(alloc: Global, words: &[Lexeme]) -> Result<(Test, &[Lexeme]), ReadError>
+    ensures { Sees (λ x. (x.0, terminals x.1.now)) result (test_at (terminals words.now)) }
+{
+    let (side, rest) = side(alloc, words)?;
+    if begins_with(rest, Key::In) {
+        return among(alloc, side, rest);
+    }
+    compared(alloc, side, rest)
+}

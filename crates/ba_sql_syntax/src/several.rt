@@ -1,0 +1,61 @@
+//! Several of one sort, with commas between them.
+ghost use Rattle.std.specs.Prelude.{◌≡◌};
+ghost use Rattle.ba_grammar.specs.Errors.{Sees};
+ghost use Rattle.ba_sql_syntax.specs.Reader.{comma_step, listed};
+ghost use Rattle.ba_sql_syntax.specs.Terminals.{terminals};
+
+use crate::word::{begins_with_sign, past_sign};
+use ba_grammar::ReadError;
+use ba_lex::{Lexeme, Sign};
+use ba_model::list::List;
+use std::alloc::Global;
+
+/// What the grammar reads at the front of words.
+pub trait Element: Drop {
+    ghost use Rattle.ba_sql_syntax.specs.Reader.{Read};
+    ghost use Rattle.ba_sql_syntax.specs.Terminals.{Terminal};
+    ghost use Rattle.std.specs.Prelude.{List as Sequence};
+
+    ghost read_at: { Sequence Terminal → Read Self };
+
+    fn read(alloc: Global, words: &[Lexeme]) -> Result<(Self, &[Lexeme]), ReadError>
+        ensures { Sees (λ x. (x.0, terminals x.1.now)) result (read_at (terminals words.now)) };
+}
+
+/// One more, behind a comma.
+#[tactic(auto, unfolding(crate::specs::Reader::comma_step))]
+fn one_more<T: Element>(
+    alloc: Global,
+    mut found: List<T>,
+    words: &[Lexeme],
+) -> Result<(List<T>, &[Lexeme]), ReadError>
+    ensures { Sees (λ x. (x.0, terminals x.1.now)) result (comma_step T.read_at (found, terminals words.now)) }
+{
+    let rest = past_sign(words, Sign::Comma)?;
+    let (next, rest) = T::read(alloc, rest)?;
+    found.push(next)?;
+    Ok((found, rest))
+}
+
+/// One or more, with commas between them, and the words behind.
+#[tactic(auto, unfolding(crate::specs::Reader::listed))]
+pub fn listed<T: Element>(
+    alloc: Global,
+    words: &[Lexeme],
+) -> Result<(List<T>, &[Lexeme]), ReadError>
+    ensures { Sees (λ x. (x.0, terminals x.1.now)) result (listed T.read_at (terminals words.now)) }
+{
+    let (first, behind) = T::read(alloc, words)?;
+    let mut found = List::new(alloc);
+    found.push(first)?;
+    let mut rest = behind;
+    for _ in 0..words.len() {
+        if !begins_with_sign(rest, Sign::Comma) {
+            return Ok((found, rest));
+        }
+        let (more, behind) = one_more(alloc, found, rest)?;
+        found = more;
+        rest = behind;
+    }
+    Ok((found, rest))
+}

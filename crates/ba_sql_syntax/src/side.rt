@@ -1,0 +1,61 @@
+//! Names of columns, constants, and names behind them.
+ghost use Rattle.std.specs.Prelude.{◌≡◌};
+ghost use Rattle.ba_grammar.specs.Errors.{Sees};
+ghost use Rattle.ba_sql_syntax.specs.Reader.{alias_at, column_at, side_at};
+ghost use Rattle.ba_sql_syntax.specs.Terminals.{terminals};
+
+use crate::word::{
+    Key, begins_with, begins_with_name, begins_with_sign, constant, name, past, past_sign,
+};
+use crate::written::{Named, Side};
+use ba_grammar::ReadError;
+use ba_lex::{Lexeme, Sign};
+use ba_model::text::Str;
+use std::alloc::Global;
+
+/// A name, which AS may stand before, or nothing.
+#[tactic(auto, unfolding(crate::specs::Reader::alias_at))]
+pub fn alias(alloc: Global, words: &[Lexeme]) -> Result<(Option<Str>, &[Lexeme]), ReadError>
+    ensures { Sees (λ x. (x.0, terminals x.1.now)) result (alias_at (terminals words.now)) }
+{
+    if begins_with(words, Key::As) {
+        let rest = past(words, Key::As)?;
+        let (alias, rest) = name(alloc, rest)?;
+        return Ok((Some(alias), rest));
+    }
+    if begins_with_name(words) {
+        let (alias, rest) = name(alloc, words)?;
+        return Ok((Some(alias), rest));
+    }
+    Ok((None, words))
+}
+
+#[tactic(auto, unfolding(crate::specs::Reader::column_at))]
+fn column(alloc: Global, words: &[Lexeme]) -> Result<(Side, &[Lexeme]), ReadError>
+    ensures { Sees (λ x. (x.0, terminals x.1.now)) result (column_at (terminals words.now)) }
+{
+    let (first, rest) = name(alloc, words)?;
+    if begins_with_sign(rest, Sign::Dot) {
+        let rest = past_sign(rest, Sign::Dot)?;
+        let (column, rest) = name(alloc, rest)?;
+        let qualifier = Some(first);
+        return Ok((Side::Column(Named { qualifier, column }), rest));
+    }
+    let named = Named {
+        qualifier: None,
+        column: first,
+    };
+    Ok((Side::Column(named), rest))
+}
+
+/// A column, with or without the name of its source, or a constant.
+#[tactic(auto, unfolding(crate::specs::Reader::side_at))]
+pub fn side(alloc: Global, words: &[Lexeme]) -> Result<(Side, &[Lexeme]), ReadError>
+    ensures { Sees (λ x. (x.0, terminals x.1.now)) result (side_at (terminals words.now)) }
+{
+    if begins_with_name(words) {
+        return column(alloc, words);
+    }
+    let (constant, rest) = constant(alloc, words)?;
+    Ok((Side::Constant(constant), rest))
+}

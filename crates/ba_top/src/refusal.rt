@@ -1,0 +1,194 @@
+//! How the faults of files are told.
+ghost use Rattle.std.specs.Prelude.{◌≡◌, Err, IfOk, string_bytes};
+ghost use Rattle.ba_plan.specs.Follows.{Gives};
+ghost use Rattle.ba_top.specs.Path.{path_of};
+ghost use Rattle.ba_top.specs.Refusals.{broken_refusal, counted_as, ddl_refusal, file_of_table, kept_as, lex_fault, policy_refusal, schema_fault, script_refusal, table_refusal, text_fault};
+
+use crate::report::Refusal;
+use ba_lex::LexFault;
+use ba_model::check_schema::{Counted, SchemaFault};
+use ba_model::schema::Schema;
+use ba_model::text::Str;
+use ba_policy::{Kept, PolicyFault};
+use ba_sql_ddl::DdlFault;
+use ba_sql_query::ReadQueryFault;
+use ba_tables::broken::TablesFault;
+use ba_tables::fault::TableFault;
+use ba_wire::entry::ScriptFault;
+use ba_wire::fault::{Reason, What};
+use std::alloc::{AllocError, Global};
+
+/// The most bytes of a schema and of a policy.
+pub const MAX_TEXT: u64 = 1_048_576;
+
+fn text_fault(file: Str, fault: ReadQueryFault) -> Refusal
+    ensures { result ≡ text_fault file fault }
+{
+    Refusal::Input {
+        file,
+        reason: Reason::Text { fault },
+    }
+}
+
+fn lex_fault(file: Str, fault: LexFault) -> Refusal
+    ensures { result ≡ lex_fault file fault }
+{
+    match fault {
+        LexFault::TooLong => Refusal::Limit {
+            what: What::Bytes,
+            limit: MAX_TEXT,
+        },
+        _ => text_fault(file, ReadQueryFault::Lex(fault)),
+    }
+}
+
+fn counted_as(what: Counted) -> What
+    ensures { result ≡ counted_as what }
+{
+    match what {
+        Counted::Tables => What::Tables,
+        Counted::Columns => What::Columns,
+        Counted::Keys => What::Keys,
+        Counted::Links => What::Links,
+    }
+}
+
+fn schema_fault(file: Str, fault: SchemaFault) -> Refusal
+    ensures { result ≡ schema_fault file fault }
+{
+    let reason = match fault {
+        SchemaFault::DuplicateTable => Reason::DuplicateTable,
+        SchemaFault::DuplicateColumn => Reason::DuplicateColumn,
+        SchemaFault::WidthDiffers => Reason::WidthDiffers,
+        SchemaFault::EmptyKey => Reason::EmptyKey,
+        SchemaFault::UnknownTable => return text_fault(file, ReadQueryFault::UnknownTable),
+        SchemaFault::UnknownColumn => return text_fault(file, ReadQueryFault::UnknownColumn),
+        SchemaFault::KindDiffers => return text_fault(file, ReadQueryFault::KindDiffers),
+        SchemaFault::TooMany { what, limit } => {
+            let what = counted_as(what);
+            return Refusal::Limit { what, limit };
+        }
+    };
+    Refusal::Input { file, reason }
+}
+
+/// A schema's fault.
+#[tactic(auto, unfolding(crate::specs::Refusals::ddl_refusal))]
+pub(crate) fn ddl_refusal(file: Str, fault: DdlFault) -> Refusal
+    ensures { result ≡ ddl_refusal file fault }
+{
+    match fault {
+        DdlFault::Lex(fault) => lex_fault(file, fault),
+        DdlFault::Unsupported(word) => text_fault(file, ReadQueryFault::Unsupported(word)),
+        DdlFault::Syntax => text_fault(file, ReadQueryFault::Syntax),
+        DdlFault::Nullable(table, column) => Refusal::Input {
+            file,
+            reason: Reason::Nullable { table, column },
+        },
+        DdlFault::Schema(fault) => schema_fault(file, fault),
+    }
+}
+
+fn kept_as(what: Kept) -> What
+    ensures { result ≡ kept_as what }
+{
+    match what {
+        Kept::Views => What::Views,
+        Kept::Params => What::Params,
+    }
+}
+
+/// A policy's fault.
+#[tactic(auto, unfolding(crate::specs::Refusals::policy_refusal))]
+pub(crate) fn policy_refusal(file: Str, fault: PolicyFault) -> Refusal
+    ensures { result ≡ policy_refusal file fault }
+{
+    let reason = match fault {
+        PolicyFault::Lex(fault) => return lex_fault(file, fault),
+        PolicyFault::Syntax => return text_fault(file, ReadQueryFault::Syntax),
+        PolicyFault::DuplicateParam(name) => Reason::DuplicateParam { name },
+        PolicyFault::DuplicateView(name) => Reason::DuplicateView { name },
+        PolicyFault::View(name, fault) => Reason::View { name, fault },
+        PolicyFault::TooMany { what, limit } => {
+            let what = kept_as(what);
+            return Refusal::Limit { what, limit };
+        }
+    };
+    Refusal::Input { file, reason }
+}
+
+/// The fault of a table's file.
+#[tactic(auto, unfolding(crate::specs::Refusals::table_refusal))]
+pub(crate) fn table_refusal(file: Str, fault: TableFault) -> Refusal
+    ensures { result ≡ table_refusal file fault }
+{
+    let reason = match fault {
+        TableFault::BadHeader => Reason::Header,
+        TableFault::BadWidth(row) => Reason::Width { row },
+        TableFault::BadUtf8(row) => Reason::Utf8 { row },
+        TableFault::BadNumber(row, column) => Reason::Number { row, column },
+        TableFault::TooMany(limit) => {
+            let what = What::Rows;
+            return Refusal::Limit { what, limit };
+        }
+    };
+    Refusal::Input { file, reason }
+}
+
+/// The name of the file of a table in a set.
+pub(crate) fn path(alloc: Global, set: &str, table: &str) -> Result<String, AllocError>
+    ensures { IfOk result (λ name. string_bytes name ≡ path_of set.now table.now) }
+{
+    format!(in alloc; "{set}/{table}.csv")
+}
+
+fn file_of_table(alloc: Global, set: &str, schema: &Schema, number: u32) -> Result<Str, AllocError>
+    ensures { IfOk result (λ file. file ≡ file_of_table set.now schema.now number) }
+{
+    let name = match schema.tables.find(number as usize) {
+        Some(table) => table.name.as_str(),
+        None => "",
+    };
+    Ok(Str::from_string(path(alloc, set, name)?))
+}
+
+/// A broken key or link is told of its table's file.
+#[tactic(auto, unfolding(crate::specs::Refusals::broken_refusal))]
+pub(crate) fn broken_refusal(
+    alloc: Global,
+    set: &str,
+    schema: &Schema,
+    fault: TablesFault,
+) -> Result<Refusal, AllocError>
+    ensures { IfOk result (λ refusal. refusal ≡ broken_refusal set.now schema.now fault) }
+{
+    match fault {
+        TablesFault::KeyBroken {
+            table,
+            key,
+            first,
+            second,
+        } => Ok(Refusal::Input {
+            file: file_of_table(alloc, set, schema, table)?,
+            reason: Reason::Key { key, first, second },
+        }),
+        TablesFault::LinkBroken { table, link, row } => Ok(Refusal::Input {
+            file: file_of_table(alloc, set, schema, table)?,
+            reason: Reason::Link { link, row },
+        }),
+    }
+}
+
+/// A script's fault.
+#[tactic(auto, unfolding(crate::specs::Refusals::script_refusal))]
+pub(crate) fn script_refusal(file: Str, fault: ScriptFault) -> Refusal
+    ensures { result ≡ script_refusal file fault }
+{
+    match fault {
+        ScriptFault::BadLine { line, reason } => Refusal::Input {
+            file,
+            reason: Reason::Line { line, reason },
+        },
+        ScriptFault::TooMany { what, limit } => Refusal::Limit { what, limit },
+    }
+}
