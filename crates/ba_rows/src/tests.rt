@@ -68,7 +68,7 @@ fn held(alloc: Global, name: &str, text: &str) -> Result<Held, AllocError> {
     Ok(Held { name, bytes })
 }
 
-fn files(alloc: Global, given: Given<'_>) -> Result<Vec<Held>, AllocError> {
+fn standard_files(alloc: Global, given: Given<'_>) -> Result<Vec<Held>, AllocError> {
     let mut files = Vec::new(alloc);
     for (name, text) in [
         ("S", given.schema),
@@ -99,7 +99,7 @@ fn held_come_to(
 }
 
 fn comes_to(alloc: Global, given: Given<'_>, status: u8, text: &str) -> Result<bool, AllocError> {
-    let files = files(alloc, given)?;
+    let files = standard_files(alloc, given)?;
     held_come_to(alloc, files, Vec::new(alloc), status, text)
 }
 

@@ -1,5 +1,5 @@
 // Files without a reading, broken keys and links, and the order of faults.
-use super::{BEGIN, Given, STANDARD, SCHEMA, has_limit, has_reason};
+use super::{BEGIN, Given, SCHEMA, STANDARD, has_limit, has_reason};
 use std::alloc::{AllocError, Global};
 use std::test::Fail;
 
@@ -42,7 +42,10 @@ fn faults_of_schemas(rt: HostRuntime) -> Result<(), Fail> {
             "CREATE TABLE T (A INT NOT NULL REFERENCES U (A));",
             "unknown_table",
         ),
-        ("CREATE TABLE T (A INT NOT NULL, UNIQUE (B));", "unknown_column"),
+        (
+            "CREATE TABLE T (A INT NOT NULL, UNIQUE (B));",
+            "unknown_column",
+        ),
     ];
     for (schema, reason) in cases {
         let given = Given { schema, ..STANDARD };
@@ -86,7 +89,10 @@ fn faults_of_tables(rt: HostRuntime) -> Result<(), Fail> {
     ];
     for (users, reason) in cases {
         let given = Given { users, ..STANDARD };
-        assert!(rt; has_reason(rt.alloc(), given, "t0/Users.csv", reason)?, "{reason}");
+        assert!(rt;
+            has_reason(rt.alloc(), given, "t0/Users.csv", reason)?,
+            "{reason}"
+        );
     }
     Ok(())
 }

@@ -1,5 +1,5 @@
 // Words, reads and writes that fail, want of memory.
-use super::{BEGIN, Given, RUN, STANDARD, files, held, held_come_to, words};
+use super::{BEGIN, Given, RUN, STANDARD, held, held_come_to, standard_files, words};
 use crate::sure_run;
 use ba_outside::{FreeGate, Held, MemFiles, MemSink, Sink, WriteFail};
 use ba_top::{Detail, blockaid};
@@ -20,7 +20,16 @@ fn bad_words(rt: HostRuntime) -> Result<(), Fail> {
     let line = "{\"fault\":\"words\",\"status\":2,\"usage\":\"blockaid run|check|gen\"}\n";
     let none: [&str; 0] = [];
     let workers = [
-        "run", "--schema", "S", "--policy", "P", "--tables", "t0", "--script", "F", "--workers",
+        "run",
+        "--schema",
+        "S",
+        "--policy",
+        "P",
+        "--tables",
+        "t0",
+        "--script",
+        "F",
+        "--workers",
         "17",
     ];
     let lacking = ["run", "--schema", "S", "--policy", "P", "--tables", "t0"];
@@ -56,7 +65,7 @@ fn each_read_fails_in_turn(rt: HostRuntime) -> Result<(), Fail> {
         "F",
     ];
     for (k, name) in names.iter().enumerate() {
-        let files = files(alloc, ONE)?;
+        let files = standard_files(alloc, ONE)?;
         let line = format!(in alloc; "{{\"fault\":\"read\",\"file\":\"{name}\",\"status\":4}}\n")?;
         let failing = vec![in alloc; k as u64]?;
         assert!(rt;
@@ -74,7 +83,7 @@ fn written(
     takes: Vec<usize>,
 ) -> Result<(u8, MemSink), AllocError> {
     let words = words(alloc, RUN.as_slice())?;
-    let mut files = MemFiles::new(alloc, files(alloc, ONE)?, Vec::new(alloc));
+    let mut files = MemFiles::new(alloc, standard_files(alloc, ONE)?, Vec::new(alloc));
     let mut sink = MemSink::new(alloc, failing, takes);
     let outcome = blockaid(alloc, &words, &mut files, &mut sink, &FreeGate);
     Ok((outcome.status, sink))
@@ -129,7 +138,7 @@ impl Sink for NoRoom {
 fn want_of_memory(rt: HostRuntime) -> Result<(), Fail> {
     let alloc = rt.alloc();
     let words = words(alloc, RUN.as_slice())?;
-    let mut files = MemFiles::new(alloc, files(alloc, ONE)?, Vec::new(alloc));
+    let mut files = MemFiles::new(alloc, standard_files(alloc, ONE)?, Vec::new(alloc));
     let outcome = blockaid(alloc, &words, &mut files, &mut NoRoom, &FreeGate);
     assert_eq!(rt; outcome.status, 6);
     Ok(())
@@ -158,7 +167,7 @@ fn is_done(detail: &Detail) -> bool {
 fn sure_forms(rt: HostRuntime) -> Result<(), Fail> {
     let alloc = rt.alloc();
     let words = words(alloc, RUN.as_slice())?;
-    let outcome = sure_run(alloc, &words, files(alloc, ONE)?);
+    let outcome = sure_run(alloc, &words, standard_files(alloc, ONE)?);
     assert!(rt; is_done(&outcome.detail));
     Ok(())
 }
