@@ -194,6 +194,17 @@ fn faults_of_texts(rt: HostRuntime) -> Result<(), Fail> {
             "CREATE TABLE T (a INT UNIQUE REFERENCES U (x));",
             "nullable T a",
         ),
+    ];
+    for (text, wanted) in cases {
+        let found = told(rt.alloc(), text)?;
+        assert_eq!(rt; found.as_str(), wanted, "{text}");
+    }
+    Ok(())
+}
+
+#[test]
+fn faults_of_tables(rt: HostRuntime) -> Result<(), Fail> {
+    let cases = [
         (
             "CREATE TABLE A (a INT NOT NULL, a INT NOT NULL); CREATE TABLE A (b INT NOT NULL);",
             "DuplicateTable",

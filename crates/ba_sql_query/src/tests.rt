@@ -517,6 +517,11 @@ fn kinds_that_differ(rt: HostRuntime) {
             "kind_differs"
         )
     );
+}
+
+#[test]
+fn orders_on_texts(rt: HostRuntime) {
+    let alloc = rt.alloc();
     assert!(rt;
         refuses(
             alloc,
@@ -531,6 +536,11 @@ fn kinds_that_differ(rt: HostRuntime) {
             "order_on_text"
         )
     );
+}
+
+#[test]
+fn heads_that_differ(rt: HostRuntime) {
+    let alloc = rt.alloc();
     assert!(rt;
         refuses(
             alloc,

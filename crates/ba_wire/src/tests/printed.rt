@@ -326,6 +326,18 @@ fn reasons_with_numbers(rt: HostRuntime) -> Result<(), Fail> {
             "key 0 rows 1 3",
         ),
         (Reason::Link { link: 1, row: 10 }, "link 1 row 10"),
+    ];
+    for (reason, words) in table {
+        let want = input_words(alloc, words)?;
+        assert_eq!(rt; input_line(alloc, reason)?.as_str(), want.as_str());
+    }
+    Ok(())
+}
+
+#[test]
+fn reasons_of_lines(rt: HostRuntime) -> Result<(), Fail> {
+    let alloc = rt.alloc();
+    let table = [
         (
             Reason::Line {
                 line: 1,

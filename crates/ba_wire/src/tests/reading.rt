@@ -211,7 +211,10 @@ fn bad_lines_after_a_begin(rt: HostRuntime) -> Result<(), Fail> {
         ("{\"ask\":\"r2\",\"query\":1}", "line 2 shape"),
         // json before all
         ("{\"begin\":\"r1\",\"context\":{}} x", "line 2 json"),
-        ("{\"ask\":\"R1\",\"query\":\"q\"}", "line 2 unbegun"),
+        (
+            "{\"begin\":\"ann\",\"context\":{\"MyUId\":1,\"Name\":\"b\"}}\n{\"ask\":\"Ann\",\"query\":\"q\"}",
+            "line 3 unbegun",
+        ),
         ("{\"end\":\"r10\"}", "line 2 unbegun"),
         ("{\"end\":\"r1\"}\n{\"end\":\"r1\"}", "line 3 unbegun"),
         (
