@@ -1,5 +1,5 @@
 // Files without a reading, broken keys and links, and the order of faults.
-use super::{BEGIN, Given, SCHEMA, STANDARD, has_limit, has_reason};
+use super::{BEGIN, Given, SCHEMA, STANDARD, comes_to, has_limit, has_reason};
 use std::alloc::{AllocError, Global};
 use std::test::Fail;
 
@@ -186,5 +186,54 @@ fn limits_of_bytes_and_rows(rt: HostRuntime) -> Result<(), Fail> {
         ..STANDARD
     };
     assert!(rt; has_limit(alloc, given, "rows", 100_000)?);
+    Ok(())
+}
+
+// A schema of one table with so many columns, keys and links.
+fn wide_table(alloc: Global, columns: u32, keys: u32, links: u32) -> Result<String, AllocError> {
+    let mut text = String::from_str(alloc, "CREATE TABLE T (A INT NOT NULL")?;
+    for n in 1..columns {
+        let column = format!(in alloc; ", C{n} INT NOT NULL")?;
+        text.push_str(column.as_str())?;
+    }
+    for _ in 0..keys {
+        text.push_str(", UNIQUE (A)")?;
+    }
+    for _ in 0..links {
+        text.push_str(", FOREIGN KEY (A) REFERENCES T (A)")?;
+    }
+    text.push_str(");")?;
+    Ok(text)
+}
+
+#[test]
+fn limits_of_a_table(rt: HostRuntime) -> Result<(), Fail> {
+    let alloc = rt.alloc();
+    for (columns, keys, links, what, limit) in [
+        (33, 17, 17, "columns", 32),
+        (32, 17, 17, "keys", 16),
+        (32, 16, 17, "links", 16),
+    ] {
+        let schema = wide_table(alloc, columns, keys, links)?;
+        let given = Given {
+            schema: schema.as_str(),
+            ..STANDARD
+        };
+        assert!(rt; has_limit(alloc, given, what, limit)?, "{what}");
+    }
+    Ok(())
+}
+
+// Two views that have a key in common cover no question together.
+#[test]
+fn two_views_joined_by_a_key(rt: HostRuntime) -> Result<(), Fail> {
+    let given = Given {
+        policy: "CREATE VIEW A AS SELECT EId, Title FROM Events; CREATE VIEW B AS SELECT EId, Duration FROM Events;",
+        script: "{\"begin\":\"r1\",\"context\":{}}\n{\"ask\":\"r1\",\"query\":\"SELECT Title, Duration FROM Events\"}",
+        ..STANDARD
+    };
+    let lines =
+        "{\"begin\":\"r1\",\"line\":1,\"version\":0}\n{\"blocked\":\"uncovered\",\"line\":2,\"request\":\"r1\",\"version\":0}\n{\"answered\":0,\"blocked\":1,\"lines\":2,\"memory\":0,\"requests\":1,\"rows\":0,\"unread\":0}\n";
+    assert!(rt; comes_to(rt.alloc(), given, 0, lines)?);
     Ok(())
 }

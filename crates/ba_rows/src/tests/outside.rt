@@ -1,5 +1,5 @@
 // Words, reads and writes that fail, want of memory.
-use super::{BEGIN, Given, RUN, STANDARD, held, held_come_to, standard_files, words};
+use super::{Given, RUN, STANDARD, held, held_come_to, standard_files, words};
 use crate::sure_run;
 use ba_outside::{FreeGate, Held, MemFiles, MemSink, Sink, WriteFail};
 use ba_top::{Detail, blockaid};
@@ -7,10 +7,10 @@ use std::alloc::{AllocError, Global};
 use std::test::Fail;
 
 const LINES: &str =
-    "{\"begin\":\"r1\",\"line\":1,\"version\":0}\n{\"answered\":0,\"blocked\":0,\"lines\":1,\"memory\":0,\"requests\":1,\"rows\":0,\"unread\":0}\n";
+    "{\"begin\":\"r1\",\"line\":1,\"version\":0}\n{\"by\":\"cover\",\"line\":2,\"request\":\"r1\",\"rows\":[[\"ann\"],[\"bob\"]],\"version\":0}\n{\"answered\":1,\"blocked\":0,\"lines\":2,\"memory\":0,\"requests\":1,\"rows\":2,\"unread\":0}\n";
 
 const ONE: Given<'static> = Given {
-    script: BEGIN,
+    script: "{\"begin\":\"r1\",\"context\":{\"MyUId\":2}}\n{\"ask\":\"r1\",\"query\":\"SELECT Name FROM Users\"}\n",
     ..STANDARD
 };
 

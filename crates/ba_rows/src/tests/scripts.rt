@@ -93,3 +93,19 @@ fn too_many_lines(rt: HostRuntime) -> Result<(), Fail> {
     assert!(rt; has_limit(alloc, given, "lines", 65_536)?);
     Ok(())
 }
+
+#[test]
+fn too_many_requests(rt: HostRuntime) -> Result<(), Fail> {
+    let alloc = rt.alloc();
+    let mut script = String::new(alloc);
+    for n in 0..8193u32 {
+        let line = format!(in alloc; "{{\"begin\":\"r{n}\",\"context\":{{\"MyUId\":{n}}}}}\n")?;
+        script.push_str(line.as_str())?;
+    }
+    let given = Given {
+        script: script.as_str(),
+        ..STANDARD
+    };
+    assert!(rt; has_limit(alloc, given, "requests", 8192)?);
+    Ok(())
+}
