@@ -62,8 +62,14 @@ def joined_tests(size):
     return text + " AND UId = 1" * ((size - len(text)) // len(" AND UId = 1"))
 
 
+def many_sources(size):
+    """A question of about so many bytes, with as many sources as columns that none of them has: each is looked for in each."""
+    pairs = (size - len("SELECT x FROM Users")) // len(", x, Users")
+    return "SELECT x" + ", x" * pairs + " FROM Users" + ", Users" * pairs
+
+
 # Texts of questions, by what makes them long.
-TEXTS = {"IN list": long_list, "brackets": deep_brackets, "AND": joined_tests}
+TEXTS = {"IN list": long_list, "brackets": deep_brackets, "AND": joined_tests, "sources": many_sources}
 
 
 KINDS = {
