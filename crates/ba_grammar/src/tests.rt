@@ -65,6 +65,7 @@ fn names(rt: HostRuntime) -> Result<(), Fail> {
 fn words_at_the_front(rt: HostRuntime) -> Result<(), Fail> {
     let words = words_of(rt.alloc(), "select , -7 x")?;
     let words = words.as_slice();
+    assert!(rt; words.len() == 4);
     assert!(rt; begins_with_keyword(words, "SELECT") && !begins_with_keyword(words, "SEL"));
     assert!(rt; begins_with_keyword(&words[3..], "x") && !begins_with_keyword(&words[1..], ","));
     assert!(rt;

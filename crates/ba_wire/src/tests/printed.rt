@@ -94,21 +94,11 @@ fn plain_first_run(rt: HostRuntime) -> Result<(), Fail> {
         request,
         version: 0,
     };
-    let unread = Line::Unread {
-        line: 2,
-        request,
-        unread: &ReadQueryFault::Syntax,
-        version: 4294967295,
-    };
     let table = [
         (begun, "{\"begin\":\"r1\",\"line\":1,\"version\":0}\n"),
         (
             blocked,
             "{\"blocked\":\"uncovered\",\"line\":3,\"request\":\"r1\",\"version\":0}\n",
-        ),
-        (
-            unread,
-            "{\"line\":2,\"request\":\"r1\",\"unread\":\"syntax\",\"version\":4294967295}\n",
         ),
         (
             Line::End {
