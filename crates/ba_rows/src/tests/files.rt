@@ -167,7 +167,7 @@ fn limits_of_schema_and_policy(rt: HostRuntime) -> Result<(), Fail> {
 fn limits_of_bytes_and_rows(rt: HostRuntime) -> Result<(), Fail> {
     let alloc = rt.alloc();
     let mut schema = String::from_str(alloc, SCHEMA)?;
-    while schema.len() <= 1_048_576 {
+    for _ in 0..1_048_576u32 {
         schema.push_str(" ")?;
     }
     let given = Given {
