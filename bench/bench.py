@@ -63,7 +63,7 @@ def joined_tests(size):
 
 
 def many_sources(size):
-    """A question of about so many bytes, with as many sources as columns that none of them has: each is looked for in each."""
+    """A question of about so many bytes, with as many sources as columns that none of them has."""
     pairs = (size - len("SELECT x FROM Users")) // len(", x, Users")
     return "SELECT x" + ", x" * pairs + " FROM Users" + ", Users" * pairs
 

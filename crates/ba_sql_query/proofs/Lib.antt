@@ -8,6 +8,8 @@ pub mod ReadLemmas
 pub mod ResolvedLemmas
 pub mod PartsLemmas
 pub mod PlaceLemmas
+pub mod SpotLemmas
+pub mod TellLemmas
 pub mod NameLemmas
 pub mod TreeLemmas
 pub mod ReadingLemmas

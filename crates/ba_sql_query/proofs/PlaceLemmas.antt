@@ -25,16 +25,16 @@ numbered_so absent o n e bits =
     let le : nat_le n 0xffff_ffff ≡ true = le-leb n 0xffff_ffff (omega (arith, bits)) in
     rw e (rw le refl)
 
-counted_yes : {X : Type 0} (p : X → Bool) (x : X) (xs : List X) → p x ≡ true → count_by p (x ∷ xs) ≡ 1 + count_by p xs
+pub counted_yes : {X : Type 0} (p : X → Bool) (x : X) (xs : List X) → p x ≡ true → count_by p (x ∷ xs) ≡ 1 + count_by p xs
 counted_yes p x xs e = sum_by-cons (λ y. cond (p y) 1 0) x xs ∙ ap (λ (b : Bool). cond b 1 0 + count_by p xs) e
 
-counted_no : {X : Type 0} (p : X → Bool) (x : X) (xs : List X) → p x ≡ false → count_by p (x ∷ xs) ≡ count_by p xs
+pub counted_no : {X : Type 0} (p : X → Bool) (x : X) (xs : List X) → p x ≡ false → count_by p (x ∷ xs) ≡ count_by p xs
 counted_no p x xs e =
     let f = sum_by-cons (λ y. cond (p y) 1 0) x xs ∙ ap (λ (b : Bool). cond b 1 0 + count_by p xs) e in
     let g : 0 + count_by p xs ≡ count_by p xs = omega arith in
     f ∙ g
 
-below : (n m : ℕ) → n < m → nat_lt n m ≡ true
+pub below : (n m : ℕ) → n < m → nat_lt n m ≡ true
 below n m h = grind (arith, nat_tests)
 
 module _ {X : Type 0} (p : X → Bool) (P : X → Type 0) (decides : (x : X) → Decides (p x) (P x)) where

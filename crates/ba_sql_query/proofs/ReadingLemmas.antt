@@ -25,7 +25,7 @@ use Rattle.ba_sql_syntax.specs.declared.written.QueryText.{QueryText}
 use Rattle.ba_sql_syntax.specs.declared.written.Select.{Select}
 use Rattle.ba_sql_syntax.proofs.TextLemmas.{written_complete, written_sound, written_trees}
 use Rattle.std.specs.Prelude.{IfOk}
-use Rattle.ba_sql_query.specs.Errors.{Gives, ◌>>=◌}
+use Rattle.ba_sql_query.specs.Errors.{Gives}
 use Rattle.ba_sql_query.specs.Meaning.{fault_of, heads_agree, kind_in, kinds_agree, orders_numbers, query_of_parts, query_of_selects, query_of_written, same_heads, same_kind, unless}
 use Rattle.ba_sql_query.specs.Parts.{members, part_of, parts_of, select_parts, written_part}
 use Rattle.ba_sql_query.specs.Reads.{HasParts, HaveOneHead, IsQueryOf, IsSelectOf, ReadsQuery, ReadsWords}

@@ -1,5 +1,6 @@
 pub mod Errors
 pub mod Names
+pub mod Spots
 pub mod Resolve
 pub mod Parts
 pub mod Meaning

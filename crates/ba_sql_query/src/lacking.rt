@@ -5,11 +5,12 @@ ghost use Rattle.ba_sql_query.specs.Errors.{lacks};
 ghost use Rattle.ba_sql_query.specs.Resolve.{constant_lacks, first_of_names, heads_lack, item_lacks, names_lack, node_lacks, select_lacks, side_lacks, test_lacks, text_lacks};
 
 use crate::fault::{ReadQueryError, ReadQueryFault};
-use crate::names::{column_of, param_of, source_of};
+use crate::names::{column_of, param_of};
 use crate::resolve::tables_of;
+use crate::scope::Scope;
 use ba_model::policy::Parameter;
 use ba_model::schema::Schema;
-use ba_sql_syntax::written::{Constant, Heads, Item, Node, Select, Side, Source, Test};
+use ba_sql_syntax::written::{Constant, Heads, Item, Node, Select, Side, Test};
 use std::alloc::{AllocError, Global};
 
 // Whether it isn't refused by a fault of this rank.
@@ -41,141 +42,91 @@ fn constants_lack(rank: u8, params: &[Parameter], constants: &[Constant]) -> boo
 }
 
 #[tactic(auto, unfolding(crate::specs::Resolve::side_lacks))]
-fn side_lacks(
-    rank: u8,
-    schema: &Schema,
-    params: &[Parameter],
-    sources: &[Source],
-    from: &[u32],
-    side: &Side,
-) -> bool
-    ensures { result ≡ side_lacks rank schema.now params.now sources.now from.now side.now }
+fn side_lacks(rank: u8, scope: &Scope, params: &[Parameter], side: &Side) -> bool
+    ensures { result ≡ side_lacks rank scope.now.schema.now params.now scope.now.sources scope.now.from side.now }
 {
     match side {
-        Side::Column(name) => lacks(rank, column_of(schema, sources, from, name)),
+        Side::Column(name) => lacks(rank, column_of(scope, name)),
         Side::Constant(constant) => constant_lacks(rank, params, constant),
     }
 }
 
 #[tactic(auto, unfolding(crate::specs::Resolve::test_lacks))]
-fn test_lacks(
-    rank: u8,
-    schema: &Schema,
-    params: &[Parameter],
-    sources: &[Source],
-    from: &[u32],
-    test: &Test,
-) -> bool
-    ensures { result ≡ test_lacks rank schema.now params.now sources.now from.now test.now }
+fn test_lacks(rank: u8, scope: &Scope, params: &[Parameter], test: &Test) -> bool
+    ensures { result ≡ test_lacks rank scope.now.schema.now params.now scope.now.sources scope.now.from test.now }
 {
     match test {
         Test::Compare { left, right, .. } => {
-            side_lacks(rank, schema, params, sources, from, left)
-                && side_lacks(rank, schema, params, sources, from, right)
+            side_lacks(rank, scope, params, left) && side_lacks(rank, scope, params, right)
         }
         Test::Among { side, among } => {
-            side_lacks(rank, schema, params, sources, from, side)
-                && constants_lack(rank, params, among.as_slice())
+            side_lacks(rank, scope, params, side) && constants_lack(rank, params, among.as_slice())
         }
     }
 }
 
 #[tactic(auto, unfolding(crate::specs::Resolve::node_lacks))]
-fn node_lacks(
-    rank: u8,
-    schema: &Schema,
-    params: &[Parameter],
-    sources: &[Source],
-    from: &[u32],
-    node: &Node,
-) -> bool
-    ensures { result ≡ node_lacks rank schema.now params.now sources.now from.now node.now }
+fn node_lacks(rank: u8, scope: &Scope, params: &[Parameter], node: &Node) -> bool
+    ensures { result ≡ node_lacks rank scope.now.schema.now params.now scope.now.sources scope.now.from node.now }
 {
     match node {
-        Node::Test(test) => test_lacks(rank, schema, params, sources, from, test),
+        Node::Test(test) => test_lacks(rank, scope, params, test),
         Node::And | Node::Or => true,
     }
 }
 
-fn nodes_lack(
-    rank: u8,
-    schema: &Schema,
-    params: &[Parameter],
-    sources: &[Source],
-    from: &[u32],
-    nodes: &[Node],
-) -> bool
-    ensures { result ≡ list_all (node_lacks rank schema.now params.now sources.now from.now) nodes.now }
+fn nodes_lack(rank: u8, scope: &Scope, params: &[Parameter], nodes: &[Node]) -> bool
+    ensures { result ≡ list_all (node_lacks rank scope.now.schema.now params.now scope.now.sources scope.now.from) nodes.now }
 {
-    nodes.iter().all(|node| node_lacks(rank, schema, params, sources, from, node))
+    nodes
+        .iter()
+        .all(|node| node_lacks(rank, scope, params, node))
 }
 
 #[tactic(auto, unfolding(crate::specs::Resolve::item_lacks))]
-fn item_lacks(
-    rank: u8,
-    schema: &Schema,
-    params: &[Parameter],
-    sources: &[Source],
-    from: &[u32],
-    item: &Item,
-) -> bool
-    ensures { result ≡ item_lacks rank schema.now params.now sources.now from.now item.now }
+fn item_lacks(rank: u8, scope: &Scope, params: &[Parameter], item: &Item) -> bool
+    ensures { result ≡ item_lacks rank scope.now.schema.now params.now scope.now.sources scope.now.from item.now }
 {
     match item {
-        Item::AllOf(name) => lacks(rank, source_of(sources, name)),
-        Item::One(side) => side_lacks(rank, schema, params, sources, from, side),
+        Item::AllOf(name) => lacks(rank, scope.sources.source_of(name)),
+        Item::One(side) => side_lacks(rank, scope, params, side),
     }
 }
 
-fn items_lack(
-    rank: u8,
-    schema: &Schema,
-    params: &[Parameter],
-    sources: &[Source],
-    from: &[u32],
-    items: &[Item],
-) -> bool
-    ensures { result ≡ list_all (item_lacks rank schema.now params.now sources.now from.now) items.now }
+fn items_lack(rank: u8, scope: &Scope, params: &[Parameter], items: &[Item]) -> bool
+    ensures { result ≡ list_all (item_lacks rank scope.now.schema.now params.now scope.now.sources scope.now.from) items.now }
 {
-    items.iter().all(|item| item_lacks(rank, schema, params, sources, from, item))
+    items
+        .iter()
+        .all(|item| item_lacks(rank, scope, params, item))
 }
 
 #[tactic(auto, unfolding(crate::specs::Resolve::heads_lack))]
-fn heads_lack(
-    rank: u8,
-    schema: &Schema,
-    params: &[Parameter],
-    sources: &[Source],
-    from: &[u32],
-    heads: &Heads,
-) -> bool
-    ensures { result ≡ heads_lack rank schema.now params.now sources.now from.now heads.now }
+fn heads_lack(rank: u8, scope: &Scope, params: &[Parameter], heads: &Heads) -> bool
+    ensures { result ≡ heads_lack rank scope.now.schema.now params.now scope.now.sources scope.now.from heads.now }
 {
     match heads {
         Heads::All => true,
-        Heads::Items(items) => items_lack(rank, schema, params, sources, from, items.as_slice()),
+        Heads::Items(items) => items_lack(rank, scope, params, items.as_slice()),
     }
 }
 
+// Beside its sources, once their tables are known.
 fn names_lack(
+    alloc: Global,
     rank: u8,
     schema: &Schema,
     params: &[Parameter],
     select: &Select,
     from: &[u32],
-) -> bool
-    ensures { result ≡ names_lack rank schema.now params.now select.now from.now }
+) -> Result<bool, AllocError>
+    ensures { IfOk result (λ lacking. lacking ≡ names_lack rank schema.now params.now select.now from.now) }
 {
-    let sources = select.sources.as_slice();
-    heads_lack(rank, schema, params, sources, from, &select.heads)
-        && nodes_lack(
-            rank,
-            schema,
-            params,
-            sources,
-            from,
-            select.condition.as_slice(),
-        )
+    let scope = Scope::new(alloc, schema, select.sources.as_slice(), from)?;
+    Ok(
+        heads_lack(rank, &scope, params, &select.heads)
+            && nodes_lack(rank, &scope, params, select.condition.as_slice()),
+    )
 }
 
 #[tactic(auto, unfolding(crate::specs::Resolve::select_lacks))]
@@ -190,7 +141,7 @@ fn select_lacks(
 {
     let from = tables_of(alloc, schema, select.sources.as_slice());
     match from {
-        Ok(from) => Ok(names_lack(rank, schema, params, select, from.as_slice())),
+        Ok(from) => names_lack(alloc, rank, schema, params, select, from.as_slice()),
         Err(ReadQueryError::Fault(fault)) => Ok(fault.rank() != rank),
         Err(ReadQueryError::NoMemory) => Err(AllocError),
     }

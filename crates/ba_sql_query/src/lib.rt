@@ -1,6 +1,7 @@
 //! Reads a text as a query.
 #![tactic(auto)]
 
+mod columns;
 mod count;
 mod expand;
 pub mod fault;
@@ -12,6 +13,10 @@ mod query;
 pub mod read;
 mod resolve;
 mod resolved;
+mod scope;
+mod sources;
+mod spot;
+mod tables;
 
 pub use fault::{ReadQueryError, ReadQueryFault};
 pub use read::{read_query, read_words};

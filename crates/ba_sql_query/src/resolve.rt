@@ -5,10 +5,12 @@ ghost use Rattle.ba_sql_query.specs.Errors.{Gives, Sees, each, each_flat};
 ghost use Rattle.ba_sql_query.specs.Names.{constant_of, table_of};
 ghost use Rattle.ba_sql_query.specs.Resolve.{all_columns, columns_or, heads_of, item_of, names_of, node_of, select_of, selects_of, source_columns, tables_of, test_of};
 
+use crate::columns::columns_of;
 use crate::fault::{ReadQueryError, ReadQueryFault};
 use crate::lacking::first_of_names;
-use crate::names::{columns_of, constant_of, operand_of, source_of, table_of};
+use crate::names::{constant_of, operand_of, table_of};
 use crate::resolved::{ResolvedNode, ResolvedSelect, ResolvedTest};
+use crate::scope::Scope;
 use ba_model::list::List;
 use ba_model::policy::Parameter;
 use ba_model::query::{Atom, Operand};
@@ -76,21 +78,19 @@ fn one(alloc: Global, operand: Operand) -> Result<Vec<Operand>, AllocError>
 #[tactic(auto, unfolding(crate::specs::Resolve::item_of))]
 fn item_of(
     alloc: Global,
-    schema: &Schema,
+    scope: &Scope,
     params: &[Parameter],
-    sources: &[Source],
-    from: &[u32],
     item: &Item,
 ) -> Result<Vec<Operand>, ReadQueryError>
-    ensures { Sees (λ v. v.items) result (item_of schema.now params.now sources.now from.now item.now) }
+    ensures { Sees (λ v. v.items) result (item_of scope.now.schema.now params.now scope.now.sources scope.now.from item.now) }
 {
     match item {
         Item::AllOf(name) => {
-            let place = source_of(sources, name)?;
-            Ok(source_columns(alloc, schema, from, place)?)
+            let place = scope.sources.source_of(name)?;
+            Ok(source_columns(alloc, scope.schema, scope.from.as_slice(), place)?)
         }
         Item::One(side) => {
-            let operand = operand_of(alloc, schema, params, sources, from, side)?;
+            let operand = operand_of(alloc, scope, params, side)?;
             Ok(one(alloc, operand)?)
         }
     }
@@ -98,17 +98,15 @@ fn item_of(
 
 fn items_of(
     alloc: Global,
-    schema: &Schema,
+    scope: &Scope,
     params: &[Parameter],
-    sources: &[Source],
-    from: &[u32],
     items: &[Item],
 ) -> Result<List<Operand>, ReadQueryError>
-    ensures { Gives result (each_flat (item_of schema.now params.now sources.now from.now) items.now) }
+    ensures { Gives result (each_flat (item_of scope.now.schema.now params.now scope.now.sources scope.now.from) items.now) }
 {
     let mut found = Vec::new(alloc);
     for item in items {
-        let mut operands = item_of(alloc, schema, params, sources, from, item)?;
+        let mut operands = item_of(alloc, scope, params, item)?;
         found.append(&mut operands)?;
     }
     Ok(List::from_vec(found))
@@ -117,17 +115,15 @@ fn items_of(
 #[tactic(auto, unfolding(crate::specs::Resolve::heads_of))]
 fn heads_of(
     alloc: Global,
-    schema: &Schema,
+    scope: &Scope,
     params: &[Parameter],
-    sources: &[Source],
-    from: &[u32],
     heads: &Heads,
 ) -> Result<List<Operand>, ReadQueryError>
-    ensures { Gives result (heads_of schema.now params.now sources.now from.now heads.now) }
+    ensures { Gives result (heads_of scope.now.schema.now params.now scope.now.sources scope.now.from heads.now) }
 {
     match heads {
-        Heads::All => Ok(all_columns(alloc, schema, from)?),
-        Heads::Items(items) => items_of(alloc, schema, params, sources, from, items.as_slice()),
+        Heads::All => Ok(all_columns(alloc, scope.schema, scope.from.as_slice())?),
+        Heads::Items(items) => items_of(alloc, scope, params, items.as_slice()),
     }
 }
 
@@ -149,23 +145,21 @@ fn constants_of(
 #[tactic(auto, unfolding(crate::specs::Resolve::test_of))]
 fn test_of(
     alloc: Global,
-    schema: &Schema,
+    scope: &Scope,
     params: &[Parameter],
-    sources: &[Source],
-    from: &[u32],
     test: &Test,
 ) -> Result<ResolvedTest, ReadQueryError>
-    ensures { Gives result (test_of schema.now params.now sources.now from.now test.now) }
+    ensures { Gives result (test_of scope.now.schema.now params.now scope.now.sources scope.now.from test.now) }
 {
     match test {
         Test::Compare { op, left, right } => {
-            let left = operand_of(alloc, schema, params, sources, from, left)?;
-            let right = operand_of(alloc, schema, params, sources, from, right)?;
+            let left = operand_of(alloc, scope, params, left)?;
+            let right = operand_of(alloc, scope, params, right)?;
             let op = *op;
             Ok(ResolvedTest::One(Atom { op, left, right }))
         }
         Test::Among { side, among } => {
-            let side = operand_of(alloc, schema, params, sources, from, side)?;
+            let side = operand_of(alloc, scope, params, side)?;
             let among = constants_of(alloc, params, among.as_slice())?;
             Ok(ResolvedTest::Among { side, among })
         }
@@ -175,17 +169,15 @@ fn test_of(
 #[tactic(auto, unfolding(crate::specs::Resolve::node_of))]
 fn node_of(
     alloc: Global,
-    schema: &Schema,
+    scope: &Scope,
     params: &[Parameter],
-    sources: &[Source],
-    from: &[u32],
     node: &Node,
 ) -> Result<ResolvedNode, ReadQueryError>
-    ensures { Gives result (node_of schema.now params.now sources.now from.now node.now) }
+    ensures { Gives result (node_of scope.now.schema.now params.now scope.now.sources scope.now.from node.now) }
 {
     match node {
         Node::Test(test) => {
-            let test = test_of(alloc, schema, params, sources, from, test)?;
+            let test = test_of(alloc, scope, params, test)?;
             Ok(ResolvedNode::Test(test))
         }
         Node::And => Ok(ResolvedNode::And),
@@ -195,17 +187,15 @@ fn node_of(
 
 fn nodes_of(
     alloc: Global,
-    schema: &Schema,
+    scope: &Scope,
     params: &[Parameter],
-    sources: &[Source],
-    from: &[u32],
     nodes: &[Node],
 ) -> Result<List<ResolvedNode>, ReadQueryError>
-    ensures { Gives result (each (node_of schema.now params.now sources.now from.now) nodes.now) }
+    ensures { Gives result (each (node_of scope.now.schema.now params.now scope.now.sources scope.now.from) nodes.now) }
 {
     let mut found = List::new(alloc);
     for node in nodes {
-        let next = node_of(alloc, schema, params, sources, from, node)?;
+        let next = node_of(alloc, scope, params, node)?;
         found.push(next)?;
     }
     Ok(found)
@@ -252,10 +242,10 @@ fn select_of(
 {
     let sources = select.sources.as_slice();
     let from = tables_of(alloc, schema, sources)?;
-    let numbers = from.as_slice();
-    let head = heads_of(alloc, schema, params, sources, numbers, &select.heads)?;
-    let nodes = select.condition.as_slice();
-    let condition = nodes_of(alloc, schema, params, sources, numbers, nodes)?;
+    let scope = Scope::new(alloc, schema, sources, from.as_slice())?;
+    let head = heads_of(alloc, &scope, params, &select.heads)?;
+    let condition = nodes_of(alloc, &scope, params, select.condition.as_slice())?;
+    drop(scope);
     Ok(ResolvedSelect {
         from,
         head,

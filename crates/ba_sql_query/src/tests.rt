@@ -697,6 +697,97 @@ fn sources(alloc: Global, count: usize) -> Result<String, AllocError> {
     format!(in alloc; "SELECT 1 FROM {items}")
 }
 
+// So many sources of one table, and others behind them.
+fn crowd(alloc: Global, front: &str, behind: &str) -> Result<String, AllocError> {
+    let items = repeated(alloc, "Users", ",", 2_000)?;
+    let items = items.as_str();
+    format!(in alloc; "SELECT {front} FROM {items}, {behind}")
+}
+
+// A name is told from thousands of sources: read, it has too many tables.
+#[test]
+fn names_beside_thousands_of_sources(rt: HostRuntime) -> Result<(), Fail> {
+    let alloc = rt.alloc();
+    // Title is in the last source alone, and so is EId.
+    let text = crowd(alloc, "Title, x.EId", "Events x")?;
+    assert!(rt; refuses(alloc, text.as_str(), "too_many"));
+    let text = crowd(alloc, "x.Name", "Events x")?;
+    assert!(rt; refuses(alloc, text.as_str(), "unknown_column"));
+    let text = crowd(alloc, "y.Title", "Events x")?;
+    assert!(rt; refuses(alloc, text.as_str(), "unknown_table"));
+    Ok(())
+}
+
+#[test]
+fn ambiguous_beside_thousands_of_sources(rt: HostRuntime) -> Result<(), Fail> {
+    let alloc = rt.alloc();
+    // Name is in all sources but the last, Title in the last two.
+    let text = crowd(alloc, "Name", "Events x")?;
+    assert!(rt; refuses(alloc, text.as_str(), "ambiguous"));
+    let text = crowd(alloc, "Title", "Events x, Events y")?;
+    assert!(rt; refuses(alloc, text.as_str(), "ambiguous"));
+    let text = crowd(alloc, "x.Title", "Events x, Attendances x")?;
+    assert!(rt; refuses(alloc, text.as_str(), "ambiguous"));
+    Ok(())
+}
+
+// As many names that no source has as sources, in texts near the longest.
+#[test]
+fn thousands_of_names_beside_thousands_of_sources(rt: HostRuntime) -> Result<(), Fail> {
+    let alloc = rt.alloc();
+    let names = repeated(alloc, "x", ", ", 6_500)?;
+    let items = repeated(alloc, "Users", ", ", 6_500)?;
+    let (names, items) = (names.as_str(), items.as_str());
+    let text = format!(in alloc; "SELECT {names} FROM {items}")?;
+    assert!(rt; refuses(alloc, text.as_str(), "unknown_column"));
+    Ok(())
+}
+
+#[test]
+fn thousands_of_qualifiers_beside_thousands_of_sources(rt: HostRuntime) -> Result<(), Fail> {
+    let alloc = rt.alloc();
+    let names = repeated(alloc, "z.UId", ",", 4_500)?;
+    let items = repeated(alloc, "Users a", ",", 4_500)?;
+    let (names, items) = (names.as_str(), items.as_str());
+    let text = format!(in alloc; "SELECT {names} FROM {items}")?;
+    assert!(rt; refuses(alloc, text.as_str(), "unknown_table"));
+    Ok(())
+}
+
+// A table at several places, beside one that alone has the column.
+#[test]
+fn a_table_at_many_places(rt: HostRuntime) {
+    let alloc = rt.alloc();
+    assert!(rt;
+        reads(
+            alloc,
+            "SELECT c.Name, Title, a.UId FROM Users a, Users b, Users c, Events",
+            "from 0 0 0 1 if give 2.1 3.1 0.0;"
+        )
+    );
+    assert!(rt;
+        reads(
+            alloc,
+            "SELECT At FROM Events a, Events b, Attendances, Events c",
+            "from 1 1 2 1 if give 2.2;"
+        )
+    );
+    assert!(rt;
+        refuses(
+            alloc,
+            "SELECT Title FROM Events a, Events b, Events c",
+            "ambiguous"
+        )
+    );
+    assert!(rt;
+        refuses(
+            alloc,
+            "SELECT EId FROM Users, Events, Attendances",
+            "ambiguous"
+        )
+    );
+}
+
 #[test]
 fn limits_of_heads_and_tables(rt: HostRuntime) -> Result<(), Fail> {
     let alloc = rt.alloc();
