@@ -1,0 +1,14 @@
+pub mod Known
+pub mod Knowing
+pub mod Shown
+pub mod Fits
+pub mod Laws
+pub mod Matches
+pub mod Searching
+pub mod Naming
+pub mod Grouping
+pub mod Marks
+pub mod Webs
+pub mod Rises
+pub mod Finding
+pub mod Telling

@@ -1,0 +1,169 @@
+ghost use Rattle.std.specs.Prelude.{◌≡◌, ◌∷◌, ◌++◌, ◌↔◌, ◌+◌, ◌-◌, ◌≤◌, ◌^◌, [], length, map, take, IsTrue, IfOk, OnOk, OnErr};
+ghost use Rattle.std.specs.List.{range_with_len};
+ghost use Rattle.ba_facts.specs.Knowing.{LessonIsThere, sort_of};
+ghost use Rattle.ba_facts.specs.Laws.{with_lesson};
+ghost use Rattle.ba_facts.specs.Shown.{Absurd, Refutes, Shows, TheSame};
+
+use crate::knowledge::Knowledge;
+use crate::term::{Fact, Lesson, Side, Term, TermAtom};
+use ba_model::list::List;
+use ba_model::same::Duplicate;
+use ba_model::schema::{Column, Kind};
+use std::alloc::{AllocError, Global};
+use std::mem;
+
+/// How many unknowns a branch may have, so that each has a number of 32 bits.
+const MOST_UNKNOWNS: usize = 0xffff_ffff;
+
+/// A case of a proof: facts about two databases, what is known of their terms, and the goal row,
+/// which is a row of the question on side One. The kinds are those of the parameters and variables.
+#[derive(Drop)]
+pub struct Branch {
+    pub params: List<Kind>,
+    pub vars: List<Kind>,
+    pub known: Knowledge,
+    pub facts: List<Fact>,
+    pub goal: List<Term>,
+}
+
+impl Branch {
+    /// A branch without facts, of which nothing is known, and with an empty goal row.
+    pub fn new(alloc: Global, params: List<Kind>, vars: List<Kind>) -> Branch
+        ensures { result ≡ record { params = params; vars = vars; known = record { unknowns = []; learned = [] }; facts = []; goal = [] } }
+    {
+        Branch {
+            params,
+            vars,
+            known: Knowledge::new(alloc),
+            facts: List::new(alloc),
+            goal: List::new(alloc),
+        }
+    }
+
+    /// Adds a row of a table on a side, with a new unknown for each column. Without memory nothing
+    /// changes; more than 2^32 unknowns are told as want of memory.
+    pub fn add_fact(
+        &mut self,
+        alloc: Global,
+        side: Side,
+        table: u32,
+        columns: &[Column],
+        round: u32,
+    ) -> Result<(), AllocError>
+        ensures ok { OnOk result (self.new ≡ record self.old {
+          known = record self.old.known { unknowns = self.old.known.unknowns ++ map sort_of columns.now };
+          facts = self.old.facts ++ record { side = side; table = table; terms = map Term.Unknown (range_with_len (length self.old.known.unknowns) (length columns.now)); round = round } ∷ [];
+        }) }
+        ensures err { OnErr result (self.new ≡ self.old) }
+    {
+        let first = self.known.unknowns().len();
+        if first > MOST_UNKNOWNS || columns.len() > MOST_UNKNOWNS - first {
+            return Err(AllocError);
+        }
+        let terms = unknown_terms(alloc, first, columns.len())?;
+        self.facts.push(Fact {
+            side,
+            table,
+            terms,
+            round,
+        })?;
+        match self.known.add_unknowns(columns) {
+            Ok(()) => Ok(()),
+            Err(error) => {
+                self.drop_last_fact(alloc);
+                Err(error)
+            }
+        }
+    }
+
+    fn drop_last_fact(&mut self, alloc: Global)
+        ensures { self.new ≡ record self.old { facts = take (length self.old.facts - 1) self.old.facts } }
+    {
+        let mut facts = mem::replace(&mut self.facts, List::new(alloc)).into_vec();
+        facts.pop();
+        self.facts = List::from_vec(facts);
+    }
+
+    /// Learns that the two terms are the same, maybe NULL. Without memory nothing changes.
+    pub fn equate(&mut self, a: Term, b: Term) -> Result<(), AllocError>
+        requires { LessonIsThere self.old.known (Lesson.Same a b) }
+        ensures ok { OnOk result (self.new ≡ with_lesson self.old (Lesson.Same a b)) }
+        ensures err { OnErr result (self.new ≡ self.old) }
+    {
+        self.known.learn(Lesson::Same(a, b))
+    }
+
+    /// Learns that the atom is true. Without memory nothing changes.
+    pub fn assume(&mut self, atom: TermAtom) -> Result<(), AllocError>
+        requires { LessonIsThere self.old.known (Lesson.Holds atom) }
+        ensures ok { OnOk result (self.new ≡ with_lesson self.old (Lesson.Holds atom)) }
+        ensures err { OnErr result (self.new ≡ self.old) }
+    {
+        self.known.learn(Lesson::Holds(atom))
+    }
+
+    /// Whether the atom is shown, so that it is true in every fit.
+    pub fn shows(&self, atom: &TermAtom) -> bool
+        ensures { IsTrue result ↔ Shows self.now.known atom.now }
+    {
+        self.known
+            .shows(atom.op, atom.left.by_ref(), atom.right.by_ref())
+    }
+
+    /// Whether the atom is refuted, so that it is false in every fit.
+    pub fn refutes(&self, atom: &TermAtom) -> bool
+        ensures { IsTrue result ↔ Refutes self.now.known atom.now }
+    {
+        self.known
+            .refutes(atom.op, atom.left.by_ref(), atom.right.by_ref())
+    }
+
+    /// Whether the two terms are the same, so that they have one value in every fit.
+    pub fn same(&self, a: &Term, b: &Term) -> bool
+        ensures { IsTrue result ↔ TheSame self.now.known a.now b.now }
+    {
+        self.known.same(a.by_ref(), b.by_ref())
+    }
+
+    /// Whether the branch is absurd, so that it has no fit.
+    pub fn absurd(&self) -> bool
+        ensures { IsTrue result ↔ Absurd self.now.known }
+    {
+        self.known.absurd()
+    }
+
+    /// The same branch.
+    pub fn copy(&self, alloc: Global) -> Result<Branch, AllocError>
+        ensures { IfOk result (λ other. other ≡ self.now) }
+    {
+        Ok(Branch {
+            params: copy_kinds(alloc, &self.params)?,
+            vars: copy_kinds(alloc, &self.vars)?,
+            known: self.known.copy(alloc)?,
+            facts: self.facts.copy(alloc)?,
+            goal: self.goal.copy(alloc)?,
+        })
+    }
+}
+
+/// So many unknowns, numbered on from the first.
+fn unknown_terms(alloc: Global, first: usize, count: usize) -> Result<List<Term>, AllocError>
+    requires { first + count ≤ 2 ^ 32 }
+    ensures { IfOk result (λ terms. terms ≡ map Term.Unknown (range_with_len first count)) }
+{
+    let mut terms = Vec::new(alloc);
+    for i in 0..count {
+        terms.push(Term::Unknown((first + i) as u32))?;
+    }
+    Ok(List::from_vec(terms))
+}
+
+fn copy_kinds(alloc: Global, kinds: &List<Kind>) -> Result<List<Kind>, AllocError>
+    ensures { IfOk result (λ other. other ≡ kinds.now) }
+{
+    let mut all = Vec::new(alloc);
+    for kind in kinds.as_slice() {
+        all.push(*kind)?;
+    }
+    Ok(List::from_vec(all))
+}

@@ -1,0 +1,168 @@
+ghost use Rattle.std.specs.Prelude.{◌≡◌, ◌∷◌, ◌++◌, ◌↔◌, ◌<◌, ◌⊎◌, ℤ, pos, ◌<ℤ◌, [], length, map, IsTrue, IfOk, OnOk, OnErr};
+ghost use Rattle.ba_facts.specs.Known.{Chain, DifferentLiterals, OneClass, ShownGap, ShownNotNull, ShownNull, seen};
+ghost use Rattle.ba_facts.specs.Knowing.{IsThere, LessonIsThere, IsClashing, IsRising, sort_of};
+
+use crate::term::{Lesson, Sort, TermRef};
+use crate::web::Web;
+use ba_model::same::Duplicate;
+use ba_model::schema::Column;
+use ba_model::value::Value;
+use std::alloc::{AllocError, Global};
+use std::marker::Model;
+
+/// What is known of the terms of a branch.
+///
+/// A contract sees the sorts of the unknowns, and what was learned, the oldest first. What follows
+/// from it is kept beside it: the classes of terms, for each class its literal and whether it is
+/// NULL or isn't, and the order of classes.
+#[derive(Drop)]
+pub struct Knowledge {
+    unknowns: Vec<Sort>,
+    learned: Vec<Lesson>,
+    web: Web,
+}
+
+impl Model for Knowledge {
+    ghost use Rattle.ba_facts.specs.Known.{Known};
+    ghost use Rattle.ba_facts.specs.Webs.{IsWeb};
+
+    ghost Value = { Known };
+
+    ghost view = { λ k. record { unknowns = k.unknowns.items; learned = k.learned.items } };
+
+    ghost invariant = { λ k. IsWeb (record { unknowns = k.unknowns.items; learned = k.learned.items }) k.web };
+}
+
+impl Knowledge {
+    /// No unknowns, and nothing learned. It allocates nothing.
+    pub fn new(alloc: Global) -> Knowledge
+        ensures { result ≡ record { unknowns = []; learned = [] } }
+    {
+        Knowledge {
+            unknowns: Vec::new(alloc),
+            learned: Vec::new(alloc),
+            web: Web::new(alloc),
+        }
+    }
+
+    /// The sorts of the unknowns, by number.
+    pub fn unknowns(&self) -> &[Sort]
+        ensures { result.now ≡ self.now.unknowns }
+    {
+        &self.unknowns
+    }
+
+    /// What was learned, the oldest first.
+    pub fn learned(&self) -> &[Lesson]
+        ensures { result.now ≡ self.now.learned }
+    {
+        &self.learned
+    }
+
+    /// New unknowns, one for each column, numbered on from those that were there. Without memory
+    /// nothing changes.
+    pub fn add_unknowns(&mut self, columns: &[Column]) -> Result<(), AllocError>
+        ensures ok { OnOk result (self.new ≡ record self.old { unknowns = self.old.unknowns ++ map sort_of columns.now }) }
+        ensures err { OnErr result (self.new ≡ self.old) }
+    {
+        let alloc = *self.unknowns.allocator();
+        let mut sorts = sorts_of(alloc, columns)?;
+        self.unknowns.append(&mut sorts)?;
+        Ok(())
+    }
+
+    /// Adds what was learned, with all that follows from it. Without memory nothing changes.
+    pub fn learn(&mut self, lesson: Lesson) -> Result<(), AllocError>
+        requires { LessonIsThere self.old lesson }
+        ensures ok { OnOk result (self.new ≡ record self.old { learned = self.old.learned ++ lesson ∷ [] }) }
+        ensures err { OnErr result (self.new ≡ self.old) }
+    {
+        let alloc = *self.learned.allocator();
+        self.learned.reserve(1)?;
+        self.web.tell(alloc, &self.unknowns, &lesson)?;
+        self.learned.push(lesson)?;
+        Ok(())
+    }
+
+    /// Whether the two terms are of one class.
+    pub fn one_class(&self, a: TermRef<'_>, b: TermRef<'_>) -> bool
+        ensures { IsTrue result ↔ OneClass self.now (seen a.entry) (seen b.entry) }
+    {
+        self.web.one_class(a, b)
+    }
+
+    /// Whether the term's class has the literal NULL.
+    pub fn shown_null(&self, a: TermRef<'_>) -> bool
+        ensures { IsTrue result ↔ ShownNull self.now (seen a.entry) }
+    {
+        self.one_class(a, TermRef::Val(&Value::Null))
+    }
+
+    /// Whether the term's class has one that is never NULL, or was recorded as not null.
+    pub fn shown_not_null(&self, a: TermRef<'_>) -> bool
+        ensures { IsTrue result ↔ ShownNotNull self.now (seen a.entry) }
+    {
+        self.web.not_null(&self.unknowns, a)
+    }
+
+    /// Whether the two terms' classes have different literals.
+    pub fn different_literals(&self, a: TermRef<'_>, b: TermRef<'_>) -> bool
+        ensures { IsTrue result ↔ DifferentLiterals self.now (seen a.entry) (seen b.entry) }
+    {
+        self.web.different_literals(a, b)
+    }
+
+    /// Whether `low` plus `gap` is shown to be at most `high`.
+    pub fn shown_gap(&self, low: TermRef<'_>, gap: u32, high: TermRef<'_>) -> bool
+        ensures { IsTrue result ↔ ShownGap self.now (seen low.entry) (pos gap) (seen high.entry) }
+    {
+        self.web.gap(low, gap, high)
+    }
+
+    /// Whether some class has two different literals, or is shown both null and not null.
+    pub fn classes_clash(&self) -> bool
+        ensures { IsTrue result ↔ IsClashing self.now }
+    {
+        self.web.clashes(&self.unknowns)
+    }
+
+    /// Whether some chain rises back to where it began.
+    pub fn order_is_absurd(&self) -> bool
+        ensures { IsTrue result ↔ IsRising self.now }
+    {
+        self.web.is_rising()
+    }
+
+    /// The same knowledge.
+    pub fn copy(&self, alloc: Global) -> Result<Knowledge, AllocError>
+        ensures { IfOk result (λ other. other ≡ self.now) }
+    {
+        Ok(Knowledge {
+            unknowns: Vec::from_slice(alloc, &self.unknowns)?,
+            learned: copy_lessons(alloc, &self.learned)?,
+            web: self.web.copy(alloc)?,
+        })
+    }
+}
+
+fn sorts_of(alloc: Global, columns: &[Column]) -> Result<Vec<Sort>, AllocError>
+    ensures { IfOk result (λ it. it.items ≡ map sort_of columns.now) }
+{
+    columns
+        .iter()
+        .map(|column| Sort {
+            kind: column.kind,
+            nullable: column.nullable,
+        })
+        .collect(alloc)
+}
+
+fn copy_lessons(alloc: Global, lessons: &[Lesson]) -> Result<Vec<Lesson>, AllocError>
+    ensures { IfOk result (λ it. it.items ≡ lessons.now) }
+{
+    let mut copies = Vec::new(alloc);
+    for lesson in lessons {
+        copies.push(lesson.copy(alloc)?)?;
+    }
+    Ok(copies)
+}

@@ -1,0 +1,131 @@
+ghost use Rattle.std.specs.Prelude.{◌≡◌, ◌≤◌, ◌↔◌, IfOk, IsTrue, length, map, option_map, slice_get};
+ghost use Rattle.ba_facts.specs.Known.{seen};
+ghost use Rattle.ba_facts.specs.Matches.{AreMatches, IsAnswered, IsLiveOf, IsShown, IsUndecided, row_of, term_of, terms_at};
+
+mod atoms;
+mod search;
+
+use crate::branch::Branch;
+use crate::matches::search::{GivenRow, Search, Wanted};
+use crate::term::{Mapping, Side, TermRef};
+use arrayvec::ArrayVec;
+use ba_model::list::List;
+use ba_model::query::{Atom, Op, Operand, Part};
+use std::alloc::{AllocError, Global};
+
+impl Branch {
+    /// The mappings of the part's tables to facts of a side that are live: each `=` of the part is
+    /// shown of the facts' terms, and no other atom is refuted. Each has its first atom that isn't
+    /// shown. They rise by the facts' numbers from left to right. A fact or an atom in a mapping
+    /// whose number isn't below 2^32 is told as want of memory.
+    pub fn matches(
+        &self,
+        alloc: Global,
+        part: &Part,
+        side: Side,
+    ) -> Result<List<Mapping>, AllocError>
+        ensures { IfOk result (AreMatches self.now side part.now) }
+    {
+        let search = Search {
+            branch: self,
+            side,
+            part,
+            wanted: Wanted::Live,
+        };
+        let mut chosen = Vec::new(alloc);
+        let mut found = Vec::new(alloc);
+        search.gather(alloc, part.from.as_slice(), &mut chosen, &mut found)?;
+        Ok(List::from_vec(found))
+    }
+
+    /// What an operand of a part stands for, where these facts are the part's; `None` where the
+    /// place or the column isn't there.
+    pub fn term_of<'a>(&'a self, facts: &[u32], operand: &'a Operand) -> Option<TermRef<'a>>
+        ensures { option_map seen result ≡ term_of (map (terms_at self.now) facts.now) operand.now }
+    {
+        match operand {
+            Operand::Col(place, column) => match facts.get(*place as usize) {
+                Some(number) => self.term_at(*number as usize, *column),
+                None => None,
+            },
+            Operand::Val(value) => Some(TermRef::Val(value)),
+            Operand::Param(n) => Some(TermRef::Param(*n)),
+            Operand::Var(n) => Some(TermRef::Var(*n)),
+        }
+    }
+
+    /// The term in a column of the fact of a number, if it is there.
+    fn term_at(&self, number: usize, column: u32) -> Option<TermRef<'_>>
+        ensures { option_map seen result ≡ slice_get (terms_at self.now number) column }
+    {
+        match self.facts.find(number) {
+            Some(fact) => match fact.terms.find(column as usize) {
+                Some(term) => Some(term.by_ref()),
+                None => None,
+            },
+            None => None,
+        }
+    }
+
+    /// The part's first atom that isn't shown of the facts' terms, by its number.
+    pub fn undecided(&self, part: &Part, facts: &[u32]) -> Option<usize>
+        ensures { IsUndecided self.now.known (map (terms_at self.now) facts.now) part.now.conds result }
+    {
+        self.first_hidden(part.conds.as_slice(), facts)
+    }
+
+    /// The first atom that isn't shown of the facts' terms, by its number.
+    fn first_hidden(&self, conds: &[Atom], facts: &[u32]) -> Option<usize>
+        ensures { IsUndecided self.now.known (map (terms_at self.now) facts.now) conds.now result }
+    {
+        for (number, atom) in conds.iter().enumerate() {
+            if !self.shows_of(facts, atom) {
+                return Some(number);
+            }
+        }
+        None
+    }
+
+    /// Whether the atom is shown of the facts' terms.
+    fn shows_of(&self, facts: &[u32], atom: &Atom) -> bool
+        ensures { IsTrue result ↔ IsShown self.now.known (map (terms_at self.now) facts.now) atom.now }
+    {
+        match (
+            self.term_of(facts, &atom.left),
+            self.term_of(facts, &atom.right),
+        ) {
+            (Some(left), Some(right)) => self.known.shows(atom.op, left, right),
+            _ => false,
+        }
+    }
+
+    /// Whether an `=` is shown, or another comparison isn't refuted.
+    fn is_live(&self, op: Op, left: TermRef<'_>, right: TermRef<'_>) -> bool
+        ensures { IsTrue result ↔ IsLiveOf self.now.known op (seen left.entry) (seen right.entry) }
+    {
+        match op {
+            Op::Eq => self.known.shows(op, left, right),
+            Op::Ne => !self.known.refutes(op, left, right),
+            Op::Lt => !self.known.refutes(op, left, right),
+            Op::Le => !self.known.refutes(op, left, right),
+            Op::IsNull => !self.known.refutes(op, left, right),
+            Op::NotNull => !self.known.refutes(op, left, right),
+        }
+    }
+
+    /// Whether some facts of the side show all atoms of the part and give a head that is the same
+    /// as a row, which is given as operands over other facts.
+    pub fn is_answered(&self, part: &Part, side: Side, operands: &[Operand], facts: &[u32]) -> bool
+        requires { length part.now.from ≤ 8 }
+        ensures { IsTrue result ↔ IsAnswered self.now side part.now (row_of self.now facts.now operands.now) }
+    {
+        let search = Search {
+            branch: self,
+            side,
+            part,
+            wanted: Wanted::Shown,
+        };
+        let row = GivenRow { operands, facts };
+        search.finds(part.from.as_slice(), &mut ArrayVec::new(), &row)
+    }
+}

@@ -1,0 +1,73 @@
+//! Places in the order of a web.
+ghost use Rattle.std.specs.Prelude.{◌≡◌, ◌↔◌, pos, neg_ℤ, ◌+ℤ◌, ◌-ℤ◌, ◌≤ℤ◌, ◌^◌, ◌++◌, ◌∷◌, [], IsTrue, IfOk, OnOk, OnErr, unwrap_or};
+ghost use Rattle.ba_facts.specs.Rises.{Agrees, IsAgreed, rise_fact};
+ghost use Rattle.ba_facts.specs.Webs.{RisesBy};
+
+use crate::marks::Place;
+use ba_classes::order::Order;
+use std::alloc::{AllocError, Global};
+
+/// Whether what is at `low` plus `gap` is shown to be at most what is at `high`.
+pub(crate) fn rises(order: &Order, low: Place, gap: u32, high: Place) -> bool
+    ensures { IsTrue result ↔ RisesBy order.now low (pos gap) high }
+{
+    order.shows(low.node, between(low, gap, high), high.node)
+}
+
+/// Adds the fact that what is at `low` plus `gap` is at most what is at `high`. Without memory
+/// nothing changes.
+pub(crate) fn raise(order: &mut Order, low: Place, gap: u32, high: Place) -> Result<(), AllocError>
+    ensures ok { OnOk result (order.new ≡ order.old ++ rise_fact low (pos gap) high ∷ []) }
+    ensures err { OnErr result (order.new ≡ order.old) }
+{
+    order.add(low.node, between(low, gap, high), high.node)
+}
+
+fn between(low: Place, gap: u32, high: Place) -> i128
+    ensures value { result ≡ (pos gap +ℤ low.offset) -ℤ high.offset }
+    ensures above { neg_ℤ (pos (2 ^ 65)) ≤ℤ result }
+    ensures below { result ≤ℤ pos (2 ^ 65) }
+{
+    gap as i128 + low.offset as i128 - high.offset as i128
+}
+
+/// The order in which the places of two classes that become one are equal, if it is another.
+pub(crate) fn agreed(
+    alloc: Global,
+    order: &Order,
+    left: Option<Place>,
+    right: Option<Place>,
+) -> Result<Option<Order>, AllocError>
+    ensures { IfOk result (λ it. IsAgreed order.now (unwrap_or it order.now) left right) }
+{
+    match (left, right) {
+        (Some(left), Some(right)) => made_equal(alloc, order, left, right),
+        _ => Ok(None),
+    }
+}
+
+fn made_equal(
+    alloc: Global,
+    order: &Order,
+    left: Place,
+    right: Place,
+) -> Result<Option<Order>, AllocError>
+    ensures { IfOk result (λ it. Agrees order.now (unwrap_or it order.now) left right) }
+{
+    if rises(order, left, 0, right) && rises(order, right, 0, left) {
+        return Ok(None);
+    }
+    let mut equal = order.copy(alloc)?;
+    raise(&mut equal, left, 0, right)?;
+    raise(&mut equal, right, 0, left)?;
+    Ok(Some(equal))
+}
+
+/// Puts the new order, if there is one, in the place of the old one.
+pub(crate) fn replace(order: &mut Order, new: Option<Order>)
+    ensures { order.new ≡ unwrap_or new order.old }
+{
+    if let Some(new) = new {
+        *order = new;
+    }
+}

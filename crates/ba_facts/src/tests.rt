@@ -1,0 +1,4 @@
+mod cases;
+mod knowledge;
+mod matches;
+mod shown;

@@ -1,0 +1,472 @@
+//! Numbered terms with their classes, marks and order.
+ghost use Rattle.std.specs.Prelude.{◌≡◌, ◌≢◌, ℕ, ℤ, pos, ◌<◌, ◌≤◌, ◌++◌, ◌∷◌, [], length, slice_get, slice_set, IsTrue, ◌↔◌, IfOk, OnOk, OnErr, Some, MatchOption};
+ghost use Rattle.ba_classes.specs.Merged.{IsLabel};
+ghost use Rattle.ba_facts.specs.Known.{Known, DifferentLiterals, OneClass, ShownGap, ShownNotNull, seen};
+ghost use Rattle.ba_facts.specs.Knowing.{IsClashing, IsRising, IsThere, LessonIsThere};
+ghost use Rattle.ba_facts.specs.Marks.{AreLiterals};
+ghost use Rattle.ba_facts.specs.Telling.{AreThere, CanTell, atom, told};
+ghost use Rattle.ba_facts.specs.Webs.{AnyRise, Denies, HasPlace, IsClassMark, IsSomeWeb, IsWeb, Joins, KeepsOrder, PlaceOf, Raises};
+ghost use Rattle.ba_facts.specs.Finding.{AreFound, AreNumbered};
+ghost use Rattle.ba_facts.specs.declared.marks.Place.{Place};
+ghost use Rattle.ba_facts.specs.declared.term.Lesson.{Lesson};
+ghost use Rattle.ba_facts.specs.declared.term.Term.{Term};
+ghost use Rattle.ba_model.specs.declared.query.Op.{Op};
+
+use crate::found::{Found, differ, own_found};
+use crate::groups::Groups;
+use crate::marking::{deny, mark_of, set_mark};
+use crate::marks::{Literals, Mark, Place, own_not_null, own_place};
+use crate::names::Names;
+use crate::rises::{agreed, raise, replace, rises};
+use crate::term::{Lesson, Sort, TermAtom, TermRef};
+use ba_classes::order::Order;
+use ba_model::query::Op;
+use ba_model::value::Value;
+use std::alloc::{AllocError, Global};
+
+/// The terms that something was learned of, by number, with their classes, the marks of these by
+/// their labels, and the order. It says what is known of the terms.
+#[derive(Drop)]
+pub(crate) struct Web {
+    names: Names,
+    classes: Groups,
+    marks: Vec<Mark>,
+    order: Order,
+    /// Whether some class has two literals.
+    several: bool,
+}
+
+impl Web {
+    pub(crate) fn new(alloc: Global) -> Web
+        ensures { IsWeb (record { unknowns = []; learned = [] }) result }
+    {
+        Web {
+            names: Names::new(alloc),
+            classes: Groups::new(),
+            marks: Vec::new(alloc),
+            order: Order::new(alloc),
+            several: false,
+        }
+    }
+
+    /// The number of a term, which gets one if it has none. What is known stays.
+    pub(crate) fn number(
+        &mut self,
+        alloc: Global,
+        unknowns: &[Sort],
+        term: TermRef<'_>,
+    ) -> Result<u32, AllocError>
+        ensures found { IfOk result (λ n. slice_get self.new.names n ≡ Some (seen term.entry)) }
+        ensures numbers { (n : ℕ) (t : Term) →
+            slice_get self.old.names n ≡ Some t → slice_get self.new.names n ≡ Some t }
+        ensures kept { (k : Known) →
+            k.unknowns ≡ unknowns.now → IsThere k (seen term.entry) → IsWeb k self.old → IsWeb k self.new }
+    {
+        match self.names.find(term) {
+            Some(number) => Ok(number),
+            None => self.add(alloc, unknowns, term),
+        }
+    }
+
+    fn add(
+        &mut self,
+        alloc: Global,
+        unknowns: &[Sort],
+        term: TermRef<'_>,
+    ) -> Result<u32, AllocError>
+        requires { (n : ℕ) → slice_get self.old.names n ≢ Some (seen term) }
+        ensures found { IfOk result (λ n. slice_get self.new.names n ≡ Some (seen term.entry)) }
+        ensures numbers { (n : ℕ) (t : Term) →
+            slice_get self.old.names n ≡ Some t → slice_get self.new.names n ≡ Some t }
+        ensures kept { (k : Known) →
+            k.unknowns ≡ unknowns.now → IsThere k (seen term.entry) → IsWeb k self.old → IsWeb k self.new }
+    {
+        let count = self.names.len();
+        if count >= u32::MAX as usize {
+            return Err(AllocError);
+        }
+        let number = count as u32;
+        self.classes.make_room(alloc, number)?;
+        self.marks.truncate(count);
+        self.marks.push(Mark::own(unknowns, number, term))?;
+        self.names.add(term)?;
+        Ok(number)
+    }
+
+    /// Makes the two terms one class. Without memory nothing changes.
+    pub(crate) fn join(&mut self, alloc: Global, x: u32, y: u32) -> Result<(), AllocError>
+        requires some { IsSomeWeb self.old }
+        requires left { x < length self.old.names }
+        requires right { y < length self.old.names }
+        ensures names { self.new.names ≡ self.old.names }
+        ensures ok { OnOk result ((k l : Known) (a b : Term) →
+            slice_get self.old.names x ≡ Some a → slice_get self.old.names y ≡ Some b →
+            Joins k l a b → IsWeb k self.old → IsWeb l self.new) }
+        ensures err { OnErr result ((k : Known) → IsWeb k self.old → IsWeb k self.new) }
+    {
+        let left = mark_of(&self.classes, &self.marks, x);
+        let right = mark_of(&self.classes, &self.marks, y);
+        let order = agreed(alloc, &self.order, left.place, right.place)?;
+        self.classes.merge(x, y)?;
+        let mark = left.both(right);
+        set_mark(&self.classes, &mut self.marks, x, mark);
+        replace(&mut self.order, order);
+        self.several |= mark.literals.is_several();
+        Ok(())
+    }
+
+    /// Marks the classes of two terms that aren't NULL.
+    pub(crate) fn deny(&mut self, x: u32, y: u32)
+        requires some { IsSomeWeb self.old }
+        requires left { x < length self.old.names }
+        requires right { y < length self.old.names }
+        ensures { (k h l : Known) (a b : Term) →
+            slice_get self.old.names x ≡ Some a → slice_get self.old.names y ≡ Some b →
+            Denies k h a → Denies h l b → KeepsOrder k l → IsWeb k self.old → IsWeb l self.new }
+    {
+        deny(&self.classes, &mut self.marks, x);
+        deny(&self.classes, &mut self.marks, y);
+    }
+
+    // The place of the number's class, which gets one if it has none.
+    fn place(&mut self, x: u32) -> Place
+        requires some { IsSomeWeb self.old }
+        requires numbered { x < length self.old.names }
+        ensures names { self.new.names ≡ self.old.names }
+        ensures place { HasPlace self.new.classes.merges self.new.marks.items x result }
+        ensures places { (n : ℕ) (p : Place) → HasPlace self.old.classes.merges self.old.marks.items n p →
+            HasPlace self.new.classes.merges self.new.marks.items n p }
+        ensures kept { (k : Known) → IsWeb k self.old → IsWeb k self.new }
+    {
+        let mark = mark_of(&self.classes, &self.marks, x);
+        match mark.place {
+            Some(place) => place,
+            None => {
+                let place = Place {
+                    node: x + 1,
+                    offset: 0,
+                };
+                let placed = Mark {
+                    place: Some(place),
+                    ..mark
+                };
+                set_mark(&self.classes, &mut self.marks, x, placed);
+                place
+            }
+        }
+    }
+
+    /// Records that one term plus `gap` is at most another, and that neither is NULL. Without
+    /// memory what is known stays.
+    pub(crate) fn rise(&mut self, x: u32, gap: u32, y: u32) -> Result<(), AllocError>
+        requires some { IsSomeWeb self.old }
+        requires left { x < length self.old.names }
+        requires right { y < length self.old.names }
+        ensures ok { OnOk result ((k h l : Known) (a b : Term) →
+            slice_get self.old.names x ≡ Some a → slice_get self.old.names y ≡ Some b →
+            Denies k h a → Denies h l b → Raises k l a (pos gap) b → IsWeb k self.old → IsWeb l self.new) }
+        ensures err { OnErr result ((k : Known) → IsWeb k self.old → IsWeb k self.new) }
+    {
+        let low = self.place(x);
+        let high = self.place(y);
+        raise(&mut self.order, low, gap, high)?;
+        deny(&self.classes, &mut self.marks, x);
+        deny(&self.classes, &mut self.marks, y);
+        Ok(())
+    }
+
+    // Makes two terms one class that may have no numbers yet. Without memory what is known stays.
+    fn unite(
+        &mut self,
+        alloc: Global,
+        unknowns: &[Sort],
+        a: TermRef<'_>,
+        b: TermRef<'_>,
+    ) -> Result<(), AllocError>
+        requires { AreThere self.old unknowns.now (seen a) (seen b) }
+        ensures ok { OnOk result ((k l : Known) → k.unknowns ≡ unknowns.now →
+            IsThere k (seen a.entry) → IsThere k (seen b.entry) → Joins k l (seen a.entry) (seen b.entry) →
+            IsWeb k self.old → IsWeb l self.new) }
+        ensures err { OnErr result ((k : Known) → k.unknowns ≡ unknowns.now →
+            IsThere k (seen a.entry) → IsThere k (seen b.entry) → IsWeb k self.old → IsWeb k self.new) }
+    {
+        let x = self.number(alloc, unknowns, a)?;
+        let y = self.number(alloc, unknowns, b)?;
+        self.join(alloc, x, y)?;
+        Ok(())
+    }
+
+    // The same of two terms that are compared by `=`.
+    fn equate(
+        &mut self,
+        alloc: Global,
+        unknowns: &[Sort],
+        a: TermRef<'_>,
+        b: TermRef<'_>,
+    ) -> Result<(), AllocError>
+        requires { AreThere self.old unknowns.now (seen a) (seen b) }
+        ensures ok { OnOk result ((k : Known) → k.unknowns ≡ unknowns.now →
+            IsThere k (seen a.entry) → IsThere k (seen b.entry) → IsWeb k self.old →
+            IsWeb (told k (atom Op.Eq (seen a.entry) (seen b.entry))) self.new) }
+        ensures err { OnErr result ((k : Known) → k.unknowns ≡ unknowns.now →
+            IsThere k (seen a.entry) → IsThere k (seen b.entry) → IsWeb k self.old → IsWeb k self.new) }
+    {
+        let x = self.number(alloc, unknowns, a)?;
+        let y = self.number(alloc, unknowns, b)?;
+        self.join(alloc, x, y)?;
+        self.deny(x, y);
+        Ok(())
+    }
+
+    // Marks two terms that may have no numbers yet. Without memory what is known stays.
+    fn part(
+        &mut self,
+        alloc: Global,
+        unknowns: &[Sort],
+        a: TermRef<'_>,
+        b: TermRef<'_>,
+    ) -> Result<(), AllocError>
+        requires { AreThere self.old unknowns.now (seen a) (seen b) }
+        ensures ok { OnOk result ((k h l : Known) → k.unknowns ≡ unknowns.now →
+            IsThere k (seen a.entry) → IsThere k (seen b.entry) →
+            Denies k h (seen a.entry) → Denies h l (seen b.entry) → KeepsOrder k l →
+            IsWeb k self.old → IsWeb l self.new) }
+        ensures err { OnErr result ((k : Known) → k.unknowns ≡ unknowns.now →
+            IsThere k (seen a.entry) → IsThere k (seen b.entry) → IsWeb k self.old → IsWeb k self.new) }
+    {
+        let x = self.number(alloc, unknowns, a)?;
+        let y = self.number(alloc, unknowns, b)?;
+        self.deny(x, y);
+        Ok(())
+    }
+
+    // Records a rise of two terms that may have no numbers yet. Without memory what is known stays.
+    fn lift(
+        &mut self,
+        alloc: Global,
+        unknowns: &[Sort],
+        a: TermRef<'_>,
+        gap: u32,
+        b: TermRef<'_>,
+    ) -> Result<(), AllocError>
+        requires { AreThere self.old unknowns.now (seen a) (seen b) }
+        ensures ok { OnOk result ((k h l : Known) → k.unknowns ≡ unknowns.now →
+            IsThere k (seen a.entry) → IsThere k (seen b.entry) →
+            Denies k h (seen a.entry) → Denies h l (seen b.entry) →
+            Raises k l (seen a.entry) (pos gap) (seen b.entry) →
+            IsWeb k self.old → IsWeb l self.new) }
+        ensures err { OnErr result ((k : Known) → k.unknowns ≡ unknowns.now →
+            IsThere k (seen a.entry) → IsThere k (seen b.entry) → IsWeb k self.old → IsWeb k self.new) }
+    {
+        let x = self.number(alloc, unknowns, a)?;
+        let y = self.number(alloc, unknowns, b)?;
+        self.rise(x, gap, y)?;
+        Ok(())
+    }
+
+    /// Takes in what was learned. Without memory what is known stays.
+    pub(crate) fn tell(
+        &mut self,
+        alloc: Global,
+        unknowns: &[Sort],
+        lesson: &Lesson,
+    ) -> Result<(), AllocError>
+        requires { CanTell self.old unknowns.now lesson.now }
+        ensures ok { OnOk result ((k : Known) → k.unknowns ≡ unknowns.now → LessonIsThere k lesson.now →
+            IsWeb k self.old → IsWeb (told k lesson.now) self.new) }
+        ensures err { OnErr result ((k : Known) → k.unknowns ≡ unknowns.now → LessonIsThere k lesson.now →
+            IsWeb k self.old → IsWeb k self.new) }
+    {
+        match lesson {
+            Lesson::Same(a, b) => self.unite(alloc, unknowns, a.by_ref(), b.by_ref()),
+            Lesson::Holds(atom) => self.tell_atom(alloc, unknowns, atom),
+        }
+    }
+
+    fn tell_atom(
+        &mut self,
+        alloc: Global,
+        unknowns: &[Sort],
+        atom: &TermAtom,
+    ) -> Result<(), AllocError>
+        requires { AreThere self.old unknowns.now atom.now.left atom.now.right }
+        ensures ok { OnOk result ((k : Known) → k.unknowns ≡ unknowns.now →
+            IsThere k atom.now.left → IsThere k atom.now.right →
+            IsWeb k self.old → IsWeb (told k (Lesson.Holds atom.now)) self.new) }
+        ensures err { OnErr result ((k : Known) → k.unknowns ≡ unknowns.now →
+            IsThere k atom.now.left → IsThere k atom.now.right → IsWeb k self.old → IsWeb k self.new) }
+    {
+        let left = atom.left.by_ref();
+        let right = atom.right.by_ref();
+        match atom.op {
+            Op::Eq => self.equate(alloc, unknowns, left, right),
+            Op::Ne => self.part(alloc, unknowns, left, right),
+            Op::Lt => self.lift(alloc, unknowns, left, 1, right),
+            Op::Le => self.lift(alloc, unknowns, left, 0, right),
+            Op::IsNull => self.unite(alloc, unknowns, left, TermRef::Val(&Value::Null)),
+            Op::NotNull => self.part(alloc, unknowns, left, left),
+        }
+    }
+
+    /// Whether the two terms are of one class.
+    pub(crate) fn one_class(&self, a: TermRef<'_>, b: TermRef<'_>) -> bool
+        requires { IsSomeWeb self.now }
+        ensures { (k : Known) →
+            IsWeb k self.now → IsTrue result ↔ OneClass k (seen a.entry) (seen b.entry) }
+    {
+        match self.names.find(a) {
+            Some(x) => self.has_class(x, b),
+            None => a.same(b),
+        }
+    }
+
+    fn has_class(&self, x: u32, b: TermRef<'_>) -> bool
+        requires some { IsSomeWeb self.now }
+        requires numbered { x < length self.now.names }
+        ensures { (k : Known) (a : Term) → slice_get self.now.names x ≡ Some a →
+            IsWeb k self.now → IsTrue result ↔ OneClass k a (seen b.entry) }
+    {
+        match self.names.find(b) {
+            Some(y) => self.classes.same(x, y),
+            None => false,
+        }
+    }
+
+    // The mark of the term's class, if the term has a number.
+    fn class_mark(&self, a: TermRef<'_>) -> Option<Mark>
+        requires { IsSomeWeb self.now }
+        ensures { MatchOption result ((n : ℕ) → slice_get self.now.names n ≢ Some (seen a.entry))
+            (IsClassMark self.now.names self.now.classes.merges self.now.marks.items (seen a.entry)) }
+    {
+        match self.names.find(a) {
+            Some(x) => Some(mark_of(&self.classes, &self.marks, x)),
+            None => None,
+        }
+    }
+
+    /// Whether the term's class has one that isn't NULL.
+    pub(crate) fn not_null(&self, unknowns: &[Sort], a: TermRef<'_>) -> bool
+        requires { IsSomeWeb self.now }
+        ensures { (k : Known) → k.unknowns ≡ unknowns.now →
+            IsWeb k self.now → IsTrue result ↔ ShownNotNull k (seen a.entry) }
+    {
+        match self.class_mark(a) {
+            Some(mark) => mark.not_null,
+            None => own_not_null(unknowns, a),
+        }
+    }
+
+    /// Whether the two terms' classes have different literals.
+    pub(crate) fn different_literals(&self, a: TermRef<'_>, b: TermRef<'_>) -> bool
+        requires { IsSomeWeb self.now }
+        ensures { (k : Known) →
+            IsWeb k self.now → IsTrue result ↔ DifferentLiterals k (seen a.entry) (seen b.entry) }
+    {
+        differ(self.literals(a), self.literals(b))
+    }
+
+    // The literals of the term's class.
+    fn literals<'a>(&'a self, a: TermRef<'a>) -> Found<'a>
+        requires { IsSomeWeb self.now }
+        ensures { (k : Known) → IsWeb k self.now → AreFound k (seen a.entry) result }
+    {
+        match self.class_mark(a) {
+            Some(mark) => self.found(mark.literals),
+            None => own_found(a),
+        }
+    }
+
+    fn found(&self, literals: Literals) -> Found<'_>
+        requires { AreNumbered self.now.names literals }
+        ensures { (k : Known) (a : Term) →
+            AreLiterals k self.now.names a literals → AreFound k a result }
+    {
+        match literals {
+            Literals::Absent => Found::Absent,
+            Literals::One(n) => match self.names.value(n) {
+                Some(value) => Found::One(value),
+                None => Found::Several,
+            },
+            Literals::Several(_) => Found::Several,
+        }
+    }
+
+    /// Whether the one term plus `gap` is shown to be at most the other.
+    pub(crate) fn gap(&self, low: TermRef<'_>, gap: u32, high: TermRef<'_>) -> bool
+        requires { IsSomeWeb self.now }
+        ensures { (k : Known) →
+            IsWeb k self.now → IsTrue result ↔ ShownGap k (seen low.entry) (pos gap) (seen high.entry) }
+    {
+        if self.same_level(low, gap, high) {
+            true
+        } else {
+            self.places_rise(low, gap, high)
+        }
+    }
+
+    fn same_level(&self, low: TermRef<'_>, gap: u32, high: TermRef<'_>) -> bool
+        requires { IsSomeWeb self.now }
+        ensures { (k : Known) → IsWeb k self.now →
+            IsTrue result ↔ ((gap ≡ 0) × OneClass k (seen low.entry) (seen high.entry)) }
+    {
+        if gap == 0 {
+            self.one_class(low, high)
+        } else {
+            false
+        }
+    }
+
+    fn places_rise(&self, low: TermRef<'_>, gap: u32, high: TermRef<'_>) -> bool
+        requires { IsSomeWeb self.now }
+        ensures { IsTrue result ↔ AnyRise self.now.names self.now.classes.merges self.now.marks.items self.now.order
+            (seen low.entry) (pos gap) (seen high.entry) }
+    {
+        match (self.place_of(low), self.place_of(high)) {
+            (Some(from), Some(to)) => rises(&self.order, from, gap, to),
+            _ => false,
+        }
+    }
+
+    fn place_of(&self, a: TermRef<'_>) -> Option<Place>
+        requires { IsSomeWeb self.now }
+        ensures { (p : Place) → (result ≡ Some p)
+            ↔ PlaceOf self.now.names self.now.classes.merges self.now.marks.items (seen a.entry) p }
+    {
+        match self.class_mark(a) {
+            Some(mark) => mark.place,
+            None => own_place(a),
+        }
+    }
+
+    /// Whether some class has two different literals, or is shown both null and not null.
+    pub(crate) fn clashes(&self, unknowns: &[Sort]) -> bool
+        requires { IsSomeWeb self.now }
+        ensures { (k : Known) → k.unknowns ≡ unknowns.now → IsWeb k self.now → IsTrue result ↔ IsClashing k }
+    {
+        if self.several {
+            true
+        } else {
+            self.not_null(unknowns, TermRef::Val(&Value::Null))
+        }
+    }
+
+    /// Whether some chain rises back to where it began.
+    pub(crate) fn is_rising(&self) -> bool
+        ensures { (k : Known) → IsWeb k self.now → IsTrue result ↔ IsRising k }
+    {
+        self.order.absurd()
+    }
+
+    /// The same web.
+    pub(crate) fn copy(&self, alloc: Global) -> Result<Web, AllocError>
+        ensures { IfOk result (λ other. (k : Known) → IsWeb k self.now → IsWeb k other) }
+    {
+        Ok(Web {
+            names: self.names.copy(alloc)?,
+            classes: self.classes.copy(alloc)?,
+            marks: Vec::from_slice(alloc, &self.marks)?,
+            order: self.order.copy(alloc)?,
+            several: self.several,
+        })
+    }
+}
