@@ -1,0 +1,16 @@
+pub mod OperandLemmas
+pub mod CaseFactLemmas
+pub mod CaseLemmas
+pub mod StartLemmas
+pub mod CourseLemmas
+pub mod QuestionLemmas
+pub mod StepFits
+pub mod StepParts
+pub mod YieldLemmas
+pub mod KeyLemmas
+pub mod LinkLemmas
+pub mod SplitLemmas
+pub mod GoalLemmas
+pub mod StepLemmas
+pub mod AskedLemmas
+pub mod ZipLemmas
