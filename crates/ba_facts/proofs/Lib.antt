@@ -4,6 +4,7 @@ pub mod LawLemmas
 pub mod OrderOfListsLemmas
 pub mod PlaceLemmas
 pub mod SearchingLemmas
+pub mod RoundLemmas
 pub mod StrongLemmas
 pub mod UnknownLemmas
 pub mod ValueLemmas

@@ -1,5 +1,6 @@
 -- The mappings of a query's part to the facts of a branch.
-use Rattle.std.specs.Prelude.{◌≡◌, ℕ, ◌<◌, List, [], All, Contains, map, Option, Some, None, slice_get, unwrap_or, option_and_then, option_map}
+use Rattle.std.specs.Prelude.{◌≡◌, ℕ, ◌<◌, ◌≤◌, List, [], ◌∷◌, All, Any, Contains, map, max, Option, Some, None, slice_get, unwrap_or, option_and_then}
+use Rattle.std.specs.Prelude.{option_map}
 use Rattle.std.specs.List.{AllZip}
 use Rattle.std.specs.List.Sorted.{IsStrictlySortedBy}
 use Rattle.std.specs.Ordering.{nat_cmp}
@@ -17,6 +18,7 @@ use Rattle.ba_facts.specs.declared.term.Fact.{Fact}
 use Rattle.ba_facts.specs.declared.term.Mapping.{Mapping}
 use Rattle.ba_facts.specs.declared.term.Side.{Side}
 use Rattle.ba_facts.specs.declared.term.Term.{Term}
+use Rattle.ba_facts.specs.declared.term.TermAtom.{TermAtom}
 use Rattle.ba_facts.specs.declared.term.Term.TheVariants as terms
 
 -- the terms of the fact of this number
@@ -112,3 +114,38 @@ pub record IsAnswered (b : Branch) (side : Side) (part : Part) (row : List (Opti
   pub facts_of : IsMapping b side part.from facts
   pub shown : All (IsShown b.known (map (terms_at b) facts)) part.conds
   pub head : AllZip (AreTheSame b.known) (row_of b facts part.head) row
+
+-- ---- the rounds of mappings
+
+-- the greatest round of the facts of these numbers
+abbrev pub round_of : Branch → List ℕ → ℕ
+round_of b [] = 0
+round_of b (n ∷ facts) = max (unwrap_or (option_map (λ fact. fact.round) (slice_get b.facts n)) 0) (round_of b facts)
+
+-- of the facts' terms the part's atom is this one
+pub record GivesAtom (rows : List (List Term)) (atom : TermAtom) (cond : Atom) : Type 0 where
+  pub op : cond.op ≡ atom.op
+  pub left : term_of rows cond.left ≡ Some atom.left
+  pub right : term_of rows cond.right ≡ Some atom.right
+
+-- the part's head is the same as the row, where there is one
+abbrev pub HeadIs : Branch → Part → List ℕ → Option (List Term) → Type 0
+HeadIs b part facts None = Unit {0}
+HeadIs b part facts (Some row) = AllZip (AreTheSame b.known) (row_of b facts part.head) (map Some row)
+
+-- a live mapping of the part to the side, with the row for its head, of which the atom is one of the atoms
+pub record IsLiveAtom (b : Branch) (side : Side) (part : Part) (row : Option (List Term)) (atom : TermAtom) (facts : List ℕ) : Type 0 where
+  pub live : IsLiveMapping b side part facts
+  pub head : HeadIs b part facts row
+  pub stands : Any (GivesAtom (map (terms_at b) facts) atom) part.conds
+
+-- the least of the rounds of what is P, if anything is: the round of facts is the greatest of them
+pub record IsLeastRound (b : Branch) (P : List ℕ → Type 0) (round : ℕ) : Type 0 where
+  pub facts : List ℕ
+  pub holds : P facts
+  pub round_is : round_of b facts ≡ round
+  pub least : (others : List ℕ) → P others → round ≤ round_of b others
+
+abbrev pub LeastRound : Branch → (List ℕ → Type 0) → Option ℕ → Type 0
+LeastRound b P None = (facts : List ℕ) → ¬ (P facts)
+LeastRound b P (Some round) = IsLeastRound b P round

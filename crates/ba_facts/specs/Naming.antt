@@ -1,5 +1,5 @@
 -- Terms by number, and the numbers of terms.
-use Rattle.std.specs.Prelude.{◌≡◌, ℕ, ◌↔◌, ◌≤◌, ◌^◌, List, Option, Some, slice_get, length}
+use Rattle.std.specs.Prelude.{◌≡◌, ℕ, ◌↔◌, ◌≤◌, ◌^◌, List, Option, Some, None, slice_get, slice_index_or, length}
 use Rattle.std.specs.BTreeMap.{get}
 use Rattle.std.specs.Ordering.{nat_cmp}
 use Rattle.ba_model.specs.Order.{value_cmp}
@@ -9,7 +9,7 @@ use Rattle.ba_facts.specs.declared.term.Term.TheVariants.{Unknown, Val, Param, V
 
 -- the number of a term, if it has one
 abbrev pub number_in : Numbers → Term → Option ℕ
-number_in it (Unknown n) = get nat_cmp it.unknowns n
+number_in it (Unknown n) = slice_index_or it.unknowns.items n None
 number_in it (Val v) = get value_cmp it.values v
 number_in it (Param n) = get nat_cmp it.params n
 number_in it (Var n) = get nat_cmp it.vars n

@@ -1,5 +1,5 @@
 -- What a search through the tables of a part finds, from the facts that it has chosen so far.
-use Rattle.std.specs.Prelude.{◌≡◌, ℕ, ◌+◌, ◌<◌, List, [], ◌∷◌, ◌++◌, All, Contains, Option, length, map, max}
+use Rattle.std.specs.Prelude.{◌≡◌, ℕ, ◌+◌, ◌<◌, List, [], ◌∷◌, ◌++◌, All, Any, Contains, Option, Some, None, length, map, max, min}
 use Rattle.std.specs.List.{AllZip}
 use Rattle.std.specs.List.Sorted.{IsStrictlySortedBy}
 use Rattle.std.specs.Ordering.{nat_cmp}
@@ -10,7 +10,7 @@ use Rattle.ba_model.specs.declared.query.Operand.{Operand}
 use Rattle.ba_model.specs.declared.query.Operand.TheVariants.{Col, Val, Param, Var}
 use Rattle.ba_model.specs.declared.query.Part.{Part}
 use Rattle.ba_facts.specs.Known.{Known}
-use Rattle.ba_facts.specs.Matches.{AreTheSame, IsFactOf, IsLiveOf, IsMapping, IsUndecided, Under, row_of, terms_at}
+use Rattle.ba_facts.specs.Matches.{AreTheSame, GivesAtom, HeadIs, IsFactOf, IsLiveOf, IsMapping, IsUndecided, Under, row_of, terms_at}
 use Rattle.ba_facts.specs.Shown.{ShowsOf}
 use Rattle.ba_facts.specs.declared.branch.Branch.{Branch}
 use Rattle.ba_facts.specs.declared.matches.search.Wanted.{Wanted}
@@ -18,6 +18,7 @@ use Rattle.ba_facts.specs.declared.matches.search.Wanted.TheVariants.{Live, Show
 use Rattle.ba_facts.specs.declared.term.Mapping.{Mapping}
 use Rattle.ba_facts.specs.declared.term.Side.{Side}
 use Rattle.ba_facts.specs.declared.term.Term.{Term}
+use Rattle.ba_facts.specs.declared.term.TermAtom.{TermAtom}
 
 -- the comparison is what is wanted: live, or shown
 abbrev pub IsWanted : Known → Wanted → Op → Term → Term → Type 0
@@ -84,3 +85,30 @@ pub record IsAnsweredBelow (b : Branch) (side : Side) (part : Part) (wanted : Wa
   pub facts : List ℕ
   pub completes : CompletesBelow b side part wanted table from chosen bound facts
   pub head : AllZip (AreTheSame b.known) (row_of b facts part.head) row
+
+-- ---- the least round
+
+-- over the facts the head is the same as the row, where there is one, and the atom is one of the part's
+pub record HasAtom (b : Branch) (part : Part) (row : Option (List Term)) (atom : TermAtom) (facts : List ℕ) : Type 0 where
+  pub head : HeadIs b part facts row
+  pub stands : Any (GivesAtom (map (terms_at b) facts) atom) part.conds
+
+-- the chosen facts and one of each of these tables, as above, of which the atom is one of the part's
+pub record HasAtomFrom (b : Branch) (side : Side) (part : Part) (wanted : Wanted) (row : Option (List Term)) (atom : TermAtom)
+    (from chosen facts : List ℕ) : Type 0 where
+  pub completes : Completes b side part wanted from chosen facts
+  pub has : HasAtom b part row atom facts
+
+-- of them, those of which the first further fact is of a number below the bound
+pub record HasAtomBelow (b : Branch) (side : Side) (part : Part) (wanted : Wanted) (row : Option (List Term)) (atom : TermAtom) (table : ℕ)
+    (from chosen : List ℕ) (bound : ℕ) (facts : List ℕ) : Type 0 where
+  pub number : ℕ
+  pub below : number < bound
+  pub fact : IsFactOf b side table number
+  pub has : HasAtomFrom b side part wanted row atom from (chosen ++ number ∷ []) facts
+
+-- the lesser of two numbers, of those that are there
+abbrev pub lesser : Option ℕ → Option ℕ → Option ℕ
+lesser None m = m
+lesser (Some n) None = Some n
+lesser (Some n) (Some m) = Some (min n m)

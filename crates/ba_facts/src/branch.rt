@@ -5,6 +5,7 @@ ghost use Rattle.ba_facts.specs.Laws.{with_lesson};
 ghost use Rattle.ba_facts.specs.Shown.{Absurd, Refutes, Shows, TheSame};
 
 use crate::knowledge::Knowledge;
+use crate::shared::Shared;
 use crate::term::{Fact, Lesson, Side, Term, TermAtom};
 use ba_model::list::List;
 use ba_model::same::Duplicate;
@@ -19,25 +20,25 @@ const MOST_UNKNOWNS: usize = 0xffff_ffff;
 /// which is a row of the question on side One. The kinds are those of the parameters and variables.
 #[derive(Drop)]
 pub struct Branch {
-    pub params: List<Kind>,
-    pub vars: List<Kind>,
+    pub params: Shared<List<Kind>>,
+    pub vars: Shared<List<Kind>>,
     pub known: Knowledge,
-    pub facts: List<Fact>,
-    pub goal: List<Term>,
+    pub facts: List<Shared<Fact>>,
+    pub goal: Shared<List<Term>>,
 }
 
 impl Branch {
     /// A branch without facts, of which nothing is known, and with an empty goal row.
-    pub fn new(alloc: Global, params: List<Kind>, vars: List<Kind>) -> Branch
-        ensures { result ≡ record { params = params; vars = vars; known = record { unknowns = []; learned = [] }; facts = []; goal = [] } }
+    pub fn new(alloc: Global, params: List<Kind>, vars: List<Kind>) -> Result<Branch, AllocError>
+        ensures { IfOk result (λ it. it ≡ record { params = params; vars = vars; known = record { unknowns = []; learned = [] }; facts = []; goal = [] }) }
     {
-        Branch {
-            params,
-            vars,
+        Ok(Branch {
+            params: Shared::new(alloc, params)?,
+            vars: Shared::new(alloc, vars)?,
             known: Knowledge::new(alloc),
             facts: List::new(alloc),
-            goal: List::new(alloc),
-        }
+            goal: Shared::new(alloc, List::new(alloc))?,
+        })
     }
 
     /// Adds a row of a table on a side, with a new unknown for each column. Without memory nothing
@@ -61,12 +62,13 @@ impl Branch {
             return Err(AllocError);
         }
         let terms = unknown_terms(alloc, first, columns.len())?;
-        self.facts.push(Fact {
+        let fact = Fact {
             side,
             table,
             terms,
             round,
-        })?;
+        };
+        self.facts.push(Shared::new(alloc, fact)?)?;
         match self.known.add_unknowns(columns) {
             Ok(()) => Ok(()),
             Err(error) => {
@@ -132,13 +134,13 @@ impl Branch {
         self.known.absurd()
     }
 
-    /// The same branch.
+    /// The same branch. It shares the facts and what was learned with this one.
     pub fn copy(&self, alloc: Global) -> Result<Branch, AllocError>
         ensures { IfOk result (λ other. other ≡ self.now) }
     {
         Ok(Branch {
-            params: copy_kinds(alloc, &self.params)?,
-            vars: copy_kinds(alloc, &self.vars)?,
+            params: self.params.copy(alloc)?,
+            vars: self.vars.copy(alloc)?,
             known: self.known.copy(alloc)?,
             facts: self.facts.copy(alloc)?,
             goal: self.goal.copy(alloc)?,
@@ -156,14 +158,4 @@ fn unknown_terms(alloc: Global, first: usize, count: usize) -> Result<List<Term>
         terms.push(Term::Unknown((first + i) as u32))?;
     }
     Ok(List::from_vec(terms))
-}
-
-fn copy_kinds(alloc: Global, kinds: &List<Kind>) -> Result<List<Kind>, AllocError>
-    ensures { IfOk result (λ other. other ≡ kinds.now) }
-{
-    let mut all = Vec::new(alloc);
-    for kind in kinds.as_slice() {
-        all.push(*kind)?;
-    }
-    Ok(List::from_vec(all))
 }

@@ -2,6 +2,7 @@ ghost use Rattle.std.specs.Prelude.{◌≡◌, ◌∷◌, ◌++◌, ◌↔◌, �
 ghost use Rattle.ba_facts.specs.Known.{Chain, DifferentLiterals, OneClass, ShownGap, ShownNotNull, ShownNull, seen};
 ghost use Rattle.ba_facts.specs.Knowing.{IsThere, LessonIsThere, IsClashing, IsRising, sort_of};
 
+use crate::shared::Shared;
 use crate::term::{Lesson, Sort, TermRef};
 use crate::web::Web;
 use ba_model::same::Duplicate;
@@ -18,7 +19,7 @@ use std::marker::Model;
 #[derive(Drop)]
 pub struct Knowledge {
     unknowns: Vec<Sort>,
-    learned: Vec<Lesson>,
+    learned: Vec<Shared<Lesson>>,
     web: Web,
 }
 
@@ -53,7 +54,7 @@ impl Knowledge {
     }
 
     /// What was learned, the oldest first.
-    pub fn learned(&self) -> &[Lesson]
+    pub fn learned(&self) -> &[Shared<Lesson>]
         ensures { result.now ≡ self.now.learned }
     {
         &self.learned
@@ -79,6 +80,7 @@ impl Knowledge {
     {
         let alloc = *self.learned.allocator();
         self.learned.reserve(1)?;
+        let lesson = Shared::new(alloc, lesson)?;
         self.web.tell(alloc, &self.unknowns, &lesson)?;
         self.learned.push(lesson)?;
         Ok(())
@@ -133,7 +135,7 @@ impl Knowledge {
         self.web.is_rising()
     }
 
-    /// The same knowledge.
+    /// The same knowledge. It shares what was learned with this one.
     pub fn copy(&self, alloc: Global) -> Result<Knowledge, AllocError>
         ensures { IfOk result (λ other. other ≡ self.now) }
     {
@@ -157,7 +159,10 @@ fn sorts_of(alloc: Global, columns: &[Column]) -> Result<Vec<Sort>, AllocError>
         .collect(alloc)
 }
 
-fn copy_lessons(alloc: Global, lessons: &[Lesson]) -> Result<Vec<Lesson>, AllocError>
+fn copy_lessons(
+    alloc: Global,
+    lessons: &[Shared<Lesson>],
+) -> Result<Vec<Shared<Lesson>>, AllocError>
     ensures { IfOk result (λ it. it.items ≡ lessons.now) }
 {
     let mut copies = Vec::new(alloc);

@@ -17,6 +17,8 @@ mod matches;
 mod names;
 mod rises;
 mod same;
+pub mod shared;
+mod shared_order;
 mod shown;
 pub mod term;
 #[cfg(test)]

@@ -1,13 +1,15 @@
-ghost use Rattle.std.specs.Prelude.{◌≡◌, ◌≤◌, ◌↔◌, IfOk, IsTrue, length, map, option_map, slice_get};
+ghost use Rattle.std.specs.Prelude.{◌≡◌, ◌≤◌, ◌↔◌, IfOk, IsTrue, length, map, option_copied, option_map, slice_get};
 ghost use Rattle.ba_facts.specs.Known.{seen};
-ghost use Rattle.ba_facts.specs.Matches.{AreMatches, IsAnswered, IsLiveOf, IsShown, IsUndecided, row_of, term_of, terms_at};
+ghost use Rattle.ba_facts.specs.Matches.{AreMatches, IsAnswered, IsLiveAtom, IsLiveOf, IsShown, IsUndecided, LeastRound, row_of, term_of, terms_at};
 
 mod atoms;
+mod rounds;
 mod search;
 
 use crate::branch::Branch;
+use crate::matches::rounds::GivenAtom;
 use crate::matches::search::{GivenRow, Search, Wanted};
-use crate::term::{Mapping, Side, TermRef};
+use crate::term::{Mapping, Side, Term, TermAtom, TermRef};
 use arrayvec::ArrayVec;
 use ba_model::list::List;
 use ba_model::query::{Atom, Op, Operand, Part};
@@ -127,5 +129,28 @@ impl Branch {
         };
         let row = GivenRow { operands, facts };
         search.finds(part.from.as_slice(), &mut ArrayVec::new(), &row)
+    }
+
+    /// The least round of the live mappings of the part to facts of the side of which the atom is
+    /// one of the atoms, where a mapping's round is the greatest of its facts' rounds. Where a row
+    /// is given, the part's head must be the same as it. `None` where there is no such mapping.
+    pub fn least_round(
+        &self,
+        part: &Part,
+        side: Side,
+        row: Option<&List<Term>>,
+        atom: &TermAtom,
+    ) -> Option<u32>
+        requires { length part.now.from ≤ 8 }
+        ensures { LeastRound self.now (IsLiveAtom self.now side part.now (option_copied row.entry) atom.now) result }
+    {
+        let search = Search {
+            branch: self,
+            side,
+            part,
+            wanted: Wanted::Live,
+        };
+        let given = GivenAtom { row, atom };
+        search.least_from(part.from.as_slice(), &mut ArrayVec::new(), &given)
     }
 }

@@ -1,5 +1,5 @@
 //! Numbers of terms.
-ghost use Rattle.std.specs.Prelude.{◌≡◌, ◌≢◌, ℕ, ◌↔◌, ◌<◌, ◌^◌, [], ◌∷◌, ◌++◌, length, slice_get, Some, None, IsTrue, IfOk, OnOk, OnErr};
+ghost use Rattle.std.specs.Prelude.{◌≡◌, ◌≢◌, ℕ, ◌↔◌, ◌<◌, ◌^◌, [], ◌∷◌, ◌++◌, length, slice_get, slice_index_or, Some, None, IsTrue, IfOk, OnOk, OnErr};
 ghost use Rattle.ba_facts.specs.Known.{seen};
 ghost use Rattle.ba_facts.specs.Naming.{number_in};
 ghost use Rattle.ba_facts.specs.declared.term.Term.{Term};
@@ -45,7 +45,7 @@ impl TermRef<'_> {
 /// The numbers of terms: of unknowns, parameters and variables by theirs, and of literals by value.
 #[derive(Drop)]
 pub(crate) struct Numbers {
-    unknowns: BTreeMap<u32, u32>,
+    unknowns: Vec<Option<u32>>,
     values: BTreeMap<Value, u32>,
     params: BTreeMap<u32, u32>,
     vars: BTreeMap<u32, u32>,
@@ -56,7 +56,7 @@ impl Numbers {
         ensures { (t : Term) → number_in result t ≡ None }
     {
         Numbers {
-            unknowns: BTreeMap::new(alloc),
+            unknowns: Vec::new(alloc),
             values: BTreeMap::new(alloc),
             params: BTreeMap::new(alloc),
             vars: BTreeMap::new(alloc),
@@ -67,7 +67,7 @@ impl Numbers {
         ensures { result ≡ number_in self.now (seen term.entry) }
     {
         match term {
-            TermRef::Unknown(n) => self.unknowns.get(&n).copied(),
+            TermRef::Unknown(n) => number_at(&self.unknowns, n),
             TermRef::Val(value) => self.values.get(value).copied(),
             TermRef::Param(n) => self.params.get(&n).copied(),
             TermRef::Var(n) => self.vars.get(&n).copied(),
@@ -83,7 +83,7 @@ impl Numbers {
     {
         match term {
             TermRef::Unknown(n) => {
-                self.unknowns.insert(n, number)?;
+                set_number(&mut self.unknowns, n, number)?;
             }
             TermRef::Val(value) => {
                 self.values.insert(value.copy(alloc)?, number)?;
@@ -97,6 +97,30 @@ impl Numbers {
         }
         Ok(())
     }
+}
+
+fn number_at(numbers: &[Option<u32>], n: u32) -> Option<u32>
+    ensures { result ≡ slice_index_or numbers.now n None }
+{
+    match numbers.get(n as usize) {
+        Some(number) => *number,
+        None => None,
+    }
+}
+
+// Puts the number at a place. Without memory no number changes.
+fn set_number(numbers: &mut Vec<Option<u32>>, n: u32, number: u32) -> Result<(), AllocError>
+    ensures here { OnOk result (slice_index_or numbers.new.items n None ≡ Some number) }
+    ensures apart { OnOk result ((m : ℕ) →
+        m ≢ n → slice_index_or numbers.new.items m None ≡ slice_index_or numbers.old.items m None) }
+    ensures err { OnErr result (numbers.new.items ≡ numbers.old.items) }
+{
+    let place = n as usize;
+    if numbers.len() <= place {
+        numbers.resize(place + 1, None)?;
+    }
+    numbers[place] = Some(number);
+    Ok(())
 }
 
 /// Different terms, numbered from 0 in the order in which they came.

@@ -4,23 +4,31 @@ ghost use Rattle.ba_facts.specs.Rises.{Agrees, IsAgreed, rise_fact};
 ghost use Rattle.ba_facts.specs.Webs.{RisesBy};
 
 use crate::marks::Place;
-use ba_classes::order::Order;
+use crate::shared_order::SharedOrder;
 use std::alloc::{AllocError, Global};
 
 /// Whether what is at `low` plus `gap` is shown to be at most what is at `high`.
-pub(crate) fn rises(order: &Order, low: Place, gap: u32, high: Place) -> bool
+pub(crate) fn rises(order: &SharedOrder, low: Place, gap: u32, high: Place) -> bool
     ensures { IsTrue result ↔ RisesBy order.now low (pos gap) high }
 {
-    order.shows(low.node, between(low, gap, high), high.node)
+    order
+        .get()
+        .shows(low.node, between(low, gap, high), high.node)
 }
 
 /// Adds the fact that what is at `low` plus `gap` is at most what is at `high`. Without memory
 /// nothing changes.
-pub(crate) fn raise(order: &mut Order, low: Place, gap: u32, high: Place) -> Result<(), AllocError>
+pub(crate) fn raise(
+    alloc: Global,
+    order: &mut SharedOrder,
+    low: Place,
+    gap: u32,
+    high: Place,
+) -> Result<(), AllocError>
     ensures ok { OnOk result (order.new ≡ order.old ++ rise_fact low (pos gap) high ∷ []) }
     ensures err { OnErr result (order.new ≡ order.old) }
 {
-    order.add(low.node, between(low, gap, high), high.node)
+    order.add(alloc, low.node, between(low, gap, high), high.node)
 }
 
 fn between(low: Place, gap: u32, high: Place) -> i128
@@ -34,10 +42,10 @@ fn between(low: Place, gap: u32, high: Place) -> i128
 /// The order in which the places of two classes that become one are equal, if it is another.
 pub(crate) fn agreed(
     alloc: Global,
-    order: &Order,
+    order: &SharedOrder,
     left: Option<Place>,
     right: Option<Place>,
-) -> Result<Option<Order>, AllocError>
+) -> Result<Option<SharedOrder>, AllocError>
     ensures { IfOk result (λ it. IsAgreed order.now (unwrap_or it order.now) left right) }
 {
     match (left, right) {
@@ -48,23 +56,23 @@ pub(crate) fn agreed(
 
 fn made_equal(
     alloc: Global,
-    order: &Order,
+    order: &SharedOrder,
     left: Place,
     right: Place,
-) -> Result<Option<Order>, AllocError>
+) -> Result<Option<SharedOrder>, AllocError>
     ensures { IfOk result (λ it. Agrees order.now (unwrap_or it order.now) left right) }
 {
     if rises(order, left, 0, right) && rises(order, right, 0, left) {
         return Ok(None);
     }
     let mut equal = order.copy(alloc)?;
-    raise(&mut equal, left, 0, right)?;
-    raise(&mut equal, right, 0, left)?;
+    raise(alloc, &mut equal, left, 0, right)?;
+    raise(alloc, &mut equal, right, 0, left)?;
     Ok(Some(equal))
 }
 
 /// Puts the new order, if there is one, in the place of the old one.
-pub(crate) fn replace(order: &mut Order, new: Option<Order>)
+pub(crate) fn replace(order: &mut SharedOrder, new: Option<SharedOrder>)
     ensures { order.new ≡ unwrap_or new order.old }
 {
     if let Some(new) = new {

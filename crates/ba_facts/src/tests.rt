@@ -1,4 +1,5 @@
 mod cases;
 mod knowledge;
 mod matches;
+mod rounds;
 mod shown;

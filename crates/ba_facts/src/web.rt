@@ -18,8 +18,8 @@ use crate::marking::{deny, mark_of, set_mark};
 use crate::marks::{Literals, Mark, Place, own_not_null, own_place};
 use crate::names::Names;
 use crate::rises::{agreed, raise, replace, rises};
+use crate::shared_order::SharedOrder;
 use crate::term::{Lesson, Sort, TermAtom, TermRef};
-use ba_classes::order::Order;
 use ba_model::query::Op;
 use ba_model::value::Value;
 use std::alloc::{AllocError, Global};
@@ -31,7 +31,7 @@ pub(crate) struct Web {
     names: Names,
     classes: Groups,
     marks: Vec<Mark>,
-    order: Order,
+    order: SharedOrder,
     /// Whether some class has two literals.
     several: bool,
 }
@@ -44,7 +44,7 @@ impl Web {
             names: Names::new(alloc),
             classes: Groups::new(),
             marks: Vec::new(alloc),
-            order: Order::new(alloc),
+            order: SharedOrder::new(alloc),
             several: false,
         }
     }
@@ -158,7 +158,7 @@ impl Web {
 
     /// Records that one term plus `gap` is at most another, and that neither is NULL. Without
     /// memory what is known stays.
-    pub(crate) fn rise(&mut self, x: u32, gap: u32, y: u32) -> Result<(), AllocError>
+    pub(crate) fn rise(&mut self, alloc: Global, x: u32, gap: u32, y: u32) -> Result<(), AllocError>
         requires some { IsSomeWeb self.old }
         requires left { x < length self.old.names }
         requires right { y < length self.old.names }
@@ -169,7 +169,7 @@ impl Web {
     {
         let low = self.place(x);
         let high = self.place(y);
-        raise(&mut self.order, low, gap, high)?;
+        raise(alloc, &mut self.order, low, gap, high)?;
         deny(&self.classes, &mut self.marks, x);
         deny(&self.classes, &mut self.marks, y);
         Ok(())
@@ -260,7 +260,7 @@ impl Web {
     {
         let x = self.number(alloc, unknowns, a)?;
         let y = self.number(alloc, unknowns, b)?;
-        self.rise(x, gap, y)?;
+        self.rise(alloc, x, gap, y)?;
         Ok(())
     }
 
@@ -454,7 +454,7 @@ impl Web {
     pub(crate) fn is_rising(&self) -> bool
         ensures { (k : Known) → IsWeb k self.now → IsTrue result ↔ IsRising k }
     {
-        self.order.absurd()
+        self.order.get().absurd()
     }
 
     /// The same web.

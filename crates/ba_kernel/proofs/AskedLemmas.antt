@@ -109,7 +109,7 @@ module _ (policy : Policy) (c : Context) (trace : List TraceEntry) (q : Query) w
       let p = problem_of policy c trace q in
       All-map (EntryFits p) (entry_of it.query) it.rows
       (All-weaker (AllZip MayBeOfKind (h.query).kinds) (λ row. EntryFits p (entry_of it.query row))
-      (λ row fits. record { query = h.query; row = row_fits p (h.query).kinds row fits }) it.rows h.rows)
+      (λ row fits. record { query = h.query; within = h.within; row = row_fits p (h.query).kinds row fits }) it.rows h.rows)
 
   records_fit : (some : List TraceEntry) → All (RecordFits policy) some → All (EntryFits (problem_of policy c trace q)) (flat_map entries_of some)
   records_fit [] h = All-nil (EntryFits (problem_of policy c trace q))
@@ -123,6 +123,8 @@ question_is_problem policy c trace q h =
       links = h.links;
       rules = h.rules;
       policy = h.views;
+      views_within = h.views_within;
+      goal_within = h.within;
       goal = h.asked;
       entries = records_fit policy c trace q trace h.trace_fits;
       assumed = params_fit policy.schema (kinds_of policy.params) (kinds_of policy.params) c.values 0

@@ -15,13 +15,13 @@ use Rattle.ba_comply.specs.Comply.{AnswerWithin}
 use Rattle.ba_comply.specs.declared.trace.TraceEntry.{TraceEntry}
 use Rattle.ba_facts.specs.Fits.{Fits, FitsAt, Instance, database_of, value_of_term}
 use Rattle.ba_facts.specs.Laws.{AbsurdHasNoFit, NotNullIsTrue, SameIsTrue, ShownIsTrueOfValues}
-use Rattle.ba_facts.specs.Matches.{term_of}
+use Rattle.ba_facts.specs.Matches.{round_of, term_of}
 use Rattle.ba_facts.specs.declared.branch.Branch.{Branch}
 use Rattle.ba_facts.specs.declared.term.Side.{Side}
 use Rattle.ba_facts.specs.declared.term.Side.TheVariants.{One, Two}
 use Rattle.ba_facts.specs.declared.term.Term.{Term}
 use Rattle.ba_kernel.specs.Courses.{ProblemFits, RuleFits}
-use Rattle.ba_kernel.specs.Effects.{EntryLeads, IsCase, RuleLeads, ViewLeads, round_of}
+use Rattle.ba_kernel.specs.Effects.{EntryLeads, IsCase, RuleLeads, ViewLeads}
 use Rattle.ba_kernel.specs.Problems.{Breaks, IsEntryAt, IsInstance, IsTraceAt, fixed_value, part_at, query_at}
 use Rattle.ba_kernel.specs.Soundness.{CaseKeepsFit, StepKeepsFit, YieldsIsTrue}
 use Rattle.ba_kernel.specs.declared.problem.Problem.{Problem}

@@ -1,5 +1,5 @@
 -- What a step makes of a branch: the cases that take its place.
-use Rattle.std.specs.Prelude.{◌≡◌, ℕ, ◌+◌, max, List, [], ◌∷◌, ◌++◌, All, Any, ◌⊎◌, Contains, map, length, Option, Some, slice_get, unwrap_or, option_and_then, option_map}
+use Rattle.std.specs.Prelude.{◌≡◌, ℕ, ◌+◌, List, [], ◌∷◌, ◌++◌, All, Any, ◌⊎◌, Contains, map, length, Option, Some, slice_get, option_and_then, option_map}
 use Rattle.std.specs.List.{AllZip, range_with_len, zip}
 use Rattle.ba_model.specs.SchemaFaults.{columns_of}
 use Rattle.ba_model.specs.declared.policy.View.{View}
@@ -19,7 +19,7 @@ use Rattle.ba_model.specs.declared.value.Value.{Value}
 use Rattle.ba_facts.specs.Known.{ShownNotNull}
 use Rattle.ba_facts.specs.Knowing.{sort_of}
 use Rattle.ba_facts.specs.Laws.{kind_of_term, TermOpFits}
-use Rattle.ba_facts.specs.Matches.{AreTheSame, IsMapping, IsShown, row_of, term_of, terms_at}
+use Rattle.ba_facts.specs.Matches.{AreTheSame, IsMapping, IsShown, round_of, row_of, term_of, terms_at}
 use Rattle.ba_facts.specs.Shown.{Absurd, IsEqual, NeitherNull}
 use Rattle.ba_facts.specs.declared.branch.Branch.{Branch}
 use Rattle.ba_facts.specs.declared.term.Fact.{Fact}
@@ -81,11 +81,6 @@ pub record Yields (b : Branch) (side : Side) (part : Part) (facts : List ℕ) (r
   pub mapping : IsMapping b side part.from facts
   pub shown : All (IsShown b.known (rows_at b facts)) part.conds
   pub head : row_of b facts part.head ≡ map Some row
-
--- the greatest round of the facts
-abbrev pub round_of : Branch → List ℕ → ℕ
-round_of b [] = 0
-round_of b (n ∷ facts) = max (unwrap_or (option_map (λ fact. fact.round) (slice_get b.facts n)) 0) (round_of b facts)
 
 -- `=` is shown of two terms
 pub record AreEqualAt (b : Branch) (left right : List Term) (column : ℕ) : Type 0 where

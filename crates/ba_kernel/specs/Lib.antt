@@ -3,4 +3,8 @@ pub mod Effects
 pub mod Refusals
 pub mod Courses
 pub mod Soundness
+pub mod Tests
+pub mod Tidy
+pub mod News
+pub mod NewParts
 pub mod Asked

@@ -2,6 +2,7 @@
 ghost use Rattle.ba_kernel.specs.Courses.{ClosedIsStrong, RunsAreSound};
 ghost use Rattle.ba_kernel.specs.Problems.{ProblemIsQuestion};
 ghost use Rattle.ba_kernel.specs.Soundness.{CaseKeepsFit, StartFits, StepKeepsFit};
+ghost use Rattle.ba_kernel.specs.Tests.{RunsAreTidy};
 
 use ba_facts::laws::{
     absurd_has_no_fit, not_null_is_true, same_is_true, shown_is_true_of_values,
@@ -47,6 +48,12 @@ pub fn closed_is_strong()
     step_keeps_fit();
     strong_has_no_violation();
 }
+
+/// The open branches of a course have facts of tables of the schema, one term for each column, and
+/// know of all their terms.
+pub fn runs_are_tidy()
+    ensures { RunsAreTidy }
+{}
 
 /// A question is strongly compliant after a trace where each instance of its problem is: the problem
 /// without variables, in which each parameter has its value in the context, with one entry for each

@@ -1,12 +1,17 @@
-//! Problems, the steps of a derivation, and why each step is sound.
+//! The proof kernel: problems, the steps of a derivation, and what a derivation proves.
 //!
-//! A derivation keeps the cases of a proof as branches. Whatever two databases break strong
-//! compliance (Blockaid, OSDI 2022) fit one of the branches, so that a derivation that closes all of
-//! them proves it.
+//! A [`search::Search`] keeps the cases of a proof as branches, and keeps in its type that every
+//! two databases that break strong compliance fit one of them. A [`proved::Proved`] is a search that
+//! has none left (the condition is that of Blockaid, OSDI 2022).
 #![tactic(auto)]
 
+mod cases;
+mod fact;
 pub mod laws;
+mod news;
+mod passes;
 pub mod problem;
+pub mod proved;
+pub mod search;
+mod start;
 pub mod step;
-#[cfg(test)]
-mod tests;

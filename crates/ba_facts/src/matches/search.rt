@@ -125,7 +125,7 @@ impl<'a> Search<'a> {
     }
 
     /// Whether the number is that of a fact of the table on the side.
-    fn is_fact(&self, table: u32, number: usize) -> bool
+    pub fn is_fact(&self, table: u32, number: usize) -> bool
         ensures { IsTrue result ↔ IsFactOf self.now.branch.now self.now.side table number }
     {
         match self.branch.facts.find(number) {

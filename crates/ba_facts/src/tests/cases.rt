@@ -8,8 +8,10 @@
 ghost use Rattle.std.specs.Prelude.{◌↔◌, IsTrue};
 ghost use Rattle.ba_facts.specs.Knowing.{IsThere};
 
+use crate::branch::Branch;
 use crate::knowledge::Knowledge;
 use crate::term::{Term, TermAtom};
+use ba_model::list::List;
 use ba_model::query::Op;
 use ba_model::schema::{Column, Kind};
 use ba_model::text::Str;
@@ -29,6 +31,7 @@ fn term(alloc: Global, letter: char) -> Result<Term, AllocError> {
         'n' => Ok(Term::Unknown(4)),
         't' => Ok(Term::Unknown(5)),
         'u' => Ok(Term::Unknown(6)),
+        'w' => Ok(Term::Unknown(7)),
         'p' => Ok(Term::Param(0)),
         'v' => Ok(Term::Var(0)),
         'N' => Ok(Term::Val(Value::Null)),
@@ -77,32 +80,69 @@ pub(super) fn is_there(known: &Knowledge, term: &Term) -> bool
     }
 }
 
-fn column(alloc: Global, kind: Kind, nullable: bool) -> Result<Column, AllocError> {
-    Ok(Column {
-        name: Str::new(alloc, "c")?,
-        kind,
-        nullable,
-    })
+/// A column whose letter stands for its values as the letters of terms do.
+fn column(alloc: Global, letter: char) -> Column {
+    Column {
+        name: Str::from_string(String::new(alloc)),
+        kind: if letter == 't' { Kind::Text } else { Kind::Int },
+        nullable: letter != 'm',
+    }
+}
+
+pub(super) fn columns(alloc: Global, letters: &str) -> Result<Vec<Column>, AllocError> {
+    let mut columns = Vec::new(alloc);
+    for letter in letters.chars() {
+        columns.push(column(alloc, letter))?;
+    }
+    Ok(columns)
 }
 
 /// Adds the unknowns that the letters stand for.
 pub(super) fn add_unknowns(alloc: Global, known: &mut Knowledge) -> Result<(), AllocError> {
-    let mut columns = Vec::new(alloc);
-    for (kind, nullable) in [
-        (Kind::Int, true),
-        (Kind::Int, true),
-        (Kind::Int, true),
-        (Kind::Int, false),
-        (Kind::Int, false),
-        (Kind::Text, true),
-        (Kind::Text, true),
-    ] {
-        columns.push(column(alloc, kind, nullable)?)?;
-    }
+    let columns = columns(alloc, "xxxmmtt")?;
     known.add_unknowns(&columns)
+}
+
+fn kinds(alloc: Global) -> Result<List<Kind>, AllocError> {
+    let mut kinds = Vec::new(alloc);
+    kinds.push(Kind::Int)?;
+    Ok(List::from_vec(kinds))
+}
+
+/// A branch of which nothing is known, with a parameter, a variable and no unknowns.
+pub(super) fn empty(alloc: Global) -> Result<Branch, AllocError> {
+    Branch::new(alloc, kinds(alloc)?, kinds(alloc)?)
+}
+
+fn learn(alloc: Global, branch: &mut Branch, letters: &str) -> Result<(), AllocError> {
+    let (left, sign, right) = said(alloc, letters)?;
+    if !is_there(&branch.known, &left) || !is_there(&branch.known, &right) {
+        return Err(AllocError);
+    }
+    if sign == '~' {
+        branch.equate(left, right)
+    } else {
+        branch.assume(TermAtom {
+            op: op(sign),
+            left,
+            right,
+        })
+    }
+}
+
+/// Teaches the branch these in turn.
+pub(super) fn learn_all(
+    alloc: Global,
+    branch: &mut Branch,
+    learned: &str,
+) -> Result<(), AllocError> {
+    for letters in learned.split_whitespace() {
+        learn(alloc, branch, letters)?;
+    }
+    Ok(())
 }
 
 /// A column of the line.
 pub(super) fn column_of(line: &str, number: usize) -> &str {
-    line.split('|').nth(number).unwrap_or("")
+    line.split('|').nth(number).unwrap_or("").trim()
 }

@@ -21,7 +21,8 @@ fn lesson(alloc: Global, letters: &str) -> Result<Lesson, AllocError> {
     }
 }
 
-fn learn(known: &mut Knowledge, lesson: Lesson) -> Result<(), AllocError> {
+fn learn(alloc: Global, known: &mut Knowledge, letters: &str) -> Result<(), AllocError> {
+    let lesson = lesson(alloc, letters)?;
     let there = match &lesson {
         Lesson::Same(left, right) => is_there(known, left) && is_there(known, right),
         Lesson::Holds(atom) => is_there(known, &atom.left) && is_there(known, &atom.right),
@@ -33,16 +34,13 @@ fn learn(known: &mut Knowledge, lesson: Lesson) -> Result<(), AllocError> {
     }
 }
 
-/// What is known with unknowns for the letters, once these were learned in turn.
-fn knowledge(alloc: Global, learned: &str) -> Result<Knowledge, AllocError> {
-    let mut known = Knowledge::new(alloc);
-    add_unknowns(alloc, &mut known)?;
-    for letters in learned.split(' ') {
-        if !letters.is_empty() {
-            learn(&mut known, lesson(alloc, letters)?)?;
-        }
+/// Gives an empty knowledge unknowns for the letters, and teaches it these in turn.
+fn tell(alloc: Global, known: &mut Knowledge, learned: &str) -> Result<(), AllocError> {
+    add_unknowns(alloc, known)?;
+    for letters in learned.split_whitespace() {
+        learn(alloc, known, letters)?;
     }
-    Ok(known)
+    Ok(())
 }
 
 fn answer(known: &Knowledge, left: &Term, sign: char, right: &Term) -> bool {
@@ -56,6 +54,11 @@ fn answer(known: &Knowledge, left: &Term, sign: char, right: &Term) -> bool {
     }
 }
 
+fn answer_of(alloc: Global, known: &Knowledge, letters: &str) -> Result<bool, AllocError> {
+    let (left, sign, right) = said(alloc, letters)?;
+    Ok(answer(known, &left, sign, &right))
+}
+
 /// Whether each of the questions has this answer.
 fn answers(
     alloc: Global,
@@ -63,12 +66,9 @@ fn answers(
     questions: &str,
     want: bool,
 ) -> Result<bool, AllocError> {
-    for letters in questions.split(' ') {
-        if !letters.is_empty() {
-            let (left, sign, right) = said(alloc, letters)?;
-            if answer(known, &left, sign, &right) != want {
-                return Ok(false);
-            }
+    for letters in questions.split_whitespace() {
+        if answer_of(alloc, known, letters)? != want {
+            return Ok(false);
         }
     }
     Ok(true)
@@ -84,22 +84,38 @@ fn tells(alloc: Global, known: &Knowledge, line: &str) -> Result<bool, AllocErro
 }
 
 /// Whether they are right of a copy, while the original learns what can't be true.
-fn copy_tells(alloc: Global, mut known: Knowledge, line: &str) -> Result<bool, AllocError> {
+fn copy_tells(alloc: Global, known: &mut Knowledge, line: &str) -> Result<bool, AllocError> {
     let copy = known.copy(alloc)?;
-    learn(&mut known, lesson(alloc, "5<3")?)?;
+    learn(alloc, known, "5<3")?;
     tells(alloc, &copy, line)
 }
 
 /// Whether they are right of what was learned, and of a copy of it.
+fn both_tell(alloc: Global, known: &mut Knowledge, line: &str) -> Result<bool, AllocError> {
+    tell(alloc, known, column_of(line, 0))?;
+    let told = tells(alloc, known, line)?;
+    let copied = copy_tells(alloc, known, line)?;
+    Ok(told && copied)
+}
+
 fn agrees(alloc: Global, line: &str) -> Result<bool, AllocError> {
-    let known = knowledge(alloc, column_of(line, 0))?;
-    let told = tells(alloc, &known, line)?;
-    Ok(told && copy_tells(alloc, known, line)?)
+    let mut known = Knowledge::new(alloc);
+    both_tell(alloc, &mut known, line)
+}
+
+/// The first line that isn't right.
+fn wrong(alloc: Global, lines: &str) -> Result<Option<&str>, AllocError> {
+    for line in lines.split('\n') {
+        if !agrees(alloc, line)? {
+            return Ok(Some(line));
+        }
+    }
+    Ok(None)
 }
 
 #[test]
 fn classes(rt: HostRuntime) -> Result<(), Fail> {
-    let lines = "
+    let lines = "\
 | x~x 3~3 A~A N~N 3#5 A#B A#3 3#N | x~y 3~5 A~3 p~v 3#3 A#A N#N x#3 p#v |
 | x0x 303 325 315 A0A N0N | x0y x1x 313 335 503 A0B N03 A03 m0n p0v |
 x~y | x~y y~x x0y y0x | x~z x1y x#y |
@@ -113,15 +129,13 @@ x=3 y=5 z~y x~z | x~y x#x y#3 z#5 x9z | m#m m9m | CR
 t=A u=B | t#u t#B u#A t#3 | t~u t#A t0u A0u |
 t=A u=B t~u | A~B t#t u#A t0B | t1B x#x | C
 t=A x~t x=3 | A~3 t#A x03 | x13 t#u | C";
-    for line in lines.split('\n') {
-        assert!(rt; agrees(rt.alloc(), line)?, "{line}");
-    }
+    assert_eq!(rt; wrong(rt.alloc(), lines)?, None);
     Ok(())
 }
 
 #[test]
 fn null_and_not_null(rt: HostRuntime) -> Result<(), Fail> {
-    let lines = "
+    let lines = "\
 | m!m p!p v!v 3!3 A!A N?N | x!x x?x t!t N!N 3?3 m?m p?p |
 x~y | | x!x y!y x?x |
 x~m | x!x | x?x y!y |
@@ -140,15 +154,13 @@ m?m | m?m m!m N!N | n?n | C
 p~N | p?p p!p | v?v | C
 x=N | x?x x!x | y!y | C
 x≠N | x!x N!N | x?x x~N | C";
-    for line in lines.split('\n') {
-        assert!(rt; agrees(rt.alloc(), line)?, "{line}");
-    }
+    assert_eq!(rt; wrong(rt.alloc(), lines)?, None);
     Ok(())
 }
 
 #[test]
 fn chains(rt: HostRuntime) -> Result<(), Fail> {
-    let lines = "
+    let lines = "\
 x≤y y=5 8<z z≤m | x4m x16 63m x0z | x0n m0n x5m x26 64m m0x |
 x≤y y=5 8<z z≤m m~n | x4n x16 63n | x5n x26 64n n0x |
 x≤y y=5 8<z z≤m m~n n<9 | x9n n9y | n0x | R
@@ -168,18 +180,31 @@ x<y y~z z≤x | x9z y1z | | R
 x<x | x9x | x0y | R
 5<3 | 390 308 | x1x | R
 5≤3 | 395 309 | x1x | R";
-    for line in lines.split('\n') {
-        assert!(rt; agrees(rt.alloc(), line)?, "{line}");
-    }
+    assert_eq!(rt; wrong(rt.alloc(), lines)?, None);
     Ok(())
+}
+
+fn counts(known: &Knowledge) -> (usize, usize) {
+    (known.learned().len(), known.unknowns().len())
+}
+
+/// Whether what is known stays when there are more unknowns.
+fn stays(alloc: Global, known: &mut Knowledge, line: &str) -> Result<bool, AllocError> {
+    tell(alloc, known, column_of(line, 0))?;
+    let before = counts(known);
+    add_unknowns(alloc, known)?;
+    let told = tells(alloc, known, line)?;
+    Ok(told && before == (3, 7) && counts(known) == (3, 14))
+}
+
+fn stays_as_learned(alloc: Global, line: &str) -> Result<bool, AllocError> {
+    let mut known = Knowledge::new(alloc);
+    stays(alloc, &mut known, line)
 }
 
 #[test]
 fn more_unknowns(rt: HostRuntime) -> Result<(), Fail> {
-    let mut known = knowledge(rt.alloc(), "x?x y<5 t~A")?;
-    assert!(rt; known.learned().len() == 3 && known.unknowns().len() == 7);
-    add_unknowns(rt.alloc(), &mut known)?;
-    assert!(rt; known.learned().len() == 3 && known.unknowns().len() == 14);
-    assert!(rt; tells(rt.alloc(), &known, "| x?x y!y m!m y04 t~A | y14 y?y x!x |")?);
+    let line = "x?x y<5 t~A | x?x y!y m!m y04 t~A | y14 y?y x!x |";
+    assert!(rt; stays_as_learned(rt.alloc(), line)?);
     Ok(())
 }

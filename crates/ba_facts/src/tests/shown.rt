@@ -1,62 +1,36 @@
 //! What a branch shows, what it refutes, and which branches are absurd, worked out by hand.
 
-use super::cases::{add_unknowns, atom, column_of, is_there, op, said};
+use super::cases::{add_unknowns, atom, column_of, empty, learn_all};
 use crate::branch::Branch;
-use crate::term::TermAtom;
-use ba_model::list::List;
-use ba_model::schema::Kind;
 use std::alloc::{AllocError, Global};
 use std::test::Fail;
 
-fn learn(alloc: Global, branch: &mut Branch, letters: &str) -> Result<(), AllocError> {
-    let (left, sign, right) = said(alloc, letters)?;
-    if !is_there(&branch.known, &left) || !is_there(&branch.known, &right) {
-        return Err(AllocError);
-    }
-    if sign == '~' {
-        branch.equate(left, right)
-    } else {
-        branch.assume(TermAtom {
-            op: op(sign),
-            left,
-            right,
-        })
-    }
-}
-
-/// A branch with unknowns for the letters, of which nothing is known.
-fn empty(alloc: Global) -> Result<Branch, AllocError> {
-    let params = List::from_vec(vec![in alloc; Kind::Int]?);
-    let vars = List::from_vec(vec![in alloc; Kind::Int]?);
-    let mut branch = Branch::new(alloc, params, vars);
+/// Gives an empty branch unknowns for the letters, and teaches it these in turn.
+fn tell(alloc: Global, branch: &mut Branch, learned: &str) -> Result<(), AllocError> {
     add_unknowns(alloc, &mut branch.known)?;
-    Ok(branch)
+    learn_all(alloc, branch, learned)
 }
 
-/// The branch that learned these in turn.
-fn branch(alloc: Global, learned: &str) -> Result<Branch, AllocError> {
-    let mut branch = empty(alloc)?;
-    for letters in learned.split(' ') {
-        if !letters.is_empty() {
-            learn(alloc, &mut branch, letters)?;
-        }
-    }
-    Ok(branch)
+/// Whether the atom is shown or not, and refuted or not, as is wanted.
+fn is_told(
+    alloc: Global,
+    branch: &Branch,
+    letters: &str,
+    want: (bool, bool),
+) -> Result<bool, AllocError> {
+    let atom = atom(alloc, letters)?;
+    Ok(branch.shows(&atom) == want.0 && branch.refutes(&atom) == want.1)
 }
 
-/// Whether each of the atoms is shown or not, and refuted or not, as is wanted.
 fn are_told(
     alloc: Global,
     branch: &Branch,
     atoms: &str,
     want: (bool, bool),
 ) -> Result<bool, AllocError> {
-    for letters in atoms.split(' ') {
-        if !letters.is_empty() {
-            let atom = atom(alloc, letters)?;
-            if branch.shows(&atom) != want.0 || branch.refutes(&atom) != want.1 {
-                return Ok(false);
-            }
+    for letters in atoms.split_whitespace() {
+        if !is_told(alloc, branch, letters, want)? {
+            return Ok(false);
         }
     }
     Ok(true)
@@ -71,42 +45,75 @@ fn tells(alloc: Global, branch: &Branch, line: &str) -> Result<bool, AllocError>
     Ok(shown && refuted && open)
 }
 
-/// The same of the branch that learned the line's first atoms.
-fn agrees(alloc: Global, line: &str) -> Result<bool, AllocError> {
-    let branch = branch(alloc, column_of(line, 0))?;
-    tells(alloc, &branch, line)
+fn are_same(alloc: Global, branch: &Branch, letters: &str) -> Result<bool, AllocError> {
+    let atom = atom(alloc, letters)?;
+    Ok(branch.same(&atom.left, &atom.right))
+}
+
+/// What a line of a table says of the branch that learned its first column.
+#[derive(Clone, Copy)]
+enum Table {
+    /// The atoms that it shows alone, those that it refutes alone, and some that it does neither of.
+    Atoms,
+    /// Two terms, and `yes` if they are the same.
+    Same,
+    /// `yes` if it is absurd.
+    Absurd,
+}
+
+fn is_so(alloc: Global, branch: &mut Branch, table: Table, line: &str) -> Result<bool, AllocError> {
+    tell(alloc, branch, column_of(line, 0))?;
+    match table {
+        Table::Atoms => tells(alloc, branch, line),
+        Table::Same => {
+            let same = are_same(alloc, branch, column_of(line, 1))?;
+            Ok(same == column_of(line, 2).contains("yes"))
+        }
+        Table::Absurd => Ok(branch.absurd() == column_of(line, 1).contains("yes")),
+    }
+}
+
+fn agrees(alloc: Global, table: Table, line: &str) -> Result<bool, AllocError> {
+    let mut branch = empty(alloc)?;
+    is_so(alloc, &mut branch, table, line)
+}
+
+/// The first line that isn't so.
+fn wrong<'a>(alloc: Global, table: Table, lines: &'a str) -> Result<Option<&'a str>, AllocError> {
+    for line in lines.split('\n') {
+        if !agrees(alloc, table, line)? {
+            return Ok(Some(line));
+        }
+    }
+    Ok(None)
 }
 
 #[test]
 fn literals_and_null(rt: HostRuntime) -> Result<(), Fail> {
-    let lines = "
+    let lines = "\
 | 3=3 A=A 3≠5 5≠3 A≠B 3<5 3≤3 3≤5 3!3 | 3=5 A=B A=3 3≠3 5<3 3<3 5≤3 3?3 |
 | N?N | N=N N=3 m=N N≠3 3≠N N<3 3<N N≤N N!N |
 x?x | x?x | x!x x=x m≠x x<m m≤x | y?y
 x?x y~x | y?y | y≤y |";
-    for line in lines.split('\n') {
-        assert!(rt; agrees(rt.alloc(), line)?, "{line}");
-    }
+    assert_eq!(rt; wrong(rt.alloc(), Table::Atoms, lines)?, None);
     Ok(())
 }
 
 #[test]
 fn what_may_be_null_is_not_shown_equal(rt: HostRuntime) -> Result<(), Fail> {
-    let lines = "
+    let lines = "\
 | m=m m≤m m!m p=p v!v | m≠m m<m m?m | x=x x≠x x≤x x<x x?x x!x m=n
 x~y | | | x=y x≠y x≤y
 x~m | m=x x!x | |
 x!x | x!x x=x | x?x | x=y
 x!x x~y | y=x | |";
-    for line in lines.split('\n') {
-        assert!(rt; agrees(rt.alloc(), line)?, "{line}");
-    }
+    assert_eq!(rt; wrong(rt.alloc(), Table::Atoms, lines)?, None);
     Ok(())
 }
 
 #[test]
 fn equal_and_different_terms(rt: HostRuntime) -> Result<(), Fail> {
-    let lines = "
+    let lines = "\
 x=y | x=y y=x x≤y x!x | x≠y y≠x x<y y<x y?y | x=z
 x=y y=z | z=x | |
 x≤y y≤x | x=y | y≠x |
@@ -119,15 +126,13 @@ x≠y | x≠y y≠x x!x | x=y y=x | x<y x≤y x≠z
 x≠y x~z | z≠y | y=z |
 x≠y y≤z z≤y | z≠x | |
 t≠A | | t=A | t=B";
-    for line in lines.split('\n') {
-        assert!(rt; agrees(rt.alloc(), line)?, "{line}");
-    }
+    assert_eq!(rt; wrong(rt.alloc(), Table::Atoms, lines)?, None);
     Ok(())
 }
 
 #[test]
 fn ordered_terms(rt: HostRuntime) -> Result<(), Fail> {
-    let lines = "
+    let lines = "\
 x<y | x<y x≤y x≠y y≠x y!y | y<x y≤x x=y y=x | z<x
 x≤y | x≤y | y<x | x<y y≤x x=y x≠y
 x≤y y<z | x<z | z≤x |
@@ -136,69 +141,54 @@ x=3 | x<4 | 3<x |
 x<3 5≤y | x<y | x=y |
 3<x x<5 | x=4 | x≠4 |
 3<x x<6 | | | x=4";
-    for line in lines.split('\n') {
-        assert!(rt; agrees(rt.alloc(), line)?, "{line}");
-    }
+    assert_eq!(rt; wrong(rt.alloc(), Table::Atoms, lines)?, None);
     Ok(())
 }
 
 #[test]
 fn same_terms(rt: HostRuntime) -> Result<(), Fail> {
-    for (learned, asked, same) in [
-        ("", "x~x", true),
-        ("", "3~5", false),
-        ("x~y", "y~x", true),
-        ("x?x", "x~N", true),
-        ("x≤y", "x~y", false),
-        ("x≤y y≤x", "x~y", true),
-        ("3≤x x≤3", "3~x", true),
-    ] {
-        let branch = branch(rt.alloc(), learned)?;
-        let atom = atom(rt.alloc(), asked)?;
-        assert_eq!(rt;
-            branch.same(&atom.left, &atom.right),
-            same,
-            "{asked} of {learned}"
-        );
-    }
+    let lines = "\
+| x~x | yes
+| 3~5 |
+x~y | y~x | yes
+x?x | x~N | yes
+x≤y | x~y |
+x≤y y≤x | x~y | yes
+3≤x x≤3 | 3~x | yes";
+    assert_eq!(rt; wrong(rt.alloc(), Table::Same, lines)?, None);
     Ok(())
 }
 
 #[test]
 fn absurd_branches(rt: HostRuntime) -> Result<(), Fail> {
-    let absurd = "x=3 x=5
-t~A t=B
-x?x x!x
-m?m
-p~N
-x=N
-x?x x~y y=z
-x≠y x=y
-x≠y y~x
-x≠y x≤y y≤x
-x≠x
-x<x
-x<y y<x
-x<y y≤x
-x<y x~y
-x<3 5≤x
-3<x x<4
-5≤3";
-    for learned in absurd.split('\n') {
-        assert!(rt; branch(rt.alloc(), learned)?.absurd(), "{learned}");
-    }
-    let possible = "
-x=3
-x=3 x=3
-x?x
-x?x y!y
-x≠y
-x≤x
-x<y y<z
-x≤y y≤x
-3<x x<5";
-    for learned in possible.split('\n') {
-        assert!(rt; !branch(rt.alloc(), learned)?.absurd(), "{learned}");
-    }
+    let lines = "\
+x=3 x=5 | yes
+t~A t=B | yes
+x?x x!x | yes
+m?m | yes
+p~N | yes
+x=N | yes
+x?x x~y y=z | yes
+x≠y x=y | yes
+x≠y y~x | yes
+x≠y x≤y y≤x | yes
+x≠x | yes
+x<x | yes
+x<y y<x | yes
+x<y y≤x | yes
+x<y x~y | yes
+x<3 5≤x | yes
+3<x x<4 | yes
+5≤3 | yes
+x=3 |
+x=3 x=3 |
+x?x |
+x?x y!y |
+x≠y |
+x≤x |
+x<y y<z |
+x≤y y≤x |
+3<x x<5 |";
+    assert_eq!(rt; wrong(rt.alloc(), Table::Absurd, lines)?, None);
     Ok(())
 }

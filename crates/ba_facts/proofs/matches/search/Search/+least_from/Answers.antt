@@ -1,0 +1,37 @@
+use Rattle.std.proofs.Common.{◌≡◌, arith, length}
+use Rattle.std.proofs.lemmas.Grind.{common_steps}
+use Rattle.ba_facts.proofs.RoundLemmas.{least_all, least_more, least_skipped, least_start}
+use Rattle.ba_facts.proofs.SearchingLemmas.{one_chosen, pruned}
+use Rattle.ba_facts.proofs.matches.search.Search.+least_from.Goals as goal
+use Rattle.ba_facts.proofs.matches.search.Search.+least_from.Goals.{then-is_fact, else-is_fact}
+
+pub returns-then-is_hopeless-clause-least : goal.returns-then-is_hopeless-clause-least
+returns-then-is_hopeless-clause-least t c =
+    let fails = c.is_hopeless.ensures.0 c.if-is_hopeless.true in
+    λ facts h. pruned _ _ _ _ _ _ (rw c.as_slice.ensures.value at fails) facts h.completes
+
+pub loop-number-init : goal.loop-number-init
+loop-number-init t c = record { chosen = grind (arith, common_steps); least = least_start _ _ _ _ _ _ _ _ _ }
+
+pub loop-number-preserved : goal.loop-number-preserved
+loop-number-preserved t c =
+    elim c.if-is_fact.branch [
+      | then-is_fact w ↦ record {
+        chosen = grind (arith, common_steps);
+        least = least_more _ _ _ _ _ _ _ _ _ c.loop-number.number _ c.loop-number.least w.least_from.result _
+            (cc) (c.is_fact.ensures.0 w.if-is_fact.true)
+            (one_chosen _ _ _ _ w.push.ensures.items c.loop-number.invariant.chosen) c.loop-number.invariant.least
+            w.least_from.ensures.least;
+      }
+      | else-is_fact w ↦ record {
+        chosen = grind (arith, common_steps);
+        least = least_skipped _ _ _ _ _ _ _ _ _ c.loop-number.number c.loop-number.least _ (cc)
+            (λ h. let t = c.is_fact.ensures.1 h in cc) c.loop-number.invariant.least;
+      }
+    ]
+
+pub returns-after-loop-number-clause-least : goal.returns-after-loop-number-clause-least
+returns-after-loop-number-clause-least t c =
+    least_all _ _ _ _ _ _ _ _ _ _ c.loop-number.number _ c.in-Some.ensures.cases.0
+    (let e : c.loop-number.number ≡ length c.args.self.now.branch.now.facts = grind (arith, common_steps) in e)
+    c.loop-number.invariant.least

@@ -1,0 +1,28 @@
+use Rattle.std.specs.List.{AllZip}
+use Rattle.std.proofs.lemmas.Result.{IfOk-weaker}
+use Rattle.ba_kernel.proofs.BuildNext.{fits_row, head_gives, next_is, ready_as}
+use Rattle.ba_kernel.specs.Effects.{IsCase}
+use Rattle.ba_kernel.specs.Tidy.{AreNext}
+use Rattle.ba_kernel.proofs.cases.entry.next_cases.Goals as goal
+
+pub part_cases-requires-clause-ready : goal.part_cases-requires-clause-ready
+part_cases-requires-clause-ready c =
+    ready_as c.args.branch.now c.args.facts.now c.as_slice-operands.result.now c.in_ok-terms.terms.items c.as_slice-row.result.now c.requires.there
+    c.in_ok-terms.ensures c.as_slice-row.ensures.value
+
+pub part_cases-requires-clause-fits : goal.part_cases-requires-clause-fits
+part_cases-requires-clause-fits c =
+    fits_row c.args.branch.now c.args.facts.now c.args.part.now.head c.as_slice-operands.result.now c.in_ok-terms.terms.items c.as_slice-row.result.now
+    c.as_slice-operands.ensures c.in_ok-terms.ensures c.as_slice-row.ensures.value c.args.schema.now c.args.parts.now c.requires.fits
+
+pub returns : goal.returns
+returns c =
+    let s = c.args.schema.now in
+    let b = c.args.branch.now in
+    let row = c.as_slice-row.result.now in
+    let gives = head_gives b c.args.facts.now c.args.part.now.head c.as_slice-operands.result.now c.in_ok-terms.terms.items row
+    c.as_slice-operands.ensures c.in_ok-terms.ensures c.as_slice-row.ensures.value in
+    IfOk-weaker c.part_cases.result (λ cases. AllZip (IsCase s b c.args.side c.in_ok-round.round row) c.args.parts.now cases.items)
+    (λ cases. AreNext s b c.args.side c.args.part.now c.args.facts.now c.args.parts.now cases.items)
+    (λ cases h. next_is s b c.args.side c.in_ok-round.round c.args.part.now c.args.facts.now row c.args.parts.now cases.items gives c.in_ok-round.ensures h)
+    c.part_cases.ensures

@@ -1,0 +1,6 @@
+use Rattle.ba_kernel.proofs.BuildSteps.{negation_there}
+use Rattle.ba_kernel.proofs.cases.equal.split_cases.Goals as goal
+
+pub assume-requires-2 : goal.assume-requires-2
+assume-requires-2 c =
+    negation_there c.args.branch.now c.in_ok-second.second c.args.atom.now c.in_ok-negation.field-0 c.requires c.in_ok-second.ensures c.in_ok-negation.ensures

@@ -1,0 +1,58 @@
+//! The cases that a step leads to.
+ghost use Rattle.std.specs.Prelude.{◌≡◌, [], IfOk};
+ghost use Rattle.ba_kernel.specs.Courses.{ProblemFits};
+ghost use Rattle.ba_kernel.specs.Effects.{Leads};
+ghost use Rattle.ba_kernel.specs.Tests.{IsTidy, Passes};
+
+pub mod build;
+mod entry;
+mod equal;
+pub mod rounds;
+pub mod terms;
+
+use crate::cases::entry::{entry_cases, rule_cases, view_cases};
+use crate::cases::equal::{key_cases, link_cases, split_cases};
+use crate::problem::Problem;
+use crate::step::Step;
+use ba_facts::branch::Branch;
+use std::alloc::{AllocError, Global};
+
+/// The cases that a step, which passes its tests, makes of a branch: they take its place. More than
+/// 2^32 facts or unknowns, or a round past 32 bits, are told as want of memory.
+pub fn cases_of(
+    alloc: Global,
+    problem: &Problem,
+    branch: &Branch,
+    step: &Step,
+) -> Result<Vec<Branch>, AllocError>
+    requires fits { ProblemFits problem.now }
+    requires tidy { IsTidy problem.now branch.now }
+    requires passes { Passes problem.now branch.now step.now }
+    ensures { IfOk result (λ cases. Leads problem.now branch.now step.now cases.items) }
+{
+    match step {
+        Step::Entry { entry, .. } => entry_cases(alloc, problem, branch, *entry),
+        Step::Key {
+            key,
+            left,
+            right,
+            ..
+        } => key_cases(alloc, problem, branch, *key, *left, *right),
+        Step::Link { link, fact, .. } => link_cases(alloc, problem, branch, *link, *fact),
+        Step::Rule {
+            rule,
+            part,
+            facts,
+            ..
+        } => rule_cases(alloc, problem, branch, *rule, *part, facts.as_slice()),
+        Step::View {
+            view,
+            part,
+            facts,
+            ..
+        } => view_cases(alloc, problem, branch, *view, *part, facts.as_slice()),
+        Step::Split { atom, .. } => split_cases(alloc, branch, atom),
+        Step::Absurd { .. } => Ok(Vec::new(alloc)),
+        Step::Goal { .. } => Ok(Vec::new(alloc)),
+    }
+}

@@ -1,0 +1,105 @@
+//! The cases of rows that are known to be rows of a query.
+ghost use Rattle.std.specs.Prelude.{◌≡◌, All, IfOk, length, map};
+ghost use Rattle.ba_kernel.specs.Courses.{ProblemFits};
+ghost use Rattle.ba_kernel.specs.Effects.{EntryLeads, RuleLeads, ViewLeads, rows_at};
+ghost use Rattle.ba_kernel.specs.Tests.{EntryPasses, IsTidy, RulePasses, ViewPasses};
+ghost use Rattle.ba_kernel.specs.Tidy.{AreNext, FactsAreThere, HasTerm, IsPartFor};
+
+use crate::cases::build::part_cases;
+use crate::cases::rounds::{entry_round, next_round};
+use crate::cases::terms::operand_row;
+use crate::fact::fact_at;
+use crate::problem::Problem;
+use ba_facts::branch::Branch;
+use ba_facts::term::Side;
+use ba_model::query::Part;
+use ba_model::schema::Schema;
+use std::alloc::{AllocError, Global};
+
+/// For each part of the entry's query the case where it gives the entry's row on side One.
+pub fn entry_cases(
+    alloc: Global,
+    problem: &Problem,
+    branch: &Branch,
+    entry: u64,
+) -> Result<Vec<Branch>, AllocError>
+    requires fits { ProblemFits problem.now }
+    requires tidy { IsTidy problem.now branch.now }
+    requires passes { EntryPasses problem.now entry }
+    ensures { IfOk result (λ cases. EntryLeads problem.now branch.now entry cases.items) }
+{
+    let it = problem.entries.get(entry as usize);
+    let operands = it.row.as_slice();
+    let parts = it.query.parts.as_slice();
+    let terms = operand_row(alloc, branch, &[], operands)?;
+    let row = terms.as_slice();
+    let round = entry_round(problem, operands);
+    let schema = &problem.policy.schema;
+    part_cases(alloc, schema, branch, Side::One, round, row, parts)
+}
+
+/// For each part of the view the case where it gives on side Two the row that the facts give.
+pub fn view_cases(
+    alloc: Global,
+    problem: &Problem,
+    branch: &Branch,
+    view: u32,
+    part: u32,
+    facts: &[u32],
+) -> Result<Vec<Branch>, AllocError>
+    requires fits { ProblemFits problem.now }
+    requires tidy { IsTidy problem.now branch.now }
+    requires passes { ViewPasses problem.now branch.now view part facts.now }
+    ensures { IfOk result (λ cases. ViewLeads problem.now branch.now view part facts.now cases.items) }
+{
+    let it = problem.policy.views.get(view as usize);
+    let of = it.query.parts.get(part as usize);
+    let parts = it.query.parts.as_slice();
+    let schema = &problem.policy.schema;
+    next_cases(alloc, schema, branch, Side::Two, of, facts, parts)
+}
+
+/// For each part of the rule's right query the case where it gives, on the same side, the row that
+/// the facts give.
+pub fn rule_cases(
+    alloc: Global,
+    problem: &Problem,
+    branch: &Branch,
+    rule: u32,
+    part: u32,
+    facts: &[u32],
+) -> Result<Vec<Branch>, AllocError>
+    requires fits { ProblemFits problem.now }
+    requires tidy { IsTidy problem.now branch.now }
+    requires passes { RulePasses problem.now branch.now rule part facts.now }
+    ensures { IfOk result (λ cases. RuleLeads problem.now branch.now rule part facts.now cases.items) }
+{
+    let schema = &problem.policy.schema;
+    let it = schema.rules.get(rule as usize);
+    let left = it.left.parts.get(part as usize);
+    let parts = it.right.parts.as_slice();
+    let first = fact_at(branch, facts[0] as usize);
+    next_cases(alloc, schema, branch, first.side, left, facts, parts)
+}
+
+/// For each of the parts the case where it gives the row that the facts give, a round later.
+fn next_cases(
+    alloc: Global,
+    schema: &Schema,
+    branch: &Branch,
+    side: Side,
+    part: &Part,
+    facts: &[u32],
+    parts: &[Part],
+) -> Result<Vec<Branch>, AllocError>
+    requires there { FactsAreThere branch.now }
+    requires terms { All (HasTerm (rows_at branch.now facts.now)) part.now.head }
+    requires fits { All (IsPartFor schema.now (length part.now.head)) parts.now }
+    ensures { IfOk result (λ cases. AreNext schema.now branch.now side part.now facts.now parts.now cases.items) }
+{
+    let operands = part.head.as_slice();
+    let terms = operand_row(alloc, branch, facts, operands)?;
+    let row = terms.as_slice();
+    let round = next_round(branch, facts)?;
+    part_cases(alloc, schema, branch, side, round, row, parts)
+}

@@ -1,0 +1,159 @@
+//! The cases of keys, links and splits.
+ghost use Rattle.std.specs.Prelude.{◌≡◌, ◌∷◌, [], IfOk, OnOk, length, map};
+ghost use Rattle.std.specs.List.{zip};
+ghost use Rattle.ba_kernel.specs.Courses.{ProblemFits};
+ghost use Rattle.ba_kernel.specs.Effects.{KeyLeads, LinkLeads, SplitFits, SplitLeads, negation, same_at, with_lessons};
+ghost use Rattle.ba_kernel.specs.Tests.{IsTidy, KeyPasses, LinkPasses};
+ghost use Rattle.ba_kernel.specs.Tidy.{HasColumns, Learns, TermsAreThere, same_pair};
+
+use crate::cases::build::columns_of;
+use crate::cases::rounds::round_after;
+use crate::fact::fact_at;
+use crate::problem::Problem;
+use ba_facts::branch::Branch;
+use ba_facts::term::{Term, TermAtom};
+use ba_model::query::Op;
+use ba_model::same::Duplicate;
+use std::alloc::{AllocError, Global};
+
+/// The one case of a key: the two facts' terms are the same, column by column.
+pub fn key_cases(
+    alloc: Global,
+    problem: &Problem,
+    branch: &Branch,
+    key: u32,
+    left: u32,
+    right: u32,
+) -> Result<Vec<Branch>, AllocError>
+    requires tidy { IsTidy problem.now branch.now }
+    requires passes { KeyPasses problem.now.policy.schema branch.now key left right }
+    ensures { IfOk result (λ cases. KeyLeads problem.now branch.now key left right cases.items) }
+{
+    let f = fact_at(branch, left as usize);
+    let g = fact_at(branch, right as usize);
+    let terms = f.terms.as_slice();
+    let others = g.terms.as_slice();
+    let mut new = branch.copy(alloc)?;
+    equate_rows(alloc, &mut new, terms, others)?;
+    one_case(alloc, new)
+}
+
+/// Learns that two rows are the same, term by term.
+fn equate_rows(
+    alloc: Global,
+    new: &mut Branch,
+    left: &[Term],
+    right: &[Term],
+) -> Result<(), AllocError>
+    requires wide { length left.now ≡ length right.now }
+    requires left { TermsAreThere new.old.known left.now }
+    requires right { TermsAreThere new.old.known right.now }
+    ensures { OnOk result (new.new ≡ with_lessons new.old (map same_pair (zip left.now right.now))) }
+{
+    for (i, term) in left.iter().enumerate() {
+        let one = term.copy(alloc)?;
+        let other = right[i].copy(alloc)?;
+        new.equate(one, other)?;
+    }
+    Ok(())
+}
+
+/// The one case of a link: a fact of the target table, whose target columns are the same as the
+/// link's columns.
+pub fn link_cases(
+    alloc: Global,
+    problem: &Problem,
+    branch: &Branch,
+    link: u32,
+    fact: u32,
+) -> Result<Vec<Branch>, AllocError>
+    requires fits { ProblemFits problem.now }
+    requires tidy { IsTidy problem.now branch.now }
+    requires passes { LinkPasses problem.now.policy.schema branch.now link fact }
+    ensures { IfOk result (λ cases. LinkLeads problem.now branch.now link fact cases.items) }
+{
+    let schema = &problem.policy.schema;
+    let f = fact_at(branch, fact as usize);
+    let table = schema.tables.get(f.table as usize);
+    let it = table.links.get(link as usize);
+    let target = columns_of(schema, it.target);
+    let round = round_after(f.round)?;
+    let mut new = branch.copy(alloc)?;
+    new.add_fact(alloc, f.side, it.target, target, round)?;
+    let added = fact_at(&new, branch.facts.len());
+    let terms = added.terms.copy(alloc)?;
+    let left = f.terms.as_slice();
+    let right = terms.as_slice();
+    let columns = it.columns.as_slice();
+    let others = it.target_columns.as_slice();
+    equate_columns(alloc, &mut new, left, right, columns, others)?;
+    one_case(alloc, new)
+}
+
+/// Learns that two rows are the same on these columns of each.
+fn equate_columns(
+    alloc: Global,
+    new: &mut Branch,
+    left: &[Term],
+    right: &[Term],
+    columns: &[u32],
+    others: &[u32],
+) -> Result<(), AllocError>
+    requires left { TermsAreThere new.old.known left.now }
+    requires right { TermsAreThere new.old.known right.now }
+    requires wide { length columns.now ≡ length others.now }
+    requires columns { HasColumns left.now columns.now }
+    requires others { HasColumns right.now others.now }
+    ensures { OnOk result (Learns (map (same_at left.now right.now) (zip columns.now others.now)) new.old new.new) }
+{
+    for (i, column) in columns.iter().enumerate() {
+        let one = left[*column as usize].copy(alloc)?;
+        let other = right[others[i] as usize].copy(alloc)?;
+        new.equate(one, other)?;
+    }
+    Ok(())
+}
+
+fn one_case(alloc: Global, new: Branch) -> Result<Vec<Branch>, AllocError>
+    ensures { IfOk result (λ cases. cases.items ≡ new ∷ []) }
+{
+    let mut cases = Vec::new(alloc);
+    cases.push(new)?;
+    Ok(cases)
+}
+
+/// The two cases of a split: the atom is true, or its negation is.
+pub fn split_cases(
+    alloc: Global,
+    branch: &Branch,
+    atom: &TermAtom,
+) -> Result<Vec<Branch>, AllocError>
+    requires { SplitFits branch.now atom.now }
+    ensures { IfOk result (λ cases. SplitLeads branch.now atom.now cases.items) }
+{
+    let mut first = branch.copy(alloc)?;
+    first.assume(atom.copy(alloc)?)?;
+    let mut second = branch.copy(alloc)?;
+    second.assume(negation(alloc, atom)?)?;
+    let mut cases = Vec::new(alloc);
+    cases.push(first)?;
+    cases.push(second)?;
+    Ok(cases)
+}
+
+/// What is true where the atom isn't.
+fn negation(alloc: Global, atom: &TermAtom) -> Result<TermAtom, AllocError>
+    ensures { IfOk result (λ it. it ≡ negation atom.now) }
+{
+    let left = atom.left.copy(alloc)?;
+    let right = atom.right.copy(alloc)?;
+    let (op, left, right) = match atom.op {
+        Op::Eq => (Op::Ne, left, right),
+        Op::Ne => (Op::Eq, left, right),
+        Op::Lt => (Op::Le, right, left),
+        Op::Le => (Op::Lt, right, left),
+        Op::IsNull => (Op::NotNull, left, right),
+        Op::NotNull => (Op::IsNull, left, right),
+    };
+    Ok(TermAtom { op, left, right })
+}

@@ -1,0 +1,24 @@
+//! The facts of a branch by number.
+ghost use Rattle.std.specs.Prelude.{◌≡◌, ◌<◌, Some, length, slice_get};
+ghost use Rattle.std.specs.Option.{option_copied};
+
+use ba_facts::branch::Branch;
+use ba_facts::term::Fact;
+
+/// The fact of the number, which is there.
+pub fn fact_at(branch: &Branch, number: usize) -> &Fact
+    requires { number < length branch.now.facts }
+    ensures { slice_get branch.now.facts number ≡ Some result.now }
+{
+    branch.facts.get(number)
+}
+
+/// The fact of the number, if it is there.
+pub fn find_fact(branch: &Branch, number: usize) -> Option<&Fact>
+    ensures { option_copied result ≡ slice_get branch.now.facts number }
+{
+    match branch.facts.find(number) {
+        Some(fact) => Some(fact),
+        None => None,
+    }
+}

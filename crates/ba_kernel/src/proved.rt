@@ -1,0 +1,63 @@
+ghost use Rattle.std.specs.Prelude.{◌≡◌, ◌≤◌, length};
+ghost use Rattle.ba_kernel.specs.Courses.{AllClosed, ProblemFits, Runs};
+
+use crate::laws::closed_is_strong;
+use crate::problem::Problem;
+use crate::step::Step;
+use ba_facts::branch::Branch;
+use ba_model::list::List;
+use std::marker::Model;
+
+/// A problem and steps that prove it.
+///
+/// The type keeps that the steps are at most 100,000, are accepted from the problem's start and
+/// leave no branch open, and that every instance of the problem is strongly compliant. Nothing but
+/// [`crate::search::Search::close`] makes one.
+#[derive(Drop)]
+pub struct Proved {
+    problem: Problem,
+    steps: List<Step>,
+}
+
+impl Model for Proved {
+    ghost use Rattle.ba_kernel.specs.Tests.{IsProved, Proof};
+
+    ghost Value = { Proof };
+
+    ghost view = { λ p. record { problem = p.problem; steps = p.steps } };
+
+    ghost invariant = { λ p. IsProved p.problem p.steps };
+}
+
+impl Proved {
+    /// The proof of a course that leaves no branch open.
+    pub(crate) fn of_closed(
+        problem: Problem,
+        steps: List<Step>,
+        slots: Vec<Option<Branch>>,
+    ) -> Proved
+        requires fits { ProblemFits problem }
+        requires few { length steps ≤ 100000 }
+        requires runs { Runs problem steps slots.items }
+        requires closed { AllClosed slots.items }
+        ensures { result ≡ record { problem = problem; steps = steps } }
+    {
+        closed_is_strong();
+        drop(slots);
+        Proved { problem, steps }
+    }
+
+    /// The problem.
+    pub fn problem(&self) -> &Problem
+        ensures { result.now ≡ self.now.problem }
+    {
+        &self.problem
+    }
+
+    /// The steps, the first one first.
+    pub fn steps(&self) -> &List<Step>
+        ensures { result.now ≡ self.now.steps }
+    {
+        &self.steps
+    }
+}

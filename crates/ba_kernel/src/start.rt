@@ -1,0 +1,82 @@
+//! The branches of a problem's start.
+ghost use Rattle.std.specs.Prelude.{◌≡◌, IfOk, map};
+ghost use Rattle.std.specs.List.{AllZip};
+ghost use Rattle.ba_model.specs.Fit.{kinds_of};
+ghost use Rattle.ba_kernel.specs.Courses.{IsStart, IsStartOf, ProblemFits, nothing_known};
+ghost use Rattle.ba_kernel.specs.Tidy.{IsPartOf};
+
+use crate::cases::build::{add_facts, assume_all, numbers_from};
+use crate::cases::terms::operand_row;
+use crate::problem::Problem;
+use ba_facts::branch::Branch;
+use ba_facts::shared::Shared;
+use ba_facts::term::Side;
+use ba_model::list::List;
+use ba_model::policy::Parameter;
+use ba_model::query::Part;
+use ba_model::schema::Kind;
+use std::alloc::{AllocError, Global};
+
+/// For each part of the goal a branch, in which the part gives the goal row and what is assumed is
+/// true. More than 2^32 unknowns are told as want of memory.
+pub fn start_branches(alloc: Global, problem: &Problem) -> Result<Vec<Option<Branch>>, AllocError>
+    requires { ProblemFits problem.now }
+    ensures { IfOk result (λ slots. IsStart problem.now slots.items) }
+{
+    let mut slots = Vec::new(alloc);
+    for part in problem.goal.parts.as_slice() {
+        slots.push(Some(part_start(alloc, problem, part)?))?;
+    }
+    Ok(slots)
+}
+
+/// The branch in which the part gives the goal row.
+fn part_start(alloc: Global, problem: &Problem, part: &Part) -> Result<Branch, AllocError>
+    requires fits { ProblemFits problem.now }
+    requires part { IsPartOf problem.now part.now }
+    ensures { IfOk result (IsStartOf problem.now part.now) }
+{
+    let schema = &problem.policy.schema;
+    let numbers = numbers_from(alloc, 0, part.from.len())?;
+    let facts = numbers.as_slice();
+    let from = part.from.as_slice();
+    let conds = part.conds.as_slice();
+    let head = part.head.as_slice();
+    let assumed = problem.assumed.as_slice();
+    let mut new = nothing(alloc, problem)?;
+    add_facts(alloc, schema, &mut new, Side::One, 0, from)?;
+    let goal = operand_row(alloc, &new, facts, head)?;
+    assume_all(alloc, &mut new, facts, conds)?;
+    assume_all(alloc, &mut new, &[], assumed)?;
+    new.goal = Shared::new(alloc, List::from_vec(goal))?;
+    Ok(new)
+}
+
+/// A branch of nothing, for the problem's parameters and variables.
+fn nothing(alloc: Global, problem: &Problem) -> Result<Branch, AllocError>
+    ensures { IfOk result (λ it. it ≡ nothing_known problem.now) }
+{
+    let params = param_kinds(alloc, problem.policy.params.as_slice())?;
+    let vars = copy_kinds(alloc, problem.vars.as_slice())?;
+    Branch::new(alloc, params, vars)
+}
+
+fn param_kinds(alloc: Global, params: &[Parameter]) -> Result<List<Kind>, AllocError>
+    ensures { IfOk result (λ kinds. kinds ≡ kinds_of params.now) }
+{
+    let mut kinds = Vec::new(alloc);
+    for param in params {
+        kinds.push(param.kind)?;
+    }
+    Ok(List::from_vec(kinds))
+}
+
+fn copy_kinds(alloc: Global, kinds: &[Kind]) -> Result<List<Kind>, AllocError>
+    ensures { IfOk result (λ other. other ≡ kinds.now) }
+{
+    let mut all = Vec::new(alloc);
+    for kind in kinds {
+        all.push(*kind)?;
+    }
+    Ok(List::from_vec(all))
+}
