@@ -1,8 +1,8 @@
 #!/usr/bin/env python3
 """Times branches of ba_facts: python3 bench/facts.py [RUNS]
 
-Copies the crates below ba_facts and bench/facts_bench into a folder of its own, proves and builds
-the program there with `rt run`, and prints a table in Markdown: processor time for one of each, as
+Copies ba_facts, the crates below it and the program bench/facts_bench.txt into a folder of its own,
+proves and builds the program there with `rt run`, and prints a table in Markdown: processor time for one of each, as
 the difference of two runs, the least of RUNS (7 if it isn't said).
 """
 
@@ -27,7 +27,9 @@ def build(root: pathlib.Path) -> pathlib.Path:
     crates = root / "crates"
     for name in CRATES:
         shutil.copytree(HOME / "crates" / name, crates / name, symlinks=True)
-    shutil.copytree(HOME / "bench" / "facts_bench", crates / "facts_bench")
+    source = crates / "facts_bench" / "src"
+    source.mkdir(parents=True)
+    shutil.copy(HOME / "bench" / "facts_bench.txt", source / "main.rt")
     lines = (HOME / "crates.txt").read_text().splitlines()
     kept = [line for line in lines if line.split(":")[0] in CRATES]
     (root / "crates.txt").write_text("\n".join(kept) + "\nfacts_bench: ba_model ba_facts\n")
