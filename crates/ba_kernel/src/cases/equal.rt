@@ -145,15 +145,23 @@ pub fn split_cases(
 fn negation(alloc: Global, atom: &TermAtom) -> Result<TermAtom, AllocError>
     ensures { IfOk result (λ it. it ≡ negation atom.now) }
 {
-    let left = atom.left.copy(alloc)?;
-    let right = atom.right.copy(alloc)?;
-    let (op, left, right) = match atom.op {
+    let (op, left, right) = negated(atom);
+    let left = left.copy(alloc)?;
+    let right = right.copy(alloc)?;
+    Ok(TermAtom { op, left, right })
+}
+
+/// The comparison that is true where the atom isn't, and its sides.
+fn negated(atom: &TermAtom) -> (Op, &Term, &Term)
+    ensures { negation atom.now ≡ record { op = result.0; left = result.1.now; right = result.2.now } }
+{
+    let TermAtom { op, left, right } = atom;
+    match op {
         Op::Eq => (Op::Ne, left, right),
         Op::Ne => (Op::Eq, left, right),
         Op::Lt => (Op::Le, right, left),
         Op::Le => (Op::Lt, right, left),
         Op::IsNull => (Op::NotNull, left, right),
         Op::NotNull => (Op::IsNull, left, right),
-    };
-    Ok(TermAtom { op, left, right })
+    }
 }
