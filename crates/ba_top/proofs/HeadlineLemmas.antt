@@ -1,15 +1,13 @@
 -- A legal journal has the headline.
-use Rattle.std.proofs.Common.{◌≡◌, ◌∙◌, sym, ap, subst, ℕ, List, [], ◌∷◌, ◌++◌, Option, Some, None, Ok, IfSome, append_assoc, append-nil}
+use Rattle.std.proofs.Common.{◌≡◌, ◌∙◌, sym, ap, subst, ℕ, List, [], ◌∷◌, ◌++◌, Option, Some, None, IfSome, append_assoc, append-nil}
 use Rattle.ba_comply.specs.declared.trace.TraceEntry.{TraceEntry}
 use Rattle.ba_model.specs.declared.policy.Context.{Context}
 use Rattle.ba_model.specs.declared.query.Query.{Query}
 use Rattle.ba_model.specs.declared.value.Value.{Value}
 use Rattle.ba_outside.specs.Seen.{FilesSeen, SinkSeen}
-use Rattle.ba_plan.specs.Follows.{Follows}
 use Rattle.ba_top.specs.Headline.{Headline, IsAnswerEverywhere, IsNotCovered}
 use Rattle.ba_top.specs.Legal.{AreEntries, HasContext, IsAsk, IsEntry, Legal, Replies, trace_of}
-use Rattle.ba_top.specs.Ran.{Ran}
-use Rattle.ba_top.specs.Reading.{plan_of}
+use Rattle.ba_top.specs.Ran.{Ran, Served}
 use Rattle.ba_top.specs.declared.report.By.{By}
 use Rattle.ba_top.specs.declared.report.By.TheVariants.{Cover}
 use Rattle.ba_top.specs.declared.report.Detail.{Detail}
@@ -90,12 +88,12 @@ ask_has input journal before after request version reply legal e =
     let found = entries_at input input.script.entries journal.entries [] before (Ask request version reply) after legal.entries e in
     entry_has input before found.0 request version reply found.1
 
-headline : (input : Input) (journal : Journal) → Legal input journal → Headline input journal
+pub headline : (input : Input) (journal : Journal) → Legal input journal → Headline input journal
 headline input journal legal = record {
   answers = λ before after request version query rows by e. answer_holds input before request query rows by (ask_has input journal before after request version (Answer query rows by) legal e);
   blocks = λ before after request version query why e. block_holds input before request query why (ask_has input journal before after request version (Blocked query why) legal e);
 }
 
-pub ran_headline : (words : List (List ℕ)) (f g : FilesSeen) (s t : SinkSeen) (detail : Detail) (journal : Option Journal) → Ran words f g s t detail journal → IfSome journal (λ it. (input : Input) × Follows (plan_of words) f g (Ok input) × Headline input it)
-ran_headline words f g s t detail (Some journal) (input, follows, legal, ends) = (input, follows, headline input journal legal)
+pub ran_headline : (words : List (List ℕ)) (f g : FilesSeen) (s t : SinkSeen) (detail : Detail) (journal : Option Journal) → Ran words f g s t detail journal → IfSome journal (Served words f g s t detail)
+ran_headline words f g s t detail (Some journal) served = served
 ran_headline words f g s t detail None ran = tt

@@ -57,7 +57,7 @@ Ended words f g s t detail =
 
 ended : (words : List (List ℕ)) (f g : FilesSeen) (s t : SinkSeen) (detail : Detail) (journal : Option Journal) → Ran words f g s t detail journal → Ended words f g s t detail
 unfolding Ended
-ended words f g s t detail (Some journal) (input, follows, legal, ends) = (Ok input, follows, runs_as input journal s t detail ends)
+ended words f g s t detail (Some journal) it = (Ok it.input, it.read, runs_as it.input journal s t detail it.written)
 ended words f g s t detail None (inl (stop, follows, ends)) = (Err stop, follows, stops_as stop s t detail ends)
 ended words f g s t detail None (inr (input, follows, is, same)) = (Ok input, follows, inr (inr is))
 

@@ -10,6 +10,7 @@ use Rattle.ba_wire.specs.Printed.{fault_bytes}
 use Rattle.ba_wire.specs.declared.fault.Fault.{Fault}
 use Rattle.ba_wire.specs.declared.fault.Fault.TheVariants as fault
 use Rattle.ba_wire.specs.declared.fault.What.TheVariants.{Bytes}
+use Rattle.ba_top.specs.Headline.{Headline}
 use Rattle.ba_top.specs.Legal.{Legal, lacks_memory}
 use Rattle.ba_top.specs.Reading.{plan_of}
 use Rattle.ba_top.specs.Text.{lines_of}
@@ -63,10 +64,19 @@ EndsStop (Unreadable file) s t detail = EndsFault (fault.Read file) s t detail
 EndsStop (TooLong file limit) s t detail = EndsFault (fault.Limit Bytes limit) s t detail
 EndsStop NoMemory s t detail = (detail ≡ Memory) × (t ≡ s)
 
--- With a journal the input was read, the journal is legal for it, and its text was written, or a front of it.
+-- A run with a journal: one input was read, for which the journal is legal and has the headline, and its text was written, or a front
+-- of it.
+pub record Served (words : List (List ℕ)) (f g : FilesSeen) (s t : SinkSeen) (detail : Detail) (journal : Journal) : Type 0 where
+  pub input : Input
+  pub read : Follows (plan_of words) f g (Ok input)
+  pub legal : Legal input journal
+  pub headline : Headline input journal
+  pub written : EndsRun input journal s t detail
+
+-- With a journal the script was served.
 -- Without one the input wasn't read, and the line of the fault was written, or a front of it; or memory ran out before writing, and
 -- nothing was written.
 abbrev pub Ran : List (List ℕ) → FilesSeen → FilesSeen → SinkSeen → SinkSeen → Detail → Option Journal → Type 0
-Ran words f g s t detail (Some journal) = (input : Input) × Follows (plan_of words) f g (Ok input) × Legal input journal × EndsRun input journal s t detail
+Ran words f g s t detail (Some journal) = Served words f g s t detail journal
 Ran words f g s t detail None = ((stop : Stop Refusal) × Follows (plan_of words) f g (Err stop) × EndsStop stop s t detail)
     ⊎ ((input : Input) × Follows (plan_of words) f g (Ok input) × (detail ≡ Memory) × (t ≡ s))

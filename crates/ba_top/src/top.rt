@@ -2,13 +2,10 @@
 ghost use Rattle.std.specs.Prelude.{◌≡◌, ◌⊎◌, List, ℕ, length, map, string_bytes, IfSome};
 ghost use Rattle.ba_outside.specs.Causes.{Rose};
 ghost use Rattle.ba_plan.specs.Ends.{AsksFront, FailedAt};
-ghost use Rattle.ba_plan.specs.Follows.{Follows};
 ghost use Rattle.ba_plan.specs.Plan.{names_of, outcome_of};
 ghost use Rattle.ba_top.specs.Causes.{IsLimit, Tells, settled};
-ghost use Rattle.ba_top.specs.Headline.{Headline};
-ghost use Rattle.ba_top.specs.Ran.{EndsFault, EndsRun, EndsStop, Ran, detail_of, status_of};
+ghost use Rattle.ba_top.specs.Ran.{EndsFault, EndsRun, EndsStop, Ran, Served, detail_of, status_of};
 ghost use Rattle.ba_top.specs.Reading.{plan_of};
-ghost use Rattle.ba_top.specs.declared.report.Input.{Input};
 ghost use Rattle.ba_wire.specs.declared.fault.What.{What};
 
 use crate::input::read_input;
@@ -129,9 +126,10 @@ pub fn blockaid<F: Files, S: Sink, G: Gate + Sync>(
     gate: &G,
 ) -> Outcome
     // Each answer is its query's answer in the request's tables and in every database that meets the schema, gives every view the
-    // same rows and each query that was answered before its printed rows; no covered query is blocked.
-    ensures headline { IfSome result.journal (λ journal. (input : Input)
-        × Follows (plan_of (map string_bytes words.now)) (F.seen files.old) (F.seen files.new) (Ok input) × Headline input journal) }
+    // same rows and each query that was answered before its printed rows; no covered query is blocked. The input that the words and
+    // the files come to is the one for which the journal is legal and whose lines were written.
+    ensures headline { IfSome result.journal (λ journal. Served (map string_bytes words.now) (F.seen files.old) (F.seen files.new)
+        (S.seen sink.old) (S.seen sink.new) result.detail journal) }
 
     ensures status { result.status ≡ status_of result.detail }
     ensures run { Ran (map string_bytes words.now) (F.seen files.old) (F.seen files.new)
