@@ -1,4 +1,4 @@
-//! Runs of the top call over the forms in memory: what it comes to where nothing fails, and the worked rows.
+//! Runs of the top call over the forms in memory: what they come to where nothing fails, and the tests that need them.
 #![tactic(auto)]
 
 ghost use Rattle.std.specs.Prelude.{◌≡◌, ◌⊎◌, map, string_bytes};
