@@ -1,0 +1,95 @@
+//! `blockaid_cases [FOLDER]`: runs the top call on each case of a folder (the one that it is run in, if none is named)
+//! and says of each whether its run ended as it must.
+//!
+//! A case is a folder: the input files, `words` (a word on each line, without the program's name), `expected` (the bytes
+//! that the run must write) and `status` (the status that it must end with). Names in its words are relative to it.
+#![tactic(auto)]
+
+mod case;
+mod folder_files;
+
+use case::{Case, End};
+use std::process::ExitCode;
+use std::rt::Files;
+use std::{env, fs, io};
+
+// The names of what a folder holds, rising.
+fn names_in<R>(rt: &R, folder: &str) -> io::Result<Vec<String>>
+where
+    R: Files + AllocGlobal + Clone + Drop,
+{
+    let mut names = Vec::new(rt.alloc());
+    for entry in fs::read_dir(rt, folder)? {
+        names.push(String::from_str(rt.alloc(), entry?.file_name())?)?;
+    }
+    names.sort_unstable();
+    Ok(names)
+}
+
+// A line, if it is text.
+fn text_of(line: &[u8]) -> &str {
+    std::str::from_utf8(line).unwrap_or("(no text)")
+}
+
+// Says where the end differs from the wanted one: the status, and the first line that isn't the same.
+fn tell(rt: &impl Print, name: &str, wanted: &End, end: &End) -> io::Result<()> {
+    let status = end.status;
+    let must = wanted.status;
+    println!(rt; "{name} differs: it ended with status {status}, and {must} is wanted")?;
+    let mut lines = end.text.split(|byte| *byte == b'\n');
+    for (at, line) in wanted.text.split(|byte| *byte == b'\n').enumerate() {
+        let written = lines.next().unwrap_or(b"(none)");
+        if line != written {
+            let number = at.saturating_add(1);
+            println!(rt; "  line {number}: {}", text_of(written))?;
+            println!(rt; "  wanted: {}", text_of(line))?;
+            return Ok(());
+        }
+    }
+    Ok(())
+}
+
+// Runs the case of that name, says how that ended, and gives whether it is as it must be.
+fn passes<R>(rt: &R, folder: &str, name: &str) -> io::Result<bool>
+where
+    R: Files + AllocGlobal + Print + Clone + Drop,
+{
+    let place = format!(in rt.alloc(); "{folder}/{name}")?;
+    let case = Case::read(rt, place.as_str())?;
+    let end = case.run(rt, place.as_str())?;
+    let is_same = end == case.wanted;
+    if is_same {
+        println!(rt; "ok {name}")?;
+    } else {
+        tell(rt, name, &case.wanted, &end)?;
+    }
+    Ok(is_same)
+}
+
+// Runs each case of the folder and gives how many passed and how many failed.
+fn counts<R>(rt: &R, folder: &str) -> io::Result<(u64, u64)>
+where
+    R: Files + AllocGlobal + Print + Clone + Drop,
+{
+    let mut passed = 0u64;
+    let mut failed = 0u64;
+    for name in &names_in(rt, folder)? {
+        match passes(rt, folder, name.as_str()) {
+            Ok(true) => passed = passed.saturating_add(1),
+            Ok(false) => failed = failed.saturating_add(1),
+            Err(error) => {
+                println!(rt; "{name} can't be tried: {error}")?;
+                failed = failed.saturating_add(1);
+            }
+        }
+    }
+    Ok((passed, failed))
+}
+
+fn main(rt: HostRuntime) -> io::Result<ExitCode> {
+    let folder = env::args(&rt)?.nth(1);
+    let folder = folder.as_ref().map_or(".", |folder| folder.as_str());
+    let (passed, failed) = counts(&rt, folder)?;
+    println!(rt; "{passed} passed, {failed} failed")?;
+    Ok(ExitCode::from(u8::from(failed != 0)))
+}
