@@ -272,7 +272,7 @@ def built():
     with open(f"{example}/expected.jsonl", "rb") as it:
         wanted = it.read()
     expect(subprocess.run(words, stdout=subprocess.PIPE, check=False).stdout, wanted, "the example's lines")
-    return f"{HOME}/crates/blockaid_cli/out/blockaid_cli"
+    return f"{HOME}/out/blockaid"
 
 
 def numbers(text):
