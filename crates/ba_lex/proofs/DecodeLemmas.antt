@@ -1,7 +1,7 @@
 -- A spelling says the lexeme that it spells.
-use Rattle.std.proofs.Common.{◌≡◌, ℕ, ◌-◌, Bool, true, false, cond, List, [], ◌∷◌, ◌++◌, length, Result, Ok, Err, refl, sym, ap, subst, ◌∙◌, arith, length-append}
+use Rattle.std.proofs.Common.{◌≡◌, ℕ, ℤ, ◌-◌, Bool, true, false, cond, List, [], ◌∷◌, ◌++◌, length, Result, Ok, Err, refl, sym, ap, subst, ◌∙◌, arith, length-append}
 use Rattle.std.proofs.lemmas.List.{take_at}
-use Rattle.ba_lex.specs.Spelling.{IsToken, doubled, is_in_range}
+use Rattle.ba_lex.specs.Spelling.{IsToken, SpellsNumber, doubled, fits, is_in_range}
 use Rattle.ba_lex.specs.Tokens.{IsOfShape, inside, lexeme_of, number_of, shape_of, undoubled}
 use Rattle.ba_lex.specs.declared.front.Shape.{Shape}
 use Rattle.ba_lex.specs.declared.token.LexFault.{LexFault}
@@ -50,3 +50,33 @@ pub says : (s : List ℕ) (k : Shape) (x : Lexeme) → IsOfShape k s → lexeme_
 says s k x h e =
     let by_shape : lexeme_of (shape_of h.lexeme) s ≡ Ok x = ap (λ (j : Shape). lexeme_of j s) h.is_shape ∙ e in
     from_checked s h.lexeme x h.spelled (sym (lexeme_of-token s h.lexeme h.spelled) ∙ by_shape)
+
+-- what a spelling of a shape doesn't say is a number past 64 bits
+pub record IsPast (s : List ℕ) (f : LexFault) : Type 0 where
+  pub fault : f ≡ NumberTooLarge
+  pub number : ℤ
+  pub spelled : SpellsNumber s number
+  pub past : fits number ≡ false
+
+from_unchecked : (s : List ℕ) (y : Lexeme) (f : LexFault) → IsToken s y → checked y ≡ Err f → IsPast s f
+from_unchecked s (lexemes.Word w) f h e = cc
+from_unchecked s (lexemes.Quoted w) f h e = cc
+from_unchecked s (lexemes.Text t) f h e = cc
+from_unchecked s (lexemes.Param w) f h e = cc
+from_unchecked s (lexemes.Sign x) f h e = cc
+from_unchecked s (lexemes.Number n) f h e = at (fits n) refl
+  where
+    err_same : (f : LexFault) → ◌≡◌ {A = Result Lexeme LexFault} (Err NumberTooLarge) (Err f) → f ≡ NumberTooLarge
+    err_same f e = cc
+
+    ok_err : ◌≡◌ {A = Result Lexeme LexFault} (Ok (lexemes.Number n)) (Err f) → ⊥
+    ok_err e = cc
+
+    at : (t : Bool) → fits n ≡ t → IsPast s f
+    at true q = absurd (ok_err (rw q at e))
+    at false q = record { fault = err_same f (rw q at e); number = n; spelled = h; past = q }
+
+pub unsaid : (s : List ℕ) (k : Shape) (f : LexFault) → IsOfShape k s → lexeme_of k s ≡ Err f → IsPast s f
+unsaid s k f h e =
+    let by_shape : lexeme_of (shape_of h.lexeme) s ≡ Err f = ap (λ (j : Shape). lexeme_of j s) h.is_shape ∙ e in
+    from_unchecked s h.lexeme f h.spelled (sym (lexeme_of-token s h.lexeme h.spelled) ∙ by_shape)

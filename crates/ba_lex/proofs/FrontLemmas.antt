@@ -1,11 +1,13 @@
 -- What stands at the front is a spelling of its shape.
-use Rattle.std.proofs.Common.{◌≡◌, ℕ, suc, ◌+◌, ◌<◌, ◌≤◌, pos, neg_ℤ, Bool, true, false, not, eqb, List, [], ◌∷◌, ◌++◌, length, take, drop, get_or, ◌⊎◌, Option, Some, None, option_map, inl, inr, refl, sym, ap, subst, ◌∙◌, arith, add-one}
-use Rattle.std.specs.List.{list_all, prefix_len}
+use Rattle.std.proofs.Common.{◌≡◌, ◌≢◌, ℕ, suc, ◌+◌, ◌<◌, ◌≤◌, pos, neg_ℤ, Bool, true, false, not, eqb, List, [], ◌∷◌, ◌++◌, length, take, drop, get_or, ◌⊎◌, Option, Some, None, option_map, inl, inr, refl, sym, ap, subst, ◌∙◌, arith, add-one}
+use Rattle.std.specs.List.{All, list_all, prefix_len}
 use Rattle.std.specs.Option.{IfSome, option_map_or}
 use Rattle.std.proofs.Math.Numerals.{one-add}
 use Rattle.std.proofs.lemmas.Bool.{and_from, cond_both, eqb-false, eqb-true, not-false}
 use Rattle.std.proofs.lemmas.List.{length-append, take-append-drop, take_more}
+use Rattle.std.proofs.lemmas.List.Elements.{All-cons, All-nil}
 use Rattle.std.proofs.lemmas.List.Folds.{length-prefix_len}
+use Rattle.ba_lex.specs.Faults.{IsOpenName, IsOpenQuote}
 use Rattle.ba_lex.specs.Reading.{EndsLine, is_line}
 use Rattle.std.proofs.lemmas.List.Sums.{prefix_len-le-length, prefix_len_stops}
 use Rattle.ba_lex.specs.Spelling.{are_digits, are_name_bytes, digits_value, doubled, is_blank, is_digit, is_letter, is_name_quote, is_word_byte, sign_bytes}
@@ -14,7 +16,8 @@ use Rattle.ba_lex.specs.declared.front.Piece.{Piece}
 use Rattle.ba_lex.specs.declared.front.Piece.TheVariants.{Gap, Found, Bad}
 use Rattle.ba_lex.specs.declared.front.Shape.{Shape}
 use Rattle.ba_lex.specs.declared.front.Shape.TheVariants as shapes
-use Rattle.ba_lex.specs.declared.token.LexFault.TheVariants.{BadByte, OpenQuote}
+use Rattle.ba_lex.specs.declared.token.LexFault.{LexFault}
+use Rattle.ba_lex.specs.declared.token.LexFault.TheVariants.{TooLong, BadByte, OpenQuote, NumberTooLarge}
 use Rattle.ba_lex.specs.declared.token.Lexeme.TheVariants as lexemes
 use Rattle.ba_lex.specs.declared.token.Sign.{Sign}
 use Rattle.ba_lex.specs.declared.token.Sign.TheVariants.{Minus}
@@ -44,9 +47,16 @@ gap_size b bs n (inr h) =
     let whole : suc (length bs) ≡ suc (suc (length (h.line ++ h.rest))) = ap length h.all in
     (omega arith, omega (arith, whole, length-append h.line h.rest))
 
+-- of faults only these two stand at the front by themselves
+abbrev pub GoodBad : LexFault → List ℕ → Type 0
+GoodBad TooLong bytes = ⊥
+GoodBad NumberTooLarge bytes = ⊥
+GoodBad BadByte bytes = Unit {0}
+GoodBad OpenQuote bytes = IsOpenQuote bytes
+
 abbrev pub Good : ℕ → List ℕ → Piece → Type 0
 Good b bs (Gap n) = TakesGap b bs n
-Good b bs (Bad f) = Unit {0}
+Good b bs (Bad f) = GoodBad f (b ∷ bs)
 Good b bs (Found shape n) = Takes b bs shape n
 
 plus_two : (n : ℕ) → n + 2 ≡ suc (suc n)
@@ -154,11 +164,29 @@ name_takes q bs n e has_end is_quote are =
       });
     }
 
+-- a run of all bytes
+run_all : (q : ℕ) (bs : List ℕ) → prefix_len (λ b. not (eqb b q)) bs ≡ length bs → All (λ b. b ≢ q) bs
+run_all q [] h = All-nil (λ b. b ≢ q)
+run_all q (b ∷ bs) h = at (eqb b q) refl (run_all q bs)
+  where
+    no_zero : (n : ℕ) → 0 ≡ suc n → ⊥
+    no_zero n e = omega arith
+
+    less : (n m : ℕ) → 1 + n ≡ suc m → n ≡ m
+    less n m e = omega arith
+
+    at : (t : Bool) → eqb b q ≡ t → (prefix_len (λ d. not (eqb d q)) bs ≡ length bs → All (λ d. d ≢ q) bs) → All (λ d. d ≢ q) (b ∷ bs)
+    at true e more = absurd (no_zero (length bs) (rw e at h))
+    at false e more = All-cons (λ d. d ≢ q) b bs (eqb-false b q e) (more (less _ _ (rw e at h)))
+
+open_name : (q : ℕ) (bs : List ℕ) → is_name_quote q ≡ true → prefix_len (λ b. not (eqb b q)) bs ≡ length bs → IsOpenName (q ∷ bs)
+open_name q bs h e = record { quote = q; behind = bs; is_quote = h; all = refl; no_end = run_all q bs e }
+
 name_good : (q : ℕ) (bs : List ℕ) → is_name_quote q ≡ true → Good q bs (name q bs)
 name_good q bs h = by (prefix_len (λ b. not (eqb b q)) bs) refl
   where
     by : (n : ℕ) → n ≡ prefix_len (λ b. not (eqb b q)) bs → Good q bs (name_of_len n bs)
-    by n e = cond_both (eqb n (length bs)) _ _ (Good q bs) (λ a. tt)
+    by n e = cond_both (eqb n (length bs)) _ _ (Good q bs) (λ a. inr (open_name q bs h (sym e ∙ eqb-true n (length bs) a)))
         (λ a. cond_both (are_name_bytes (take n bs)) _ _ (Good q bs) (λ d. name_takes q bs n e (eqb-false n (length bs) a) h d) (λ d. tt))
 
 -- a quote that was read is still to be counted
@@ -218,11 +246,37 @@ text_spelled (b ∷ bs) false n e = at (eqb b 39) refl (text_spelled bs)
           within = omega (arith, m.within);
         })
 
+suc_none : (o : Option ℕ) → option_map suc o ≡ None → o ≡ None
+suc_none None e = refl
+suc_none (Some n) e = cc
+
+-- without its end a text has all its quotes doubled
+text_open : (bs : List ℕ) (q : Bool) → text_len q bs ≡ None → (inside : List ℕ) × (lead q ++ bs ≡ doubled inside)
+unfolding text_len
+text_open [] true e = cc
+text_open [] false e = ([], refl)
+text_open (b ∷ bs) true e = at (eqb b 39) refl (text_open bs false)
+  where
+    at : (t : Bool) → eqb b 39 ≡ t → (text_len false bs ≡ None → (inside : List ℕ) × (bs ≡ doubled inside)) → (inside : List ℕ) × (39 ∷ b ∷ bs ≡ doubled inside)
+    at true s more =
+        let o = more (suc_none (text_len false bs) (rw s at e)) in
+        (39 ∷ o.0, ap (λ (x : ℕ). 39 ∷ x ∷ bs) (eqb-true b 39 s) ∙ ap (λ (r : List ℕ). 39 ∷ 39 ∷ r) o.1)
+    at false s more = let k = rw s at e in cc
+text_open (b ∷ bs) false e = at (eqb b 39) refl (text_open bs)
+  where
+    at : (t : Bool) → eqb b 39 ≡ t → ((q : Bool) → text_len q bs ≡ None → (inside : List ℕ) × (lead q ++ bs ≡ doubled inside)) → (inside : List ℕ) × (b ∷ bs ≡ doubled inside)
+    at true s more =
+        let o = more true (suc_none (text_len true bs) (rw s at e)) in
+        (o.0, ap (λ (x : ℕ). x ∷ bs) (eqb-true b 39 s) ∙ o.1)
+    at false s more =
+        let o = more false (suc_none (text_len false bs) (rw s at e)) in
+        (b ∷ o.0, rw s (ap (λ (r : List ℕ). b ∷ r) o.1))
+
 text_good : (bs : List ℕ) → Good 39 bs (text bs)
 text_good bs = by (text_len false bs) refl
   where
     by : (o : Option ℕ) → text_len false bs ≡ o → Good 39 bs (option_map_or (λ n. Found shapes.Text (n + 1)) o (Bad OpenQuote))
-    by None e = tt
+    by None e = let o = text_open bs false e in inl (record { inside = o.0; all = ap (λ (r : List ℕ). 39 ∷ r) o.1 })
     by (Some n) e =
         let s = text_spelled bs false n e in
         record {

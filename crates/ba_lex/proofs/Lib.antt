@@ -6,5 +6,8 @@ pub mod FrontLemmas
 pub mod LoopLemmas
 pub mod DecodeLemmas
 pub mod LongestLemmas
+pub mod OpenLemmas
 pub mod ReadingLemmas
 pub mod SpanLemmas
+pub mod CompleteLemmas
+pub mod LawLemmas

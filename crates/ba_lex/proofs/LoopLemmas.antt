@@ -22,7 +22,7 @@ regroup : (before : List Token) (t : Token) (read : Result (List Token) LexFault
 regroup before t (Ok ts) = ap Ok (simp append_assoc)
 regroup before t (Err f) = refl
 
-with_none : (read : Result (List Token) LexFault) → with_found [] read ≡ read
+pub with_none : (read : Result (List Token) LexFault) → with_found [] read ≡ read
 with_none (Ok ts) = refl
 with_none (Err f) = refl
 

@@ -1,4 +1,5 @@
 pub mod Spelling
 pub mod Tokens
 pub mod Reading
+pub mod Faults
 pub mod Word
