@@ -2,6 +2,7 @@ pub mod AgreeLemmas
 pub mod ClashLemmas
 pub mod ConformLemmas
 pub mod FieldLemmas
+pub mod FileFaultLemmas
 pub mod FileFitLemmas
 pub mod FirstBrokenLemmas
 pub mod FirstLemmas

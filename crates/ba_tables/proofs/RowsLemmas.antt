@@ -87,7 +87,7 @@ no_rows front row cs total so_far = sym so_far ∙ ap Ok (append-nil front)
 pub within : (n m : ℕ) → n ≤ m → nat_le n m ≡ true
 within n m h = grind (arith, nat_tests)
 
-beyond : (n m : ℕ) → m < n → nat_le n m ≡ false
+pub beyond : (n m : ℕ) → m < n → nat_le n m ≡ false
 beyond n m h = grind (arith, nat_tests)
 
 -- after the last row
@@ -112,7 +112,7 @@ pub lines_are : (cs : List Column) (line : List (List ℕ)) (rest : List (List (
 unfolding rows_of_lines
 lines_are cs line rest = refl
 
-no_lines : (cs : List Column) → rows_of_lines cs [] ≡ Err BadHeader
+pub no_lines : (cs : List Column) → rows_of_lines cs [] ≡ Err BadHeader
 unfolding rows_of_lines
 no_lines cs = refl
 

@@ -1,5 +1,5 @@
 -- A file reads as rows exactly where it spells them.
-use Rattle.std.proofs.Common.{◌≡◌, ◌≢◌, ℕ, zero, suc, ◌+◌, ◌-◌, ◌<◌, ◌≤◌, ◌^◌, ◌==◌, inl, inr, Bool, true, false, cond, nat_le, List, [], ◌∷◌, length, drop, slice_index, Option, Some, None, Ok, Err, refl, arith, ◌∙◌, sym, ap, subst, ℤ, pos, neg_ℤ}
+use Rattle.std.proofs.Common.{◌≡◌, ◌≢◌, ℕ, zero, suc, ◌+◌, ◌-◌, ◌<◌, ◌≤◌, ◌^◌, ◌==◌, inl, inr, Bool, true, false, cond, nat_le, List, [], ◌∷◌, length, drop, slice_index, Option, Some, None, Result, Ok, Err, refl, arith, ◌∙◌, sym, ap, subst, ℤ, pos, neg_ℤ}
 use Rattle.std.proofs.lemmas.Bool.{eqb-true}
 use Rattle.std.proofs.lemmas.Bool.Decides.{nat_tests}
 use Rattle.std.proofs.lemmas.Fmt.{IsAscii-from_digits}
@@ -16,7 +16,7 @@ use Rattle.ba_model.specs.declared.schema.Kind.TheVariants.{Int as IntKind, Text
 use Rattle.ba_model.specs.declared.schema.Table.{Table}
 use Rattle.ba_model.specs.declared.value.Value.{Value}
 use Rattle.ba_model.specs.declared.value.Value.TheVariants.{Int}
-use Rattle.ba_tables.specs.Spelling.{IsDigits, ReadsAsSpelled, Spells, SpellsNumber, SpellsRow, SpellsTable}
+use Rattle.ba_tables.specs.Spelling.{IsDigits, ReadsAsSpelled, RowsAreUnique, Spells, SpellsNumber, SpellsRow, SpellsTable}
 use Rattle.ba_tables.specs.TableFile.{◌>>=◌, digits_up_to, is_header, names_of, number_of, row_at, row_limit, rows_from, rows_of_file, rows_of_lines, rows_of_rest, value_at, values_from, within_limit}
 use Rattle.ba_tables.specs.declared.fault.TableFault.{TableFault}
 use Rattle.ba_tables.specs.declared.fault.TableFault.TheVariants.{BadHeader, BadNumber, TooMany}
@@ -35,7 +35,7 @@ begins : (field : List ℕ) → (slice_index field 0 == 45) ≡ true → field �
 begins [] e = cc e
 begins (c ∷ cs) e = let same : c ≡ 45 = eqb-true c 45 e in rw same refl
 
-number_spells : (field : List ℕ) (n : ℤ) → number_of field ≡ Some n → SpellsNumber field n
+pub number_spells : (field : List ℕ) (n : ℤ) → number_of field ≡ Some n → SpellsNumber field n
 number_spells field n e = by (slice_index field 0 == 45) refl
   where
     by : (b : Bool) → (slice_index field 0 == 45) ≡ b → SpellsNumber field n
@@ -64,7 +64,7 @@ no_minus : (field : List ℕ) → IsDigits field → slice_index field 0 ≢ 45
 no_minus [] h e = absurd (let none = h.some_digit in omega arith)
 no_minus (c ∷ cs) h e = let same : c ≡ 45 = e in cc (rw same at h.digits)
 
-spells_number : (field : List ℕ) (n : ℤ) → SpellsNumber field n → number_of field ≡ Some n
+pub spells_number : (field : List ℕ) (n : ℤ) → SpellsNumber field n → number_of field ≡ Some n
 spells_number field n (inl h) =
     let fits = h.fits in
     rw (plain_is field (no_minus field h.digits), spelled (2 ^ 63 - 1) field (record { digits = h.digits.digits; some_digit = h.digits.some_digit; within = omega arith })) (ap Some (sym h.value))
@@ -89,11 +89,11 @@ filled : (o : Option ℤ) (fault : TableFault) (v : Value) → ok_or (option_map
 filled None fault v e = cc e
 filled (Some n) fault v e = (n, refl, cc e)
 
-field_spells : (row i : ℕ) (k : Kind) (f : List ℕ) (v : Value) → is_utf8 f ≡ true → value_at row i k f ≡ Ok v → Spells k f v
+pub field_spells : (row i : ℕ) (k : Kind) (f : List ℕ) (v : Value) → is_utf8 f ≡ true → value_at row i k f ≡ Ok v → Spells k f v
 field_spells row i IntKind f v t e = let h = filled (number_of f) (BadNumber row i) v e in (h.0, number_spells f h.0 h.1, h.2)
 field_spells row i TextKind f v t e = (IsUtf8-from_is_utf8 f t, cc e)
 
-spells_field : (row i : ℕ) (k : Kind) (f : List ℕ) (v : Value) → Spells k f v → (is_utf8 f ≡ true) × (value_at row i k f ≡ Ok v)
+pub spells_field : (row i : ℕ) (k : Kind) (f : List ℕ) (v : Value) → Spells k f v → (is_utf8 f ≡ true) × (value_at row i k f ≡ Ok v)
 spells_field row i IntKind f v h = (is_utf8-from_IsUtf8 f (number_text f h.0 h.1), rw (spells_number f h.0 h.1, h.2) refl)
 spells_field row i TextKind f v h = (is_utf8-from_IsUtf8 f h.0, ap Ok (sym h.1))
 
@@ -109,7 +109,7 @@ values_spell row i (c ∷ cs) (f ∷ fs) vs w t h =
     let whole : v.0 ∷ us.0 ≡ vs = cc us.2 in
     subst (λ x. SpellsRow (c ∷ cs) (f ∷ fs) x) whole (field_spells row i c.kind f v.0 texts.0 v.1, values_spell row (i + 1) cs fs us.0 (omega arith) texts.1 us.1)
 
-spells_width : (cs : List Column) (fs : List (List ℕ)) (vs : List Value) → SpellsRow cs fs vs → length fs ≡ length cs
+pub spells_width : (cs : List Column) (fs : List (List ℕ)) (vs : List Value) → SpellsRow cs fs vs → length fs ≡ length cs
 spells_width [] [] vs h = refl
 spells_width [] (f ∷ fs) vs h = absurd h
 spells_width (c ∷ cs) [] vs h = absurd h
@@ -129,13 +129,13 @@ spells_values row i (c ∷ cs) (f ∷ fs) (v ∷ vs) h =
     (both (is_utf8 f) (list_all is_utf8 fs) one.0 others.0, rw (one.1, others.1) refl)
 
 -- rows
-row_spells : (row : ℕ) (cs : List Column) (fs : List (List ℕ)) (vs : List Value) → row_at row cs fs ≡ Ok vs → SpellsRow cs fs vs
+pub row_spells : (row : ℕ) (cs : List Column) (fs : List (List ℕ)) (vs : List Value) → row_at row cs fs ≡ Ok vs → SpellsRow cs fs vs
 row_spells row cs fs vs h = let told = row_told row cs fs vs h in values_spell row 0 cs fs vs told.0 told.1 told.2
 
-spells_row : (row : ℕ) (cs : List Column) (fs : List (List ℕ)) (vs : List Value) → SpellsRow cs fs vs → row_at row cs fs ≡ Ok vs
+pub spells_row : (row : ℕ) (cs : List Column) (fs : List (List ℕ)) (vs : List Value) → SpellsRow cs fs vs → row_at row cs fs ≡ Ok vs
 spells_row row cs fs vs h = let all = spells_values row 0 cs fs vs h in row_is row cs fs (spells_width cs fs vs h) all.0 ∙ all.1
 
-rows_spell : (row : ℕ) (cs : List Column) (lines : List (List (List ℕ))) (rows : List (List Value)) → rows_from row cs lines ≡ Ok rows → AllZip (SpellsRow cs) lines rows
+pub rows_spell : (row : ℕ) (cs : List Column) (lines : List (List (List ℕ))) (rows : List (List Value)) → rows_from row cs lines ≡ Ok rows → AllZip (SpellsRow cs) lines rows
 unfolding rows_from
 rows_spell row cs [] rows h = let none : [] ≡ rows = cc h in subst (λ x. AllZip (SpellsRow cs) [] x) none tt
 rows_spell row cs (line ∷ lines) rows h =
@@ -144,7 +144,7 @@ rows_spell row cs (line ∷ lines) rows h =
     let whole : v.0 ∷ us.0 ≡ rows = cc us.2 in
     subst (λ x. AllZip (SpellsRow cs) (line ∷ lines) x) whole (row_spells row cs line v.0 v.1, rows_spell (row + 1) cs lines us.0 us.1)
 
-spells_rows : (row : ℕ) (cs : List Column) (lines : List (List (List ℕ))) (rows : List (List Value)) → AllZip (SpellsRow cs) lines rows → rows_from row cs lines ≡ Ok rows
+pub spells_rows : (row : ℕ) (cs : List Column) (lines : List (List (List ℕ))) (rows : List (List Value)) → AllZip (SpellsRow cs) lines rows → rows_from row cs lines ≡ Ok rows
 unfolding rows_from
 spells_rows row cs [] [] h = refl
 spells_rows row cs [] (vs ∷ rows) h = absurd h
@@ -152,10 +152,10 @@ spells_rows row cs (line ∷ lines) [] h = absurd h
 spells_rows row cs (line ∷ lines) (vs ∷ rows) h = rw (spells_row row cs line vs h.0, spells_rows (row + 1) cs lines rows h.1) refl
 
 -- the file
-header_told : (cs : List Column) (line : List (List ℕ)) → is_header cs line ≡ true → line ≡ names_of cs
+pub header_told : (cs : List Column) (line : List (List ℕ)) → is_header cs line ≡ true → line ≡ names_of cs
 header_told cs line e = (pointwise_decides bytes_eq-Decides line (names_of cs)).0 e
 
-header_test : (cs : List Column) → is_header cs (names_of cs) ≡ true
+pub header_test : (cs : List Column) → is_header cs (names_of cs) ≡ true
 header_test cs = (pointwise_decides bytes_eq-Decides (names_of cs) (names_of cs)).1 refl
 
 passed : (all : List (List Value)) (rows : List (List Value)) → within_limit all ≡ Ok rows → (all ≡ rows) × (length all ≤ row_limit)
@@ -201,3 +201,9 @@ reads_as_spelled_is table bytes rows = (
   file_spells table bytes rows,
   λ h. file_is table bytes ∙ spells_lines table.columns (records default_config (strip_bom bytes)) h.lines rows h.header h.rows_are h.few,
 )
+
+pub rows_are_unique : RowsAreUnique
+rows_are_unique table bytes rows others h k = same rows others (sym ((reads_as_spelled_is table bytes rows).1 h) ∙ (reads_as_spelled_is table bytes others).1 k)
+  where
+    same : (rows others : List (List Value)) → ◌≡◌ {A = Result (List (List Value)) TableFault} (Ok rows) (Ok others) → rows ≡ others
+    same rows others e = cc e

@@ -1,5 +1,6 @@
 pub mod Breaks
 pub mod Broken
+pub mod FileFaults
 pub mod Index
 pub mod Left
 pub mod Spelling

@@ -58,3 +58,7 @@ pub record SpellsTable (table : Table) (bytes : List ℕ) (rows : List (List Val
 -- a file reads as rows exactly where it spells them
 abbrev pub ReadsAsSpelled : Type 0
 ReadsAsSpelled = (table : Table) (bytes : List ℕ) (rows : List (List Value)) → (rows_of_file table bytes ≡ Ok rows) ↔ SpellsTable table bytes rows
+
+-- and as one list of rows at most
+abbrev pub RowsAreUnique : Type 0
+RowsAreUnique = (table : Table) (bytes : List ℕ) (rows others : List (List Value)) → SpellsTable table bytes rows → SpellsTable table bytes others → rows ≡ others
