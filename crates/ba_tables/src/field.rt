@@ -1,5 +1,5 @@
 //! One field of a row.
-ghost use Rattle.std.specs.Prelude.{◌≡◌};
+ghost use Rattle.std.specs.Prelude.{◌≡◌, IsErrOf};
 ghost use Rattle.ba_tables.specs.TableFile.{Gives, number_of, value_at};
 
 use crate::fault::{TableError, TableFault};
@@ -21,7 +21,7 @@ pub fn number_of(field: &str) -> Option<i64>
     field.parse::<i64>().ok()
 }
 
-/// The value of the field of a row and column.
+/// The value of the field of a row and column. A number takes no memory.
 pub fn value_at(
     alloc: Global,
     row: u64,
@@ -29,7 +29,8 @@ pub fn value_at(
     kind: Kind,
     field: &str,
 ) -> Result<Value, TableError>
-    ensures { Gives result (value_at row column kind field.now) }
+    ensures reads { Gives result (value_at row column kind field.now) }
+    ensures number { IsErrOf result TableError.NoMemory → kind ≡ Kind.Text }
 {
     match kind {
         Kind::Int => match number_of(field) {

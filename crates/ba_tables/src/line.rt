@@ -1,5 +1,5 @@
 //! One record of a file.
-ghost use Rattle.std.specs.Prelude.{◌≡◌, ◌<◌, IsTrue, length, Some};
+ghost use Rattle.std.specs.Prelude.{◌≡◌, ◌<◌, IsErrOf, IsTrue, length, Some};
 ghost use Rattle.std.specs.List.{list_all};
 ghost use Rattle.std.specs.Str.{is_utf8};
 ghost use Rattle.csv.specs.Records.{field_at, fields_of};
@@ -54,14 +54,16 @@ fn text_at(line: &ByteRecord, i: usize) -> &str
     text
 }
 
-/// The values of the row with this number.
+/// The values of the row with this number. Its width and its UTF-8 are tested before memory is taken.
 pub fn row_at(
     alloc: Global,
     row: u64,
     columns: &List<Column>,
     line: &ByteRecord,
 ) -> Result<Row, TableError>
-    ensures { Gives result (row_at row columns.now (fields_of line.now)) }
+    ensures reads { Gives result (row_at row columns.now (fields_of line.now)) }
+    ensures width { IsErrOf result TableError.NoMemory → length (fields_of line.now) ≡ length columns.now }
+    ensures text { IsErrOf result TableError.NoMemory → IsTrue (list_all is_utf8 (fields_of line.now)) }
 {
     if line.len() != columns.len() {
         return Err(TableError::Fault(TableFault::BadWidth(row)));

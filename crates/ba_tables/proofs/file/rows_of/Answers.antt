@@ -16,15 +16,15 @@ pub returns-in_err-values : goal.returns-in_err-values
 returns-in_err-values c =
     let p = err_from_is_err_and c.from_residual-in_err-values.result c.from_residual-in_err-values.ensures.1 in
     rw (p.1, p.2)
-    (bad_kept c.in_err-values.field-0.0 c.args.columns.now c.args.lines.now c.loop-row.lines c.next.new.self c.loop-row.rows c.loop-row.row (fields_of c.next.new.line) c.loop-row.invariant (c.in_ok-next.ensures.read c.if-not-branch.false) c.in_err-values.ensures)
+    (bad_kept c.in_err-values.field-0.0 c.args.columns.now c.args.lines.now c.loop-row.lines c.next.new.self c.loop-row.rows c.loop-row.row (fields_of c.next.new.line) c.loop-row.invariant (c.in_ok-next.ensures.read c.if-not-branch.false) c.in_err-values.ensures.reads)
 
 pub loop-row-preserved : goal.loop-row-preserved
 loop-row-preserved c =
     elim c.if-within.branch [
       | then-within+in_ok-push w ↦
           rw (w.rows-is, w.in_ok-push.ensures.ok)
-          (one_kept c.args.columns.now c.args.lines.now c.loop-row.lines c.next.new.self c.loop-row.rows c.loop-row.row (fields_of c.next.new.line) c.in_ok-values.values c.loop-row.invariant (c.in_ok-next.ensures.read c.if-not-branch.false) c.in_ok-values.ensures w.if-within.true)
+          (one_kept c.args.columns.now c.args.lines.now c.loop-row.lines c.next.new.self c.loop-row.rows c.loop-row.row (fields_of c.next.new.line) c.in_ok-values.values c.loop-row.invariant (c.in_ok-next.ensures.read c.if-not-branch.false) c.in_ok-values.ensures.reads w.if-within.true)
       | else-within w ↦
           rw w.rows-is
-          (one_dropped c.args.columns.now c.args.lines.now c.loop-row.lines c.next.new.self c.loop-row.rows c.loop-row.row (fields_of c.next.new.line) c.in_ok-values.values c.loop-row.invariant (c.in_ok-next.ensures.read c.if-not-branch.false) c.in_ok-values.ensures w.if-within.false)
+          (one_dropped c.args.columns.now c.args.lines.now c.loop-row.lines c.next.new.self c.loop-row.rows c.loop-row.row (fields_of c.next.new.line) c.in_ok-values.values c.loop-row.invariant (c.in_ok-next.ensures.read c.if-not-branch.false) c.in_ok-values.ensures.reads w.if-within.false)
     ]
