@@ -20,8 +20,10 @@ pub trait Storied {
     /// How many entries may be added with no memory asked for.
     ghost room: { Self → ℕ };
 
-    /// Makes room for `calls` further entries. Where memory is refused, the opening state and the history are as before.
+    /// Makes room for `calls` further entries. Where memory is refused, the opening state and the history are as before,
+    /// and there is no less room than before.
     fn reserve(&mut self, calls: u32) -> Result<(), AllocError>
         ensures room { OnOk result (calls ≤ room self.new) }
-        ensures same { (opening self.new ≡ opening self.old) × (history self.new ≡ history self.old) };
+        ensures same { (opening self.new ≡ opening self.old) × (history self.new ≡ history self.old) }
+        ensures no_less { room self.old ≤ room self.new };
 }
