@@ -6,13 +6,13 @@ use Rattle.std.proofs.Common.{◌≡◌, ℕ, ◌+◌, Bool, true, false, List, 
 use Rattle.atomic_table.specs.Table.{State, Me, step, keeps, Allows, Final, Seen}
 use Rattle.ba_turn.specs.declared.known.Kept.{Kept}
 use Rattle.ba_turn.specs.declared.known.Known.{Known}
-use Rattle.ba_turn.specs.History.{calls_by, HasCalls}
-use Rattle.ba_turn.specs.Knowing.{after_join}
+use Rattle.ba_turn.specs.History.{calls_by, HasCalls, AreDistinct}
+use Rattle.ba_turn.specs.Knowing.{after_join, numbers_of, HasAllCalls}
 use Rattle.ba_turn.specs.Rule.{Scene, left_of, StandsAt, TakesTurns}
 use Rattle.ba_turn.specs.Steps.{Settles}
 use Rattle.ba_turn.proofs.Lists.{sum_at, same_at, prefix_both, prefix_whole, prefix_length}
 use Rattle.ba_turn.proofs.Histories.{joined_calls}
-use Rattle.ba_turn.proofs.Steps.{sums, unmoved, ticket_is, same_out}
+use Rattle.ba_turn.proofs.Steps.{sums, has_all_calls, unmoved, ticket_is, same_out}
 
 at_rest : (b : Bool) → (b ≡ true → ⊥) → b ≡ false
 at_rest true h = absurd (h refl)
@@ -42,7 +42,7 @@ module _ {S E O : Type 0} (opening : S → O) (history : S → List E) (room : S
         keeps,
         tt,
         unmoved opening history room start allowance s r id me.0 at live (set s.words 0 n) words,
-        (refl, (λ h. prefix_both me.0.behind me.0.seen f.behind.0 f.seen.0 (f.behind.1 ∙ sym f.seen.1) h), sums opening history room start allowance s r id me.0 at live idle),
+        (refl, (λ h. prefix_both me.0.behind me.0.seen f.behind.0 f.seen.0 (f.behind.1 ∙ sym f.seen.1) h), sums opening history room start allowance s r id me.0 at live idle, f.apart, has_all_calls opening history room start allowance s r id me.0 at live),
       )
 
   pub settles_joined : (slots id : ℕ) (v w : V) (c : List (ℕ × Option (Kept S))) (me : M) → me ≡ (after_join v w, c) → v.live ≡ true → v.has_ticket ≡ false → Allows Rule slots id me 0 (λ n. n) (Settles (step slots 0 0 0 none) me)
@@ -53,6 +53,8 @@ module _ {S E O : Type 0} (opening : S → O) (history : S → List E) (room : S
     pub stands : StandsAt opening history room start allowance v.seen k
     pub made : calls_by v.number v.seen ≡ v.made
     pub joined : HasCalls v.seen v.joined
+    pub apart : AreDistinct (numbers_of v)
+    pub all : HasAllCalls v
 
   closes : (id : ℕ) (v : V) (ws : List ℕ) (xs : List (Option (Kept S))) → v.live ≡ true → v.left + length v.seen ≡ allowance → Final (Seen Rule id v) ws xs → (k : Kept S) × (get_elem? xs 0 ≡ some (Some k)) × Ends v k
   closes id v ws xs live spent_all end =
@@ -75,6 +77,8 @@ module _ {S E O : Type 0} (opening : S → O) (history : S → List E) (room : S
           stands = subst (λ (l : List (ℕ × E)). StandsAt opening history room start allowance l x.kept) (sym whole) (r.stands out);
           made = ap (calls_by v.number) whole ∙ f.made;
           joined = joined_calls x v.seen v.joined (sym whole) f.joined;
+          apart = f.apart;
+          all = has_all_calls opening history room start allowance s r id v at live;
         },
       )
 

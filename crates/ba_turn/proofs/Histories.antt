@@ -1,13 +1,19 @@
 -- Histories with numbers.
 use mathlib.Core.List.{IsPrefix}
-use Rattle.std.proofs.Common.{◌≡◌, ◌≢◌, ℕ, ◌<◌, ◌≤◌, Bool, cond, ⊎_elim, List, [], ◌∷◌, ◌++◌, map, length, sym, refl, ap, ◌∙◌, subst, arith, append-nil, eq-eqb, ne_eqb, ◌==◌}
-use Rattle.std.specs.List.{filter}
+use mathlib.Core.Logic.{dite}
+use native.Mathlib.Decide.{ℕ_discrete, dec_le}
+use Rattle.std.proofs.Common.{◌≡◌, ◌≢◌, ℕ, ◌<◌, ◌≤◌, Bool, true, false, cond, ⊎_elim, List, [], ◌∷◌, ◌++◌, map, length, sym, lt_of_not-le, refl, ap, ◌∙◌, subst, arith, append-nil, eq-eqb, ne_eqb, ◌==◌}
+use Rattle.std.specs.List.{filter, All, slice_index_or}
 use Rattle.std.proofs.lemmas.List.{map-append}
-use Rattle.std.proofs.lemmas.List.Elements.{filter-append}
+use Rattle.std.proofs.lemmas.List.Elements.{filter-append, All-cons}
 use Rattle.std.proofs.lemmas.Bool.Decides.{leb_tells}
 use Rattle.ba_turn.specs.History.{calls_by, number_of, entry_of, HasCalls, longer_of, shorter_of}
 use Rattle.ba_turn.specs.Rule.{Scene, IsJoined, AllJoined}
 use Rattle.ba_turn.proofs.Lists.{prefix_self}
+
+nil_before : {A : Type 0} (xs ys : List A) → xs ++ ys ≡ [] → xs ≡ []
+nil_before [] ys e = refl
+nil_before (x ∷ xs) ys e = cc
 
 module _ {E : Type 0} where
   calls_more : (n : ℕ) (l m : List (ℕ × E)) → calls_by n (l ++ m) ≡ calls_by n l ++ calls_by n m
@@ -19,6 +25,24 @@ module _ {E : Type 0} where
 
   pub calls_else : (n m : ℕ) (l : List (ℕ × E)) (e : E) → m ≢ n → calls_by n (l ++ (m, e) ∷ []) ≡ calls_by n l
   calls_else n m l e ne = calls_more n l ((m, e) ∷ []) ∙ (ap (λ (b : Bool). calls_by n l ++ map entry_of (cond b ((m, e) ∷ []) [])) (ne_eqb m n ne) ∙ append-nil (calls_by n l))
+
+  -- where a number made no call, each call has another
+  no_call : (n : ℕ) (l : List (ℕ × E)) → calls_by n l ≡ [] → All (λ m. m ≢ n) (map number_of l)
+  no_call n [] none = λ k d within. absurd (omega arith)
+  no_call n (c ∷ cs) none =
+      let first : (b : Bool) → (c.0 == n) ≡ b → calls_by n (c ∷ cs) ≡ map entry_of (cond b (c ∷ filter (λ (t : ℕ × E). number_of t == n) cs) (filter (λ (t : ℕ × E). number_of t == n) cs)) = λ b is. ap (λ (z : Bool). map entry_of (cond z (c ∷ filter (λ (t : ℕ × E). number_of t == n) cs) (filter (λ (t : ℕ × E). number_of t == n) cs))) is in
+      dite (ℕ_discrete c.0 n)
+      (λ e. absurd (let some : c.1 ∷ calls_by n cs ≡ [] = sym (first true (eq-eqb c.0 n e)) ∙ none in cc))
+      (λ ne. All-cons (λ m. m ≢ n) c.0 (map number_of cs) ne (no_call n cs (sym (first false (ne_eqb c.0 n ne)) ∙ none)))
+
+  -- each call of the beginning of a history has a number up to the last, where no greater number made a call
+  pub numbers_within : (last : ℕ) (seen log : List (ℕ × E)) → IsPrefix seen log → ((n : ℕ) → last < n → calls_by n log ≡ []) → All (λ m. m ≤ last) (map number_of seen)
+  numbers_within last seen log p fresh k d within =
+      let n : ℕ = slice_index_or (map number_of seen) k d in
+      dite (dec_le n last) (λ low. low) (λ high. absurd (
+      let none : calls_by n (seen ++ p.0) ≡ [] = ap (calls_by n) p.1 ∙ fresh n (lt_of_not-le high) in
+      no_call n seen (nil_before (calls_by n seen) (calls_by n p.0) (sym (calls_more n seen p.0) ∙ none)) k d within refl
+      ))
 
   pub entries_more : (l : List (ℕ × E)) (n : ℕ) (e : E) → map entry_of (l ++ (n, e) ∷ []) ≡ map entry_of l ++ e ∷ []
   entries_more l n e = map-append entry_of l ((n, e) ∷ [])
@@ -46,3 +70,12 @@ module _ {S E : Type 0} where
   pub joined_calls : (x : Scene S E) (log : List (ℕ × E)) (l : List (ℕ × List E)) → x.log ≡ log → AllJoined x l → HasCalls log l
   joined_calls x log [] is h = tt
   joined_calls x log (k ∷ ks) is h = let c = h.0.calls_are in (ap (calls_by k.0) (sym is) ∙ c, joined_calls x log ks is h.1)
+
+  -- the numbers that were joined are known, and no seat has one of them
+  pub joined_known : (x : Scene S E) (l : List (ℕ × List E)) → AllJoined x l → All (λ m. m ≤ x.last) (map number_of l)
+  joined_known x [] h = λ k d within. absurd (omega arith)
+  joined_known x (k ∷ ks) h = All-cons (λ m. m ≤ x.last) k.0 (map number_of ks) h.0.known (joined_known x ks h.1)
+
+  pub joined_else : (x : Scene S E) (n : ℕ) (l : List (ℕ × List E)) → 0 < x.place n → AllJoined x l → All (λ m. n ≢ m) (map number_of l)
+  joined_else x n [] seated h = λ k d within. absurd (omega arith)
+  joined_else x n (k ∷ ks) seated h = All-cons (λ m. n ≢ m) k.0 (map number_of ks) (λ e. let free = h.0.free in let same : x.place n ≡ x.place k.0 = ap x.place e in absurd (omega arith)) (joined_else x n ks seated h.1)

@@ -1,11 +1,20 @@
 -- Lists with a value at some place, and beginnings of lists.
 use mathlib.Core.List.{IsPrefix}
+use mathlib.Core.Logic.{dite}
 use mathlib.Core.Option.{some, some-injective, some-ne-none}
+use native.Mathlib.Decide.{ℕ_discrete}
 use lib.ListN.{get_elem?}
-use Rattle.std.proofs.Common.{◌≡◌, ◌≢◌, ℕ, zero, suc, ◌+◌, ◌<◌, ◌≤◌, cond, ⊎_elim, inl, inr, ◌⊎◌, List, [], ◌∷◌, ◌++◌, length, set, sym, refl, ap, ◌∙◌, arith, append_assoc, append-nil, length-append, eqb, eq-eqb, ne_eqb, Bool}
-use Rattle.std.specs.List.{sum_by}
+use Rattle.std.proofs.Common.{◌≡◌, ◌≢◌, ℕ, zero, suc, ◌+◌, ◌<◌, ◌≤◌, cond, ⊎_elim, inl, inr, ◌⊎◌, List, [], ◌∷◌, ◌++◌, length, set, sym, refl, ap, ◌∙◌, arith, append_assoc, append-nil, length-append, eqb, eq-eqb, eqb-true, ne_eqb, Bool}
+use Rattle.std.specs.Cmp.{unsigned_Decides}
+use Rattle.std.specs.List.{sum_by, All, Contains}
 use Rattle.std.proofs.lemmas.List.Sums.{sum_by-cons}
 use Rattle.std.proofs.lemmas.List.{nil_from_length}
+use Rattle.std.proofs.lemmas.List.Elements.{All-cons, All-contains}
+use Rattle.std.proofs.lemmas.List.Kept.{AllPairs-cons}
+use Rattle.std.proofs.lemmas.Map.Made.{IsDistinct-from_AllPairs}
+use Rattle.std.proofs.lemmas.Map.Steps.{length-le_from_distinct_below}
+use Rattle.std.proofs.lemmas.Map.Views.{Contains-from_any}
+use Rattle.ba_turn.specs.History.{AreDistinct}
 
 module _ {A : Type 0} where
   pub same_at : (l : List A) (i : ℕ) (a b : A) → get_elem? l i ≡ some a → get_elem? l i ≡ some b → a ≡ b
@@ -109,6 +118,27 @@ module _ {A : Type 0} where
 
   pub prefix_more : (seen log more : List A) → IsPrefix seen log → IsPrefix seen (log ++ more)
   prefix_more seen log more p = (p.0 ++ more, sym (append_assoc seen p.0 more) ∙ ap (λ (l : List A). l ++ more) p.1)
+
+-- one number alone differs from all others
+pub alone_differs : (n : ℕ) → AreDistinct (n ∷ [])
+alone_differs n i j d lt within = absurd (omega arith)
+
+-- a number is in a list, or differs from each one there
+look_up : (n : ℕ) (ns : List ℕ) → Contains ns n ⊎ All (λ m. n ≢ m) ns
+look_up n [] = inr (λ k d within. absurd (omega arith))
+look_up n (m ∷ ms) = dite (ℕ_discrete m n)
+    (λ e. inl (0, omega arith, e))
+    (λ ne. ⊎_elim (λ c. inl (suc c.0, omega arith, c.2)) (λ a. inr (All-cons (λ k. n ≢ k) m ms (λ e. ne (sym e)) a)) (look_up n ms))
+
+few_numbers : (ns : List ℕ) (last : ℕ) → AreDistinct ns → All (λ m. m ≤ last) ns → length ns ≤ last + 1
+few_numbers ns last apart within = length-le_from_distinct_below ns (last + 1) (IsDistinct-from_AllPairs unsigned_Decides ns apart)
+    (λ q h. let low : q ≤ last = All-contains (λ m. m ≤ last) ns q within (Contains-from_any (λ x y t. eqb-true x y t) q ns h) in omega arith)
+
+-- as many numbers as there are up to the last, with none twice, are all of these
+pub every_number : (ns : List ℕ) (last n : ℕ) → AreDistinct ns → All (λ m. m ≤ last) ns → length ns ≡ last + 1 → n ≤ last → Contains ns n
+every_number ns last n apart within full low = ⊎_elim (λ c. c)
+    (λ other. let more = few_numbers (n ∷ ns) last (AllPairs-cons (λ k m. k ≢ m) n ns other apart) (All-cons (λ m. m ≤ last) n ns low within) in absurd (omega arith))
+    (look_up n ns)
 
 -- f, with t for n
 abbrev pub replaced : (ℕ → ℕ) → ℕ → ℕ → ℕ → ℕ

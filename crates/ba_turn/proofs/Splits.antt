@@ -4,17 +4,19 @@ use mathlib.Core.Logic.{dite}
 use mathlib.Core.Option.{some}
 use native.Mathlib.Decide.{ℕ_discrete}
 use lib.ListN.{get_elem?}
-use Rattle.std.proofs.Common.{◌≡◌, ◌≢◌, ℕ, ◌+◌, ◌≤◌, true, false, List, [], ◌∷◌, ◌++◌, length, set, sym, refl, ap, ◌∙◌, subst, ⊎_elim, arith, Option, length-set}
+use Rattle.std.proofs.Common.{◌≡◌, ◌≢◌, ℕ, suc, ◌+◌, ◌≤◌, true, false, List, [], ◌∷◌, ◌++◌, map, length, set, sym, refl, ap, ◌∙◌, subst, ⊎_elim, arith, Option, length-set}
+use Rattle.std.proofs.lemmas.List.Elements.{All-cons}
+use Rattle.std.proofs.lemmas.List.Kept.{AllPairs-cons}
 use Rattle.std.proofs.lemmas.List.Sums.{sum_by-append}
 use Rattle.atomic_table.specs.Table.{State, Me, Splits, Joins}
 use Rattle.atomic_table.proofs.Lists.{at_set, set_here, set_else, at_longer}
 use Rattle.ba_turn.specs.declared.known.Kept.{Kept}
 use Rattle.ba_turn.specs.declared.known.Known.{Known}
-use Rattle.ba_turn.specs.History.{longer_of}
-use Rattle.ba_turn.specs.Knowing.{after_split, split_known, after_join, spent_known}
+use Rattle.ba_turn.specs.History.{number_of, longer_of, AreDistinct}
+use Rattle.ba_turn.specs.Knowing.{after_split, split_known, after_join, spent_known, numbers_of}
 use Rattle.ba_turn.specs.Rule.{Scene, IsTrueOf, AllJoined, left_of, live_of, HoldsTicket, SomeHasSeen, TakesTurns}
-use Rattle.ba_turn.proofs.Lists.{sum_set, same_at, is_within, at_end, prefix_length, replaced, replaced_here, replaced_else}
-use Rattle.ba_turn.proofs.Histories.{longer_either, joined_map}
+use Rattle.ba_turn.proofs.Lists.{sum_set, same_at, is_within, at_end, prefix_length, alone_differs, replaced, replaced_here, replaced_else}
+use Rattle.ba_turn.proofs.Histories.{longer_either, joined_map, joined_else}
 use Rattle.ba_turn.proofs.Steps.{true_not_false, one_if, still, knows_still}
 
 module _ {S E O : Type 0} (opening : S → O) (history : S → List E) (room : S → ℕ) (start : S) (allowance : ℕ) where
@@ -83,6 +85,7 @@ module _ {S E O : Type 0} (opening : S → O) (history : S → List E) (room : S
               known = (let z = f.known in omega arith);
               opens = λ _. (number_is, o.1);
               joined = joins v.joined f.joined;
+              apart = f.apart;
               has_ticket = λ d. true_not_false v.has_ticket d idle;
               has_turn = λ d. true_not_false v.has_turn d idle';
               start_is = f.start_is;
@@ -96,6 +99,7 @@ module _ {S E O : Type 0} (opening : S → O) (history : S → List E) (room : S
               known = (let z = g.known in omega arith);
               opens = λ z. absurd (let q : x.place b.number ≡ x.place v.number = ap x.place (z ∙ sym zero_is) in let pb = g.placed in let pv = f.placed in t.0 (omega arith));
               joined = joins b.joined g.joined;
+              apart = g.apart;
               has_ticket = g.has_ticket;
               has_turn = g.has_turn;
               start_is = g.start_is;
@@ -110,6 +114,7 @@ module _ {S E O : Type 0} (opening : S → O) (history : S → List E) (room : S
               known = omega arith;
               opens = λ z. absurd (omega arith);
               joined = tt;
+              apart = alone_differs (v.splits + 1);
               has_ticket = λ (d : false ≡ true). true_not_false true refl (sym d);
               has_turn = λ (d : false ≡ true). true_not_false true refl (sym d);
               start_is = f.start_is;
@@ -135,9 +140,15 @@ module _ {S E O : Type 0} (opening : S → O) (history : S → List E) (room : S
         free = replaced_else x.place w.number 0 m (λ (e : m ≡ w.number). let z = q.free in let pw = h.placed in let same : x.place m ≡ x.place w.number = ap x.place e in omega arith) ∙ q.free;
         known = q.known;
       }) in
+      let not_id : id ≢ other = λ e. apart_seats (sym e) in
+      let fp = f.placed in
+      let hp = h.placed in
+      let rest : List ℕ = map number_of v.joined in
+      let apart_now : AreDistinct (numbers_of b2) = AllPairs-cons (λ n m. n ≢ m) v.number (w.number ∷ rest)
+      (All-cons (λ m. v.number ≢ m) w.number rest (numbers id v not_id f) (joined_else x v.number v.joined (omega arith) f.joined))
+      (AllPairs-cons (λ n m. n ≢ m) w.number rest (joined_else x w.number v.joined (omega arith) f.joined) (λ i j d lt within. f.apart (suc i) (suc j) d (omega arith) (omega arith))) in
       let id_in = is_within s.views id v at in
       let at_id : get_elem? vs id ≡ some b2 = set_here s.views id b2 id_in in
-      let not_id : id ≢ other = λ e. apart_seats (sym e) in
       let lengths = longer_either (λ l m. (length v.seen ≤ length l) × (length w.seen ≤ length l) × IsPrefix l x.log × IsPrefix m x.log) v.seen w.seen (λ q. (q, omega arith, h.seen, f.seen)) (λ q. (omega arith, omega arith, f.seen, h.seen)) in
       let lv = lengths.0 in
       let lw = lengths.1 in
@@ -177,6 +188,7 @@ module _ {S E O : Type 0} (opening : S → O) (history : S → List E) (room : S
               known = f.known;
               opens = λ z. let o = f.opens z in let o1 = o.1 in (o.0, omega arith);
               joined = (record { calls_are = h.made; free = replaced_here x.place w.number 0; known = h.known }, all v.joined f.joined);
+              apart = apart_now;
               has_ticket = λ d. true_not_false v.has_ticket d idle;
               has_turn = λ d. true_not_false v.has_turn d idle';
               start_is = f.start_is;
@@ -190,6 +202,7 @@ module _ {S E O : Type 0} (opening : S → O) (history : S → List E) (room : S
               known = g.known;
               opens = λ z. absurd (let m : x.place b.number ≡ x.place v.number = ap x.place (z ∙ sym zero_is) in let pb = g.placed in let pv = f.placed in t.0 (omega arith));
               joined = all b.joined g.joined;
+              apart = g.apart;
               has_ticket = g.has_ticket;
               has_turn = g.has_turn;
               start_is = g.start_is;

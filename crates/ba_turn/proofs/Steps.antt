@@ -6,7 +6,9 @@ use mathlib.Core.Option as maybe
 use native.Mathlib.Decide.{ℕ_discrete, dec_le}
 use lib.ListN.{get_elem?}
 use Rattle.std.proofs.Common.{◌≡◌, ◌≢◌, ℕ, ◌+◌, ◌%◌, ◌^◌, ◌<◌, ◌≤◌, Bool, true, false, cond, List, [], ◌∷◌, ◌++◌, map, length, get_or, set, sym, lt_of_not-le, refl, ap, ◌∙◌, subst, ⊎_elim, arith, Option, Some, None, vec_capacity, length-append}
-use Rattle.std.specs.List.{sum_by}
+use Rattle.std.specs.List.{sum_by, All, slice_index_or}
+use Rattle.std.proofs.lemmas.List.{length-map}
+use Rattle.std.proofs.lemmas.List.Elements.{All-cons}
 use Rattle.atomic_table.specs.Table.{State, Me, Step, step, keeps, takes, gives, put_back, rest, Allows}
 use Rattle.atomic_table.specs.Table.{opening as table_opening}
 use Rattle.atomic_table.proofs.Lists.{at_set, set_here, set_else}
@@ -15,13 +17,13 @@ use Rattle.ba_turn.specs.declared.known.Kept.{Kept}
 use Rattle.ba_turn.specs.declared.known.Known.{Known}
 use Rattle.ba_turn.specs.declared.pass.Pass.{Pass}
 use Rattle.ba_turn.specs.declared.turn.Turn.{Turn}
-use Rattle.ba_turn.specs.History.{calls_by, entry_of}
-use Rattle.ba_turn.specs.Knowing.{opening_known, with_ticket, with_turn, after_take, after_put, SumsToAllowance}
+use Rattle.ba_turn.specs.History.{calls_by, number_of, entry_of}
+use Rattle.ba_turn.specs.Knowing.{opening_known, with_ticket, with_turn, after_take, after_put, SumsToAllowance, numbers_of, HasAllCalls}
 use Rattle.ba_turn.specs.Rule.{Scene, slot_of, IsTrueOf, AllJoined, left_of, live_of, HoldsTicket, SomeHasSeen, StandsAt, TakesTurns}
 use Rattle.ba_turn.specs.Steps.{Draws, Looks, CallsOn, IsTaken}
 use Rattle.ba_turn.specs.Passes.{known_by, start_of, allowance_of, value_of, HasTurn, IsGrown}
-use Rattle.ba_turn.proofs.Lists.{sum_set, sum_at, same_at, is_within, at_only, snoc_same, alone_weighs, alone_is, prefix_more, prefix_self, replaced, replaced_here, replaced_else}
-use Rattle.ba_turn.proofs.Histories.{calls_here, calls_else, entries_more, numbers_more, joined_map}
+use Rattle.ba_turn.proofs.Lists.{sum_set, sum_at, same_at, is_within, at_only, snoc_same, alone_weighs, alone_is, prefix_more, prefix_self, alone_differs, every_number, replaced, replaced_here, replaced_else}
+use Rattle.ba_turn.proofs.Histories.{calls_here, calls_else, entries_more, numbers_more, numbers_within, joined_map, joined_known}
 
 abbrev kept_or : {K : Type 0} → K → List (ℕ × Option K) → K
 kept_or d [] = d
@@ -133,6 +135,19 @@ module _ {S E O : Type 0} (opening : S → O) (history : S → List E) (room : S
       let end : x.ticket ≤ x.serving = dite (dec_le x.ticket x.serving) (λ le. le) (λ nle. absurd (none_waits (lt_of_not-le nle))) in
       omega arith
 
+  -- and what each seat learns of the numbers
+  pub has_all_calls : (s : St) (r : Rule s) (id : ℕ) (v : V) → get_elem? s.views id ≡ some v → v.live ≡ true → HasAllCalls v
+  has_all_calls s r id v at live = record {
+    each = λ zero_is all_back.
+        let x : Scene S E = r.x in
+        let f = r.each id v at live in
+        let o = f.opens zero_is in
+        let o0 = o.0 in
+        let few : All (λ m. m ≤ x.last) (numbers_of v) = All-cons (λ m. m ≤ x.last) v.number (map number_of v.joined) f.known (joined_known x v.joined f.joined) in
+        let full : length (numbers_of v) ≡ x.last + 1 = omega (arith, length-map v.joined number_of) in
+        λ k d within. every_number (numbers_of v) x.last (slice_index_or (map number_of v.seen) k d) f.apart few full (numbers_within x.last v.seen x.log f.seen r.fresh k d within);
+  }
+
   -- the words as they are
   pub ticket_is : (s : St) (r : Rule s) → get_or s.words 0 0 ≡ r.x.ticket
   ticket_is s r = ap (λ (ws : List ℕ). get_or ws 0 0) r.words
@@ -177,6 +192,7 @@ module _ {S E O : Type 0} (opening : S → O) (history : S → List E) (room : S
               known = f.known;
               opens = f.opens;
               joined = joined_map x y me.0.joined (λ m cs h. record { calls_are = h.calls_are; free = h.free; known = h.known }) f.joined;
+              apart = f.apart;
               has_ticket = λ _. (
                 omega arith,
                 omega arith,
@@ -195,6 +211,7 @@ module _ {S E O : Type 0} (opening : S → O) (history : S → List E) (room : S
               known = g.known;
               opens = g.opens;
               joined = joined_map x y b.joined (λ m cs h. record { calls_are = h.calls_are; free = h.free; known = h.known }) g.joined;
+              apart = g.apart;
               start_is = g.start_is;
               allowance_is = g.allowance_is;
               has_ticket = (λ e. let t = g.has_ticket e in (t.0, omega arith, replaced_else x.owner x.ticket id b.ticket (λ q. let l = t.1 in omega arith) ∙ t.2, t.3));
@@ -251,6 +268,7 @@ module _ {S E O : Type 0} (opening : S → O) (history : S → List E) (room : S
               known = f.known;
               opens = f.opens;
               joined = joined_map x y me.0.joined (λ m cs h. record { calls_are = h.calls_are; free = h.free; known = h.known }) f.joined;
+              apart = f.apart;
               has_ticket = λ _. (q.0, q.1, q.2, λ _. refl);
               has_turn = λ _. (has_ticket, ticket_here, refl, refl);
               start_is = f.start_is;
@@ -264,6 +282,7 @@ module _ {S E O : Type 0} (opening : S → O) (history : S → List E) (room : S
               known = g.known;
               opens = g.opens;
               joined = joined_map x y b.joined (λ m cs h. record { calls_are = h.calls_are; free = h.free; known = h.known }) g.joined;
+              apart = g.apart;
               start_is = g.start_is;
               allowance_is = g.allowance_is;
               has_ticket = (λ e. let t = g.has_ticket e in (t.0, t.1, t.2, λ (p : b.ticket ≡ x.serving). absurd (ne (sym t.2 ∙ (ap x.owner p ∙ mine_first)))));
@@ -343,6 +362,7 @@ module _ {S E O : Type 0} (opening : S → O) (history : S → List E) (room : S
         known = f.known;
         opens = f.opens;
         joined = joins v.joined f.joined;
+        apart = f.apart;
         has_ticket = λ (h : false ≡ true). true_not_false true refl (sym h);
         has_turn = λ (h : false ≡ true). true_not_false true refl (sym h);
         start_is = f.start_is;
@@ -356,6 +376,7 @@ module _ {S E O : Type 0} (opening : S → O) (history : S → List E) (room : S
         known = g.known;
         opens = g.opens;
         joined = joins b.joined g.joined;
+        apart = g.apart;
         start_is = g.start_is;
         allowance_is = g.allowance_is;
         has_ticket = (λ h. let t = g.has_ticket h in let apart : b.ticket ≢ x.serving = (λ p. ne (sym t.2 ∙ (ap x.owner p ∙ mine_first))) in let t0 = t.0 in (omega arith, t.1, t.2, λ p. not_next x.out b.has_turn (λ u. let z = g.has_turn u in apart z.1)));
@@ -403,6 +424,7 @@ module _ {S E O : Type 0} (opening : S → O) (history : S → List E) (room : S
       known = zero_known;
       opens = λ _. (refl, refl);
       joined = tt;
+      apart = alone_differs 0;
       has_ticket = λ (h : false ≡ true). true_not_false true refl (sym h);
       has_turn = λ (h : false ≡ true). true_not_false true refl (sym h);
       start_is = refl;

@@ -1,5 +1,5 @@
 -- Histories whose entries carry the number of the pass that made them.
-use Rattle.std.specs.Prelude.{◌≡◌, ℕ, ◌==◌, List, [], ◌∷◌, map, length, filter, nat_le, if◌then◌else◌}
+use Rattle.std.specs.Prelude.{◌≡◌, ◌≢◌, ℕ, ◌==◌, List, [], ◌∷◌, map, length, filter, nat_le, if◌then◌else◌, AllPairs}
 
 abbrev pub number_of : {E : Type 0} → ℕ × E → ℕ
 number_of c = c.0
@@ -15,6 +15,10 @@ calls_by n log = map entry_of (filter (λ c. number_of c == n) log)
 abbrev pub HasCalls : {E : Type 0} → List (ℕ × E) → List (ℕ × List E) → Type 0
 HasCalls log [] = Unit {0}
 HasCalls log (k ∷ ks) = (calls_by k.0 log ≡ k.1) × HasCalls log ks
+
+-- no number stands twice
+abbrev pub AreDistinct : List ℕ → Type 0
+AreDistinct ns = AllPairs (λ n m. n ≢ m) ns
 
 -- of two histories the longer, or the second where they are as long, and the other one
 abbrev pub longer_of : {E : Type 0} → List (ℕ × E) → List (ℕ × E) → List (ℕ × E)

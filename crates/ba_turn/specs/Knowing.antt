@@ -1,7 +1,7 @@
 -- What a pass knows after each call of a turn.
-use Rattle.std.specs.Prelude.{◌≡◌, ℕ, ◌+◌, ◌-◌, true, false, List, [], ◌∷◌, ◌++◌, length, Some, None}
+use Rattle.std.specs.Prelude.{◌≡◌, ℕ, ◌+◌, ◌-◌, true, false, List, [], ◌∷◌, ◌++◌, map, length, Some, None, All, Contains}
 use Rattle.ba_turn.specs.declared.known.Known.{Known}
-use Rattle.ba_turn.specs.History.{longer_of, shorter_of}
+use Rattle.ba_turn.specs.History.{number_of, longer_of, shorter_of}
 
 module _ {S E : Type 0} where
   -- of the opening pass of a new turn
@@ -43,3 +43,11 @@ module _ {S E : Type 0} where
 -- where the opening pass has joined as many passes as it split off, what is left and what it has seen sum to the allowance of the turn
 abbrev pub SumsToAllowance : {S E : Type 0} → Known S E → Type 0
 SumsToAllowance v = v.number ≡ 0 → v.splits ≡ length v.joined → v.left + length v.seen ≡ v.allowance
+
+-- the number of the pass, and those of the passes that were joined into it
+abbrev pub numbers_of : {S E : Type 0} → Known S E → List ℕ
+numbers_of v = v.number ∷ map number_of v.joined
+
+-- where the opening pass has joined as many passes as it split off, each call that it has seen is its own or one of theirs
+pub record HasAllCalls {S E : Type 0} (v : Known S E) : Type 0 where
+  pub each : v.number ≡ 0 → v.splits ≡ length v.joined → All (Contains (numbers_of v)) (map number_of v.seen)

@@ -7,7 +7,8 @@ use Rattle.std.specs.Prelude.{◌≡◌, ℕ, ◌+◌, ◌^◌, ◌<◌, ◌≤�
 use Rattle.atomic_table.specs.Table.{State}
 use Rattle.ba_turn.specs.declared.known.Kept.{Kept}
 use Rattle.ba_turn.specs.declared.known.Known.{Known}
-use Rattle.ba_turn.specs.History.{calls_by, number_of, entry_of}
+use Rattle.ba_turn.specs.History.{calls_by, number_of, entry_of, AreDistinct}
+use Rattle.ba_turn.specs.Knowing.{numbers_of}
 
 -- What lies behind a table. A seat is named by the place of its view among all views
 pub record Scene (S E : Type 0) : Type 0 where
@@ -50,6 +51,8 @@ pub record IsTrueOf {S E : Type 0} (start : S) (allowance : ℕ) (x : Scene S E)
   pub placed : x.place v.number ≡ id + 1
   pub known : v.number ≤ x.last
   pub joined : AllJoined x v.joined
+  -- the numbers of the passes that it joined differ among each other, and from its own
+  pub apart : AreDistinct (numbers_of v)
   -- the opening pass counts the others
   pub opens : v.number ≡ 0 → (v.splits ≡ x.last) × (length v.joined ≡ x.gone)
   -- its ticket is its own, and waits or is served

@@ -4,8 +4,8 @@ use Rattle.std.specs.Prelude.{◌≡◌, ◌≢◌, ℕ, ◌<◌, ◌≤◌, Lis
 use Rattle.atomic_table.specs.Table.{Me, Step}
 use Rattle.ba_turn.specs.declared.known.Kept.{Kept}
 use Rattle.ba_turn.specs.declared.known.Known.{Known}
-use Rattle.ba_turn.specs.History.{calls_by, entry_of}
-use Rattle.ba_turn.specs.Knowing.{with_ticket, with_turn, after_put, SumsToAllowance}
+use Rattle.ba_turn.specs.History.{calls_by, entry_of, AreDistinct}
+use Rattle.ba_turn.specs.Knowing.{with_ticket, with_turn, after_put, SumsToAllowance, numbers_of, HasAllCalls}
 use Rattle.ba_turn.specs.Rule.{StandsAt}
 
 -- what a seat knows, and the slots that it holds
@@ -20,9 +20,9 @@ module _ {S E : Type 0} where
   abbrev pub Draws : StepOn S → SeatOf S E → ℕ → SeatOf S E → Type 0
   Draws st m n m' = m' ≡ (with_ticket n m.0, m.1)
 
-  -- nothing changes. The pass learns how the two histories of its last join lie, and whether all calls are back
+  -- nothing changes. The pass learns how the two histories of its last join lie, whether all calls are back, and whose they are
   abbrev pub Settles : StepOn S → SeatOf S E → ℕ → SeatOf S E → Type 0
-  Settles st m n m' = (m' ≡ m) × (length m.0.behind ≤ length m.0.seen → IsPrefix m.0.behind m.0.seen) × SumsToAllowance m.0
+  Settles st m n m' = (m' ≡ m) × (length m.0.behind ≤ length m.0.seen → IsPrefix m.0.behind m.0.seen) × SumsToAllowance m.0 × AreDistinct (numbers_of m.0) × HasAllCalls m.0
 
   -- the value k goes home with one entry e more. The pass has then seen the whole history up to e, in which its number has just its own calls
   abbrev pub CallsOn : (S → List E) → StepOn S → SeatOf S E → ℕ → SeatOf S E → Type 0

@@ -24,8 +24,8 @@ pub struct Turn<S: Storied> {
 impl<S: Storied> Turn<S> {
     ghost use mathlib.Core.List.{IsPrefix};
     ghost use Rattle.std.specs.Prelude.{ℕ, ◌+◌, ◌^◌, ◌<◌, ◌≤◌, [], ◌∷◌, ◌++◌, map, length, IfOk};
-    ghost use Rattle.ba_turn.specs.History.{number_of, entry_of, calls_by, HasCalls};
-    ghost use Rattle.ba_turn.specs.Knowing.{opening_known, after_take, after_put, after_split, split_known, after_join, SumsToAllowance};
+    ghost use Rattle.ba_turn.specs.History.{number_of, entry_of, calls_by, HasCalls, AreDistinct};
+    ghost use Rattle.ba_turn.specs.Knowing.{opening_known, after_take, after_put, after_split, split_known, after_join, SumsToAllowance, numbers_of, HasAllCalls};
     ghost use Rattle.ba_turn.specs.Passes.{known_by, start_of, allowance_of, value_of, IsFree, HasTurn, IsHeldAt, IsGrown};
 
     /// A turn over a value with no history, for `allowance` calls, and its opening pass, which has the number 0.
@@ -169,6 +169,8 @@ impl<S: Storied> Turn<S> {
     }
 
     /// Joins a pass into the opening pass, which keeps the longer of the two histories and the joined number's calls.
+    /// Its own number and those that it joined differ. Once it has joined all that it split off,
+    /// each call that it has seen has one of these numbers.
     pub fn join(&self, pass: &mut Pass<S, S::Entry>, other: Pass<S, S::Entry>)
         requires free { IsFree self.now pass.old × IsFree self.now other }
         requires opening { (known_by pass.old).number ≡ 0 }
@@ -177,6 +179,8 @@ impl<S: Storied> Turn<S> {
         ensures seen { IsPrefix (known_by pass.old).seen (known_by pass.new).seen }
         ensures other { IsPrefix (known_by other).seen (known_by pass.new).seen }
         ensures sums { SumsToAllowance (known_by pass.new) }
+        ensures distinct { AreDistinct (numbers_of (known_by pass.new)) }
+        ensures whole { HasAllCalls (known_by pass.new) }
     {
         let Pass { seat, .. } = other;
         let shared = &self.table.shared;
@@ -185,6 +189,7 @@ impl<S: Storied> Turn<S> {
     }
 
     /// Gives the value with all calls, and the number of each call's pass, once the whole allowance was spent or has come back to this pass.
+    /// Where this is the opening pass and has joined all that it split off, its own calls and those of the joined passes are all calls.
     pub fn close(self, pass: Pass<S, S::Entry>) -> (S, Vec<u32>)
         requires free { IsFree self pass }
         requires all { (known_by pass).left + length (known_by pass).seen ≡ allowance_of self }
@@ -193,6 +198,8 @@ impl<S: Storied> Turn<S> {
         ensures numbers { result.1.items ≡ map number_of (known_by pass).seen }
         ensures own { calls_by (known_by pass).number (known_by pass).seen ≡ (known_by pass).made }
         ensures joined { HasCalls (known_by pass).seen (known_by pass).joined }
+        ensures distinct { AreDistinct (numbers_of (known_by pass)) }
+        ensures whole { HasAllCalls (known_by pass) }
     {
         let Turn { table } = self;
         let Pass { seat, .. } = pass;

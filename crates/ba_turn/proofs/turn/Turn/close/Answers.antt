@@ -30,3 +30,13 @@ pub returns-clause-joined : goal.returns-clause-joined
 returns-clause-joined g c =
     let end = closes_with g.S.Storied.opening g.S.Storied.history g.S.Storied.room c.args.self.table.shared.key.start.value c.args.self.table.shared.key.allowance _ c.args.pass.seat.me.0 _ _ c.take.result c.in-Some.kept c.requires.free.of.live c.requires.all c.close_with-closed.ensures.values.2 c.take.ensures.value c.in-Some.is in
     end.joined
+
+pub returns-clause-distinct : goal.returns-clause-distinct
+returns-clause-distinct g c =
+    let end = closes_with g.S.Storied.opening g.S.Storied.history g.S.Storied.room c.args.self.table.shared.key.start.value c.args.self.table.shared.key.allowance _ c.args.pass.seat.me.0 _ _ c.take.result c.in-Some.kept c.requires.free.of.live c.requires.all c.close_with-closed.ensures.values.2 c.take.ensures.value c.in-Some.is in
+    end.apart
+
+pub returns-clause-whole : goal.returns-clause-whole
+returns-clause-whole g c =
+    let end = closes_with g.S.Storied.opening g.S.Storied.history g.S.Storied.room c.args.self.table.shared.key.start.value c.args.self.table.shared.key.allowance _ c.args.pass.seat.me.0 _ _ c.take.result c.in-Some.kept c.requires.free.of.live c.requires.all c.close_with-closed.ensures.values.2 c.take.ensures.value c.in-Some.is in
+    end.all
