@@ -3,3 +3,4 @@ pub mod Histories
 pub mod Steps
 pub mod Splits
 pub mod Ends
+pub mod Calls

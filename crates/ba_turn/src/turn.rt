@@ -26,7 +26,8 @@ impl<S: Storied> Turn<S> {
     ghost use Rattle.std.specs.Prelude.{ℕ, ◌+◌, ◌^◌, ◌<◌, ◌≤◌, [], ◌∷◌, ◌++◌, map, length, IfOk};
     ghost use Rattle.ba_turn.specs.History.{number_of, entry_of, calls_by, HasCalls, AreDistinct};
     ghost use Rattle.ba_turn.specs.Knowing.{opening_known, after_take, after_put, after_split, split_known, after_join, SumsToAllowance, numbers_of, HasAllCalls};
-    ghost use Rattle.ba_turn.specs.Passes.{known_by, start_of, allowance_of, value_of, IsFree, HasTurn, IsHeldAt, IsGrown};
+    ghost use Rattle.ba_turn.specs.declared.known.Known.{Known};
+    ghost use Rattle.ba_turn.specs.Passes.{known_by, start_of, allowance_of, value_of, IsFree, HasTurn, IsHeldAt, IsGrown, MakesCall};
 
     /// A turn over a value with no history, for `allowance` calls, and its opening pass, which has the number 0.
     /// All memory that the calls will need is asked for here. Where it is refused, the value is dropped.
@@ -108,6 +109,7 @@ impl<S: Storied> Turn<S> {
 
     /// Puts the value back with one entry more, and calls the next number. The call happens at that step:
     /// the pass has then seen the whole history up to its entry, and of its number the history has just its own calls.
+    /// So a whole call, from `take` to `put`, makes the call by which the value has grown.
     pub fn put(&self, pass: &mut Pass<S, S::Entry>, held: Held<S>)
         requires turn { HasTurn self.now pass.old }
         requires grown { (e : S.Entry) × IsGrown S.opening S.history S.room self.now pass.old held e }
@@ -118,6 +120,11 @@ impl<S: Storied> Turn<S> {
         ensures seen { IsPrefix (known_by pass.old).seen (known_by pass.old).found }
         ensures own { calls_by (known_by pass.new).number (known_by pass.new).seen ≡ (known_by pass.new).made }
         ensures sums { SumsToAllowance (known_by pass.new) }
+        // Whatever the pass knew before `take`: the second premise is a clause of `take`.
+        ensures call { (v : Known S S.Entry) (e : S.Entry) → 0 < v.left
+            → known_by pass.old ≡ after_take (known_by pass.old).ticket (known_by pass.old).found v
+            → S.history (value_of held) ≡ map entry_of (known_by pass.old).found ++ e ∷ []
+            → MakesCall v (known_by pass.new) e }
     {
         let Held { mut kept } = held;
         kept.by.push_reserved(pass.number);

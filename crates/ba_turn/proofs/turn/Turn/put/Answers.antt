@@ -2,6 +2,7 @@ use Rattle.std.proofs.Common.{rules, ◌∙◌, sym, refl}
 use mathlib.Core.Option.{none}
 use Rattle.atomic_table.specs.Table.{step}
 use Rattle.ba_turn.proofs.Steps.{puts, has_put}
+use Rattle.ba_turn.proofs.Calls.{whole_call}
 use Rattle.ba_turn.proofs.turn.Turn.put.Goals as goal
 
 pub fetch_add-served-requires : goal.fetch_add-served-requires
@@ -76,3 +77,11 @@ returns-clause-sums g c =
     let put = has_put g.S.Storied.opening g.S.Storied.history g.S.Storied.room c.args.self.now c.args.pass.now (step 1 1 1 0 none) c.exchange-nothing.new.seat.me c.fetch_add-served.new.seat.me c.fetch_add-served.result c.args.held
     (record { value = c.args.held.kept.value; by = c.push_reserved.new.self }) c.requires.grown.0 x.3 t refl c.requires.grown.1 c.fetch_add-served.ensures.2 in
     put.sums
+
+pub returns-clause-call : goal.returns-clause-call
+returns-clause-call g c =
+    let x = c.exchange-nothing.ensures in
+    let t = c.requires.turn in
+    let put = has_put g.S.Storied.opening g.S.Storied.history g.S.Storied.room c.args.self.now c.args.pass.now (step 1 1 1 0 none) c.exchange-nothing.new.seat.me c.fetch_add-served.new.seat.me c.fetch_add-served.result c.args.held
+    (record { value = c.args.held.kept.value; by = c.push_reserved.new.self }) c.requires.grown.0 x.3 t refl c.requires.grown.1 c.fetch_add-served.ensures.2 in
+    λ v e left taken grown. whole_call v (c.args.pass.now.seat.me.0) c.fetch_add-served.new.seat.me.0 e left taken (put.known e grown) put.seen put.own put.sums
