@@ -10,11 +10,14 @@
 //! turn.put(&mut pass, held);
 //! ```
 //!
+//! [`Turn::call`] does these three for a [`Method`].
+//!
 //! Nothing is said of progress: not that a turn comes, nor when.
 #![tactic(auto)]
 
 mod held;
 mod known;
+mod method;
 mod pass;
 mod plays;
 mod rule;
@@ -25,6 +28,7 @@ mod turn;
 
 pub use held::Held;
 pub use known::Known;
+pub use method::Method;
 pub use pass::Pass;
 pub use storied::Storied;
 pub use turn::Turn;

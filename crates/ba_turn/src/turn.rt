@@ -3,6 +3,7 @@ ghost use Rattle.std.specs.Prelude.{◌≡◌};
 
 use crate::held::Held;
 use crate::known::{Kept, Terms};
+use crate::method::Method;
 use crate::pass::Pass;
 use crate::plays::{CallOn, Cut, Draw, Glue, Look, Settle, Share};
 use crate::rule::{Board, SERVING, TICKET};
@@ -133,6 +134,26 @@ impl<S: Storied> Turn<S> {
         let None = nothing else { unreachable!() };
         let served = shared.fetch_add::<CallOn>(&mut pass.seat, SERVING, 1);
         self.wake_waiting(served);
+    }
+
+    /// A whole call: waits for the turn, makes the call and puts the value back.
+    /// All that the pass has then seen is the history of a value of this type, so it has what the type keeps of histories.
+    pub fn call<R: Wait, M: Method<S>>(
+        &self,
+        rt: &R,
+        pass: &mut Pass<S, S::Entry>,
+        method: M,
+    ) -> M::Answer
+        requires free { IsFree self.now pass.old }
+        requires left { 0 < (known_by pass.old).left }
+        ensures free { IsFree self.now pass.new }
+        ensures made { MakesCall (known_by pass.old) (known_by pass.new) (M.entry method result) }
+        ensures value { (s : S) × (S.opening s ≡ S.opening (start_of self.now)) × (S.history s ≡ map entry_of (known_by pass.new).seen) }
+    {
+        let mut held = self.take(rt, pass);
+        let answer = method.call(held.value());
+        self.put(pass, held);
+        answer
     }
 
     // The allowance stands in the proof alone: it is the share.
