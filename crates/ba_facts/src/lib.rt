@@ -21,6 +21,4 @@ pub mod shared;
 mod shared_order;
 mod shown;
 pub mod term;
-#[cfg(test)]
-mod tests;
 mod web;

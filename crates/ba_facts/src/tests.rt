@@ -1,5 +1,0 @@
-mod cases;
-mod knowledge;
-mod matches;
-mod rounds;
-mod shown;

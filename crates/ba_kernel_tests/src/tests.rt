@@ -1,0 +1,14 @@
+mod branches;
+mod cases;
+mod derivations;
+mod faults;
+mod fitting;
+mod given;
+mod matches;
+mod news;
+mod problem;
+mod searches;
+mod shown;
+mod spelled;
+mod steps;
+mod words;
