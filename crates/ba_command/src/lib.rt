@@ -3,8 +3,6 @@
 
 mod command;
 mod run;
-#[cfg(test)]
-mod tests;
 mod words;
 
 pub use command::{Command, WordsError};

@@ -3,8 +3,6 @@
 
 mod error;
 mod several;
-#[cfg(test)]
-mod tests;
 mod word;
 mod words;
 

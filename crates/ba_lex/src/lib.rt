@@ -12,6 +12,3 @@ mod word;
 pub use all::{tokens, tokens_of_bytes};
 pub use token::{LexError, LexFault, Lexeme, Sign, Token};
 pub use word::is_word;
-
-#[cfg(test)]
-mod tests;

@@ -7,8 +7,6 @@ pub mod laws;
 mod names;
 mod policy;
 mod statement;
-#[cfg(test)]
-mod tests;
 
 pub use error::{Kept, PolicyError, PolicyFault};
 pub use policy::read_policy;

@@ -8,8 +8,6 @@ mod names;
 mod read;
 mod scan;
 mod schema;
-#[cfg(test)]
-mod tests;
 mod written;
 
 pub use error::{DdlError, DdlFault};

@@ -9,6 +9,3 @@ mod query;
 mod value;
 
 pub use query::print_query;
-
-#[cfg(test)]
-mod tests;

@@ -20,6 +20,3 @@ mod tables;
 
 pub use fault::{ReadQueryError, ReadQueryFault};
 pub use read::{read_query, read_words};
-
-#[cfg(test)]
-mod tests;

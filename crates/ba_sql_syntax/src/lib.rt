@@ -14,6 +14,3 @@ mod word;
 pub mod written;
 
 pub use text::read_written;
-
-#[cfg(test)]
-mod tests;

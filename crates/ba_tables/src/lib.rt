@@ -12,8 +12,3 @@ pub mod tables;
 
 /// The most rows of a table.
 pub const ROW_LIMIT: u64 = 100_000;
-
-#[cfg(test)]
-mod tests;
-#[cfg(test)]
-mod tests_tables;

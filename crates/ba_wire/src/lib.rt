@@ -13,5 +13,3 @@ pub mod read;
 mod requests;
 pub mod script;
 pub mod summary;
-#[cfg(test)]
-mod tests;

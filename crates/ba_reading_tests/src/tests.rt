@@ -1,0 +1,13 @@
+mod cases;
+mod command;
+mod faults;
+mod files;
+mod fronts;
+mod policies;
+mod printed;
+mod queries;
+mod schemas;
+mod scripts;
+mod standard;
+mod tables;
+mod tokens;

@@ -1,0 +1,94 @@
+//! Words of a command line.
+
+use super::cases::{Reading, Told, all_are_so};
+use ba_command::{Command, WordsError, read_words};
+use std::alloc::{AllocError, Global};
+use std::fmt::Write;
+use std::test::Fail;
+
+fn words_of(alloc: Global, line: &str) -> Result<Vec<String>, AllocError> {
+    let mut words = Vec::new(alloc);
+    for word in line.split_whitespace() {
+        words.push(String::from_str(alloc, word)?)?;
+    }
+    Ok(words)
+}
+
+/// Words behind those of the front.
+#[derive(Drop)]
+struct Words {
+    front: &'static str,
+}
+
+impl Reading for Words {
+    fn tell(&self, alloc: Global, text: &str, told: &mut String) -> Told {
+        let line = format!(in alloc; "{} {text}", self.front)?;
+        let words = words_of(alloc, line.as_str())?;
+        match read_words(alloc, words.as_slice()) {
+            Ok(
+                Command::Run {
+                    schema,
+                    policy,
+                    tables,
+                    script,
+                    workers,
+                    budget,
+                },
+            ) => write!(
+                told,
+                "{schema} {policy} {tables} {script} {workers} {budget}"
+            ),
+            Err(WordsError::NoMemory) => Err(AllocError),
+            Err(WordsError::Words) => told.push_str("words"),
+        }
+    }
+}
+
+const WORDS: &str = "run --schema S --policy P --tables D --script F => S P D F 1 2000
+run --script F --tables D --policy P --schema S => S P D F 1 2000
+run --schema=S --policy=P --tables=D --script=F --workers=1 --budget=20 => S P D F 1 20
+run --budget 16 --schema S --workers 1 --policy P --tables t/0 --script a=b => S P t/0 a=b 1 16
+run --schema run --policy run --tables run --script run => run run run run 1 2000
+
+run
+help
+run run --schema S --policy P --tables D --script F
+Run --schema S --policy P --tables D --script F
+--schema S --policy P --tables D --script F
+run --schema S --tables D --script F
+run --schema S --policy P --tables D --script
+run --schem S --policy P --tables D --script F
+run --schema S T --policy P --tables D --script F
+run S P D F
+check --schema S --policy P --proof F";
+
+/// Options behind the four names.
+const OPTIONS: &str = "--budget 100000 => S P D F 1 100000
+--budget=+0016 => S P D F 1 16
+--budget 15
+--budget 100001
+--budget -16
+--budget 1e3
+--budget
+--budget=
+--budget 4294967316
+--budget 16 --budget 16
+--budge 20
+--workers 2
+--workers 0
+--workers one
+--workers 1 --workers 1
+--threads 1
+--help
+-h
+--version
+x
+-- x
+--schema S";
+
+#[test]
+fn words_of_commands(rt: HostRuntime) -> Result<(), Fail> {
+    all_are_so(&rt, &Words { front: "" }, WORDS, "words")?;
+    let front = "run --schema S --policy P --tables D --script F";
+    all_are_so(&rt, &Words { front }, OPTIONS, "words")
+}

@@ -1,0 +1,174 @@
+//! Faults, as the program prints them.
+
+use super::cases::Told;
+use ba_lex::LexFault;
+use ba_model::check_schema::{Counted, SchemaFault};
+use ba_model::text::Str;
+use ba_policy::{Kept, PolicyFault};
+use ba_sql_ddl::DdlFault;
+use ba_sql_query::ReadQueryFault;
+use ba_tables::broken::TablesFault;
+use ba_tables::fault::TableFault;
+use ba_wire::entry::ScriptFault;
+use ba_wire::fault::{Fault, Reason, What, fault_text};
+use std::alloc::Global;
+use std::test::Fail;
+
+/// The reason in the fault line of a file F, or the whole of another line.
+fn reason_in(line: &str) -> &str {
+    let front = r#"{"fault":"input","file":"F","reason":""#;
+    let Some(words) = line.strip_prefix(front) else {
+        return line.trim_end();
+    };
+    words.strip_suffix("\",\"status\":3}\n").unwrap_or(line)
+}
+
+fn write_line(alloc: Global, fault: &Fault, told: &mut String) -> Told {
+    let line = fault_text(alloc, fault)?;
+    told.push_str(reason_in(line.as_str()))
+}
+
+/// Writes the reason as the fault line of a file has it.
+pub(super) fn write_reason(alloc: Global, reason: Reason, told: &mut String) -> Told {
+    let file = Str::new(alloc, "F")?;
+    write_line(alloc, &Fault::Input { file, reason }, told)
+}
+
+/// Writes the whole fault line.
+fn write_limit(alloc: Global, what: What, limit: u64, told: &mut String) -> Told {
+    write_line(alloc, &Fault::Limit { what, limit }, told)
+}
+
+pub(super) fn write_text_fault(alloc: Global, fault: ReadQueryFault, told: &mut String) -> Told {
+    write_reason(alloc, Reason::Text { fault }, told)
+}
+
+pub(super) fn write_lex_fault(alloc: Global, fault: LexFault, told: &mut String) -> Told {
+    write_text_fault(alloc, ReadQueryFault::Lex(fault), told)
+}
+
+/// The fault of a file without tokens.
+fn write_file_fault(alloc: Global, fault: LexFault, told: &mut String) -> Told {
+    match fault {
+        LexFault::TooLong => write_limit(alloc, What::Bytes, 1_048_576, told),
+        _ => write_lex_fault(alloc, fault, told),
+    }
+}
+
+fn counted(what: Counted) -> What {
+    match what {
+        Counted::Tables => What::Tables,
+        Counted::Columns => What::Columns,
+        Counted::Keys => What::Keys,
+        Counted::Links => What::Links,
+    }
+}
+
+fn schema_reason(fault: SchemaFault) -> Reason {
+    match fault {
+        SchemaFault::DuplicateTable => Reason::DuplicateTable,
+        SchemaFault::DuplicateColumn => Reason::DuplicateColumn,
+        SchemaFault::UnknownTable => Reason::Text {
+            fault: ReadQueryFault::UnknownTable,
+        },
+        SchemaFault::UnknownColumn => Reason::Text {
+            fault: ReadQueryFault::UnknownColumn,
+        },
+        SchemaFault::KindDiffers => Reason::Text {
+            fault: ReadQueryFault::KindDiffers,
+        },
+        SchemaFault::WidthDiffers => Reason::WidthDiffers,
+        SchemaFault::EmptyKey | SchemaFault::TooMany { .. } => Reason::EmptyKey,
+    }
+}
+
+fn write_schema_fault(alloc: Global, fault: SchemaFault, told: &mut String) -> Told {
+    match fault {
+        SchemaFault::TooMany { what, limit } => write_limit(alloc, counted(what), limit, told),
+        _ => write_reason(alloc, schema_reason(fault), told),
+    }
+}
+
+pub(super) fn write_ddl_fault(alloc: Global, fault: DdlFault, told: &mut String) -> Told {
+    match fault {
+        DdlFault::Lex(fault) => write_file_fault(alloc, fault, told),
+        DdlFault::Unsupported(word) => {
+            write_text_fault(alloc, ReadQueryFault::Unsupported(word), told)
+        }
+        DdlFault::Syntax => write_text_fault(alloc, ReadQueryFault::Syntax, told),
+        DdlFault::Nullable(table, column) => {
+            write_reason(alloc, Reason::Nullable { table, column }, told)
+        }
+        DdlFault::Schema(fault) => write_schema_fault(alloc, fault, told),
+    }
+}
+
+pub(super) fn write_policy_fault(alloc: Global, fault: PolicyFault, told: &mut String) -> Told {
+    match fault {
+        PolicyFault::Lex(fault) => write_file_fault(alloc, fault, told),
+        PolicyFault::Syntax => write_text_fault(alloc, ReadQueryFault::Syntax, told),
+        PolicyFault::DuplicateParam(name) => {
+            write_reason(alloc, Reason::DuplicateParam { name }, told)
+        }
+        PolicyFault::DuplicateView(name) => {
+            write_reason(alloc, Reason::DuplicateView { name }, told)
+        }
+        PolicyFault::View(name, fault) => write_reason(alloc, Reason::View { name, fault }, told),
+        PolicyFault::TooMany { what, limit } => {
+            let views = what == Kept::Views;
+            let what = if views { What::Views } else { What::Params };
+            write_limit(alloc, what, limit, told)
+        }
+    }
+}
+
+pub(super) fn write_table_fault(alloc: Global, fault: TableFault, told: &mut String) -> Told {
+    match fault {
+        TableFault::BadHeader => write_reason(alloc, Reason::Header, told),
+        TableFault::BadWidth(row) => write_reason(alloc, Reason::Width { row }, told),
+        TableFault::BadUtf8(row) => write_reason(alloc, Reason::Utf8 { row }, told),
+        TableFault::BadNumber(row, column) => {
+            write_reason(alloc, Reason::Number { row, column }, told)
+        }
+        TableFault::TooMany(limit) => write_limit(alloc, What::Rows, limit, told),
+    }
+}
+
+/// The reason alone, without the table's number.
+pub(super) fn write_broken(alloc: Global, fault: TablesFault, told: &mut String) -> Told {
+    match fault {
+        TablesFault::KeyBroken {
+            key,
+            first,
+            second,
+            ..
+        } => write_reason(alloc, Reason::Key { key, first, second }, told),
+        TablesFault::LinkBroken { link, row, .. } => {
+            write_reason(alloc, Reason::Link { link, row }, told)
+        }
+    }
+}
+
+pub(super) fn write_script_fault(alloc: Global, fault: ScriptFault, told: &mut String) -> Told {
+    match fault {
+        ScriptFault::BadLine { line, reason } => {
+            write_reason(alloc, Reason::Line { line, reason }, told)
+        }
+        ScriptFault::TooMany { what, limit } => write_limit(alloc, what, limit, told),
+    }
+}
+
+/// The lines and the reason that no case has.
+#[test]
+fn other_fault_lines(rt: HostRuntime) -> Result<(), Fail> {
+    let mut told = String::new(rt.alloc());
+    write_line(rt.alloc(), &Fault::Words, &mut told)?;
+    let file = Str::new(rt.alloc(), "t0/Users.csv")?;
+    write_line(rt.alloc(), &Fault::Read { file }, &mut told)?;
+    write_reason(rt.alloc(), Reason::EmptyKey, &mut told)?;
+    let words = r#"{"fault":"words","status":2,"usage":"blockaid run|check|gen"}"#;
+    let read = r#"{"fault":"read","file":"t0/Users.csv","status":4}"#;
+    let rest = told.as_str().strip_prefix(words).unwrap_or("");
+    assert_eq!(rt; rest.strip_prefix(read), Some("empty_key"));
+    Ok(())
+}

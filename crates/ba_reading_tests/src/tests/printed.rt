@@ -1,0 +1,122 @@
+//! Lines of a run, byte for byte.
+
+use super::cases::Told;
+use ba_lex::LexFault;
+use ba_model::list::List;
+use ba_model::text::Str;
+use ba_model::value::{Row, Value};
+use ba_sql_query::ReadQueryFault;
+use ba_wire::line::{Block, By, Line, line_text};
+use ba_wire::summary::{Summary, summary_text};
+use std::alloc::{AllocError, Global};
+use std::test::Fail;
+
+fn write_line(alloc: Global, line: &Line, told: &mut String) -> Told {
+    let text = line_text(alloc, line)?;
+    told.push_str(text.as_str())
+}
+
+/// Begins, answers, blocks and ends.
+fn write_run(alloc: Global, name: &Str, rows: &List<Row>, told: &mut String) -> Told {
+    let (line, version, begin, end, request) = (1, 0, name, name, name);
+    let lines = [
+        Line::Begin {
+            begin,
+            line,
+            version,
+        },
+        Line::Answer {
+            by: By::Cover,
+            line: 2,
+            request,
+            rows,
+            version,
+        },
+        Line::Block {
+            blocked: Block::Uncovered,
+            line: 3,
+            request,
+            version: 1,
+        },
+        Line::End { end, line: 4 },
+        Line::Memory {
+            line: 18446744073709551615,
+        },
+    ];
+    for line in &lines {
+        write_line(alloc, line, told)?;
+    }
+    Ok(())
+}
+
+fn rows(alloc: Global, text: &str) -> Result<List<Row>, AllocError> {
+    let text = Value::Text(Str::new(alloc, text)?);
+    let least = Value::Int(-9223372036854775808);
+    let mut rows = List::new(alloc);
+    for value in [Value::Null, least, Value::Int(9223372036854775807), text] {
+        rows.push(List::from_vec(vec![in alloc; value]?))?;
+    }
+    Ok(rows)
+}
+
+#[test]
+fn lines_of_a_run(rt: HostRuntime) -> Result<(), Fail> {
+    let alloc = rt.alloc();
+    let name = Str::new(alloc, "a\"b")?;
+    let rows = rows(alloc, "\"\\/\u{8}\u{c}\n\r\t\u{0}\u{1f}é\u{1f600}")?;
+    let mut told = String::new(alloc);
+    write_run(alloc, &name, &rows, &mut told)?;
+    let want = r#"{"begin":"a\"b","line":1,"version":0}
+{"by":"cover","line":2,"request":"a\"b","rows":[[null],[-9223372036854775808],[9223372036854775807],["\"\\/\b\f\n\r\t\u0000\u001fé😀"]],"version":0}
+{"blocked":"uncovered","line":3,"request":"a\"b","version":1}
+{"end":"a\"b","line":4}
+{"line":18446744073709551615,"memory":true}
+"#;
+    assert_eq!(rt; told.as_str(), want);
+    Ok(())
+}
+
+fn write_unread(alloc: Global, unread: &ReadQueryFault, told: &mut String) -> Told {
+    let request = Str::new(alloc, "r1")?;
+    let line = Line::Unread {
+        line: 4,
+        request: &request,
+        unread,
+        version: 0,
+    };
+    write_line(alloc, &line, told)
+}
+
+/// The names of the other faults are printed where questions have no reading.
+#[test]
+fn unread_questions(rt: HostRuntime) -> Result<(), Fail> {
+    let alloc = rt.alloc();
+    let mut told = String::new(alloc);
+    write_unread(alloc, &ReadQueryFault::Lex(LexFault::TooLong), &mut told)?;
+    let word = Str::new(alloc, "ALL")?;
+    write_unread(alloc, &ReadQueryFault::Unsupported(word), &mut told)?;
+    let want = r#"{"line":4,"request":"r1","unread":"too_long","version":0}
+{"line":4,"request":"r1","unread":"unsupported","version":0,"word":"ALL"}
+"#;
+    assert_eq!(rt; told.as_str(), want);
+    Ok(())
+}
+
+#[test]
+fn counts_of_a_run(rt: HostRuntime) -> Result<(), Fail> {
+    let summary = Summary {
+        answered: 1,
+        blocked: 2,
+        lines: 18446744073709551615,
+        memory: 4,
+        requests: 5,
+        rows: 6,
+        unread: 0,
+    };
+    let text = summary_text(rt.alloc(), &summary)?;
+    let want =
+        r#"{"answered":1,"blocked":2,"lines":18446744073709551615,"memory":4,"requests":5,"rows":6,"unread":0}
+"#;
+    assert_eq!(rt; text.as_str(), want);
+    Ok(())
+}

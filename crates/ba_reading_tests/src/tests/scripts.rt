@@ -1,0 +1,232 @@
+//! Lines of scripts, and scripts.
+
+use super::cases::{Reading, Told, all_are_so, bytes_of};
+use super::faults::write_script_fault;
+use ba_model::list::List;
+use ba_model::policy::{Context, Parameter};
+use ba_model::value::Value;
+use ba_policy::read_policy;
+use ba_sql_ddl::read_schema;
+use ba_wire::entry::{ScriptEntry, ScriptError};
+use ba_wire::read::read_script;
+use ba_wire::script::{Given, LineError, LineReason, Member, ScriptLine, read_line};
+use std::alloc::{AllocError, Global};
+use std::fmt::Write;
+use std::test::Fail;
+
+fn write_member(told: &mut String, member: &Member) -> Told {
+    match &member.value {
+        Given::Int(n) => write!(told, " {}={n}", member.name),
+        Given::Text(text) => write!(told, " {}='{text}'", member.name),
+        Given::Other => write!(told, " {}?", member.name),
+    }
+}
+
+fn write_members(told: &mut String, members: &[Member]) -> Told {
+    for member in members {
+        write_member(told, member)?;
+    }
+    Ok(())
+}
+
+struct Lines;
+
+impl Reading for Lines {
+    fn tell(&self, alloc: Global, text: &str, told: &mut String) -> Told {
+        let bytes = bytes_of(alloc, text)?;
+        match read_line(alloc, bytes.as_slice()) {
+            Ok(ScriptLine::Begin { begin, context }) => {
+                write!(told, "begin {begin}")?;
+                write_members(told, context.as_slice())
+            }
+            Ok(ScriptLine::Ask { ask, query }) => write!(told, "ask {ask}: {query}"),
+            Ok(ScriptLine::End { end }) => write!(told, "end {end}"),
+            Err(LineError::NoMemory) => Err(AllocError),
+            Err(LineError::Bad(LineReason::Json)) => told.push_str("json"),
+            Err(LineError::Bad(LineReason::Shape)) => told.push_str("shape"),
+        }
+    }
+}
+
+const LINES: &str = r#"{"begin":"r1","context":{"MyUId":2}} => begin r1 MyUId=2
+ { "context" : {} , "begin" : "r 1" } ^ => begin r 1
+{"ask":"r1","query":"SELECT Name FROM Users"} => ask r1: SELECT Name FROM Users
+{"query":"'\n'","ask":"a\u0022b\\"} => ask a"b\: '~'
+{"end":"r1"} => end r1
+{"\u0065nd":"\u00e9"} => end é
+{"end":1,"end":"b"} => end b
+{"end":"[[64 x]]"} => end [[64 x]]
+{"end":"[[65 x]]"}
+{"begin":"r","context":{"b":9223372036854775807,"a":-9223372036854775808}} => begin r a=-9223372036854775808 b=9223372036854775807
+{"begin":"r","context":{"a":9223372036854775808,"b":-9223372036854775809,"c":18446744073709551616}} => begin r a? b? c?
+{"begin":"r","context":{"a":9223372036854775808,"b":1e400000}} => json
+{"begin":"r","context":{"a":0,"b":-0,"c":1.0,"d":1e2}} => begin r a=0 b? c? d?
+{"begin":"r","context":{"a":null,"b":true,"c":[1],"d":{"e":1}}} => begin r a? b? c? d?
+{"begin":"r","context":{"a":"x","":"\u0041","a":3}} => begin r ='A' a=3
+ => json
+{"end":"r1" => json
+{"end":"r1"} x => json
+{"end":"\ud800"} => json
+{}
+"end"
+{"end":""}
+{"end":"r1","x":1}
+{"end":"b","end":1}
+{"ask":"","query":"q"}
+{"ask":"r1","context":{}}
+{"ask":"r1","query":"q","version":0}
+{"begin":"r1","context":[]}
+{"begin":"r1","query":"q"}"#;
+
+#[test]
+fn forms_of_lines(rt: HostRuntime) -> Result<(), Fail> {
+    all_are_so(&rt, &Lines, LINES, "shape")?;
+    all_are_so(&rt, &Lines, "\u{feff}{\"end\":\"r1\"}", "json")
+}
+
+fn write_context(told: &mut String, context: &Context) -> Told {
+    for value in context.values.as_slice() {
+        match value {
+            Value::Null => told.push_str(" NULL")?,
+            Value::Int(n) => write!(told, " {n}")?,
+            Value::Text(text) => write!(told, " '{text}'")?,
+        }
+    }
+    told.push_str(";")
+}
+
+fn write_entry(told: &mut String, entry: &ScriptEntry) -> Told {
+    match entry {
+        ScriptEntry::Begin {
+            request,
+            name,
+            context,
+        } => {
+            write!(told, "begin {request} {name}")?;
+            write_context(told, context)
+        }
+        ScriptEntry::Ask {
+            request,
+            name,
+            query,
+        } => write!(told, "ask {request} {name} {query};"),
+        ScriptEntry::End { request, name } => write!(told, "end {request} {name};"),
+    }
+}
+
+/// The entries, or how many there are where that isn't a few.
+fn write_entries(told: &mut String, entries: &[ScriptEntry]) -> Told {
+    if entries.len() > 9 {
+        return write!(told, "{} entries", entries.len());
+    }
+    for entry in entries {
+        write_entry(told, entry)?;
+    }
+    Ok(())
+}
+
+/// Scripts for a text `?Name` and a number `?MyUId`.
+#[derive(Drop)]
+struct Scripts {
+    params: List<Parameter>,
+}
+
+impl Scripts {
+    fn new(alloc: Global) -> Result<Scripts, AllocError> {
+        let schema = read_schema(alloc, b"").map_err(|_| AllocError)?;
+        let text = b"PARAM Name TEXT; PARAM MyUId INT;";
+        let policy = read_policy(alloc, &schema, text).map_err(|_| AllocError)?;
+        let params = policy.params;
+        Ok(Scripts { params })
+    }
+}
+
+/// The script with lines for the letters that stand before a `.` at its front: B begins r1 and C r2,
+/// A and F ask in them, and E ends r1.
+fn with_lines(alloc: Global, text: &str) -> Result<String, AllocError> {
+    let (letters, rest) = text.split_once('.').unwrap_or(("", text));
+    let mut all = String::new(alloc);
+    for letter in letters.chars() {
+        all.push_str(line_of(letter))?;
+    }
+    all.push_str(rest)?;
+    Ok(all)
+}
+
+fn line_of(letter: char) -> &'static str {
+    match letter {
+        'B' => "{\"begin\":\"r1\",\"context\":{\"MyUId\":2,\"Name\":\"ann\"}}\n",
+        'C' => "{\"begin\":\"r2\",\"context\":{\"MyUId\":2,\"Name\":\"ann\"}}\n",
+        'A' => "{\"ask\":\"r1\",\"query\":\"q\"}\n",
+        'F' => "{\"ask\":\"r2\",\"query\":\"q\"}\n",
+        _ => "{\"end\":\"r1\"}\n",
+    }
+}
+
+impl Reading for Scripts {
+    fn tell(&self, alloc: Global, text: &str, told: &mut String) -> Told {
+        let text = with_lines(alloc, text)?;
+        let bytes = bytes_of(alloc, text.as_str())?;
+        match read_script(alloc, &self.params, bytes.as_slice()) {
+            Ok(script) => write_entries(told, script.entries.as_slice()),
+            Err(ScriptError::NoMemory) => Err(AllocError),
+            Err(ScriptError::Fault(fault)) => write_script_fault(alloc, fault, told),
+        }
+    }
+}
+
+const SCRIPTS: &str =
+    r#"{"begin":"r1","context":{"MyUId":-9223372036854775808,"Name":"\u0061"}}^~{"context":{"Name":"bob","MyUId":1},"begin":"r2"}~{"ask":"r2","query":"SELECT 1"}~{"query":"","ask":"r1"}~{"end":"r1"}~{"ask":"r2","query":"x","query":"y"}~{"begin":"r1","context":{"Name":"c","MyUId":7,"MyUId":8}}~{"ask":"r1","query":"z"} => begin 0 r1 'a' -9223372036854775808;begin 1 r2 'bob' 1;ask 1 r2 SELECT 1;ask 0 r1 ;end 0 r1;ask 1 r2 y;begin 2 r1 'c' 8;ask 2 r1 z;
+BAEBA. => begin 0 r1 'ann' 2;ask 0 r1 q;end 0 r1;begin 1 r1 'ann' 2;ask 1 r1 q;
+."#;
+
+/// Each line has its fault before a later one.
+const FAULTS: &str = r#"{"begin":"r1","context":{"MyUId":2,"Name":"ann"} => line 1 json
+~ => line 1 json
+{"publish":"t1"} => line 1 shape
+A. => line 1 unbegun
+{"begin":"r1","context":{}} => line 1 context
+{"begin":"r1","context":{"MyUId":2,"Name":"ann","X":1}} => line 1 context
+{"begin":"r1","context":{"MyUid":2,"Name":"ann"}} => line 1 context
+{"begin":"r1","context":{"MyUId":"2","Name":"ann"}} => line 1 context
+.{"begin":"r1","context":{"MyUId":2.0,"Name":"ann"}} => line 1 context
+{"begin":"r1","context":{"MyUId":9223372036854775808,"Name":"ann"}} => line 1 context
+{"begin":"r1","context":{"MyUId":2,"Name":null}} => line 1 context
+BB. => line 2 begun
+B.{"begin":"r1","context":{}} => line 2 begun
+B.{"begin":"r1","context":1} => line 2 shape
+B.{"ask":"r2","query":1} => line 2 shape
+B.{"ask":"R1","query":"q"} => line 2 unbegun
+B.{"end":"r10"} => line 2 unbegun
+BEE. => line 3 unbegun
+BEA. => line 3 unbegun
+BEE.{ => line 3 unbegun
+BE.~{"end":"r1"} => line 3 json"#;
+
+/// What is too much is told after the line's own faults.
+const LIMITS: &str = r#"B[[256 A]]. => 257 entries
+B[[257 A]].{ => {"fault":"limit","limit":256,"status":7,"what":"asks"}
+B[[256 A]].{ => line 258 json
+B[[256 A]]F. => line 258 unbegun
+B[[256 A]].{"ask":"r1","query":1} => line 258 shape
+B[[256 A]]EB[[256 A]]. => 515 entries
+BC[[256 AF]]. => 514 entries
+BC[[256 AF]]F. => {"fault":"limit","limit":256,"status":7,"what":"asks"}
+[[8192 BE]]. => 16384 entries
+[[8192 BE]]B. => {"fault":"limit","limit":8192,"status":7,"what":"requests"}
+[[8192 BE]].{"begin":"r1","context":{}} => line 16385 context
+[[65536 ~]] => line 1 json
+[[65536 ~]]{ => {"fault":"limit","limit":65536,"status":7,"what":"lines"}"#;
+
+#[test]
+fn whole_scripts(rt: HostRuntime) -> Result<(), Fail> {
+    let scripts = Scripts::new(rt.alloc())?;
+    all_are_so(&rt, &scripts, SCRIPTS, "")?;
+    all_are_so(&rt, &scripts, FAULTS, "")
+}
+
+#[test]
+fn limits_of_scripts(rt: HostRuntime) -> Result<(), Fail> {
+    let scripts = Scripts::new(rt.alloc())?;
+    all_are_so(&rt, &scripts, LIMITS, "")
+}

@@ -1,0 +1,106 @@
+//! Keys and links of tables.
+
+use super::cases::{Reading, Told, all_are_so};
+use super::faults::write_broken;
+use ba_model::list::List;
+use ba_model::value::{Row, RowSet, Value};
+use ba_sql_ddl::read_schema;
+use ba_tables::broken::{TablesError, TablesFault, broken_table};
+use ba_tables::file::read_table;
+use ba_tables::tables::Tables;
+use std::alloc::{AllocError, Global};
+use std::fmt::Write;
+use std::test::Fail;
+
+/// The keys of Tasks are (A, B) and B.
+const KEYED: &str = "CREATE TABLE Users (A INT PRIMARY KEY, B INT NOT NULL);
+CREATE TABLE Tasks (A INT NOT NULL, UNIQUE (A, B), B INT NOT NULL UNIQUE REFERENCES Users (A));";
+
+fn check(alloc: Global, users: &[u8], tasks: &[u8]) -> Result<Tables, TablesError> {
+    let Ok(schema) = read_schema(alloc, KEYED.as_bytes()) else {
+        return Err(TablesError::NoMemory);
+    };
+    if schema.tables.len() != 2 {
+        return Err(TablesError::NoMemory);
+    }
+    let Ok(first) = read_table(alloc, &schema, 0, users) else {
+        return Err(TablesError::NoMemory);
+    };
+    let Ok(second) = read_table(alloc, &schema, 1, tasks) else {
+        return Err(TablesError::NoMemory);
+    };
+    let tables = List::from_vec(vec![in alloc; first, second]?);
+    Tables::check(alloc, &schema, RowSet { tables })
+}
+
+fn write_counts(told: &mut String, tables: &Tables) -> Told {
+    for rows in tables.rows().tables.as_slice() {
+        write!(told, "{} ", rows.len())?;
+    }
+    write!(told, "rows of {} tables", tables.schema().tables.len())
+}
+
+/// Users and Tasks, with a bar between them.
+struct Rows;
+
+impl Reading for Rows {
+    fn tell(&self, alloc: Global, text: &str, told: &mut String) -> Told {
+        let (users, tasks) = text.split_once('|').unwrap_or((text, ""));
+        let users = format!(in alloc; "A,B\n{users}")?;
+        let tasks = format!(in alloc; "A,B\n{tasks}")?;
+        match check(alloc, users.as_bytes(), tasks.as_bytes()) {
+            Ok(tables) => write_counts(told, &tables),
+            Err(TablesError::NoMemory) => Err(AllocError),
+            Err(TablesError::Fault(fault)) => write_broken(alloc, fault, told),
+        }
+    }
+}
+
+const ROWS: &str = "1,7~2,7|5,2~5,1 => 2 2 rows of 2 tables
+1,7~2,8~1,9| => key 0 rows 1 3
+1,7~1,7| => key 0 rows 1 2
+1,7~2,7~2,8~1,8| => key 0 rows 2 3
+1,7~2,7~3,7|5,1~6,2~7,1 => key 1 rows 1 3
+1,7|5,1~5,1 => key 0 rows 1 2
+1,7~2,8|1,1~2,2~3,5~4,9 => link 0 row 3
+|1,1 => link 0 row 1
+1,7|5,9~6,1~7,1 => key 1 rows 2 3
+1,7~1,8|5,9 => key 0 rows 1 2";
+
+#[test]
+fn keys_and_links(rt: HostRuntime) -> Result<(), Fail> {
+    all_are_so(&rt, &Rows, ROWS, "")
+}
+
+/// Two rows of NULL and 1, and one of `last` and 1.
+fn rows_with_null(alloc: Global, last: i64) -> Result<List<Row>, AllocError> {
+    let mut rows = List::new(alloc);
+    for first in [Value::Null, Value::Null, Value::Int(last)] {
+        let row = vec![in alloc; first, Value::Int(1)]?;
+        rows.push(List::from_vec(row))?;
+    }
+    Ok(rows)
+}
+
+fn broken(alloc: Global, last: i64) -> Result<Option<TablesFault>, AllocError> {
+    let text = b"CREATE TABLE T (A INT NOT NULL UNIQUE REFERENCES T (B), B INT NOT NULL);";
+    let schema = read_schema(alloc, text).map_err(|_| AllocError)?;
+    let mut rows = RowSet {
+        tables: List::new(alloc),
+    };
+    rows.tables.push(rows_with_null(alloc, last)?)?;
+    if schema.tables.len() != rows.tables.len() {
+        return Err(AllocError);
+    }
+    broken_table(alloc, &schema.tables, &rows)
+}
+
+/// NULL breaks no key and needs no target.
+#[test]
+fn null_in_keys_and_links(rt: HostRuntime) -> Result<(), Fail> {
+    assert_eq!(rt; broken(rt.alloc(), 1)?, None);
+    let (table, link, row) = (0, 0, 3);
+    let dangles = TablesFault::LinkBroken { table, link, row };
+    assert_eq!(rt; broken(rt.alloc(), 2)?, Some(dangles));
+    Ok(())
+}

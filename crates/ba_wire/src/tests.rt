@@ -1,3 +1,0 @@
-mod printed;
-mod reading;
-mod scripts;
