@@ -2,14 +2,45 @@
 use mathlib.Core.List.{IsPrefix}
 use mathlib.Core.Logic.{dite}
 use native.Mathlib.Decide.{ℕ_discrete, dec_le}
-use Rattle.std.proofs.Common.{◌≡◌, ◌≢◌, ℕ, ◌<◌, ◌≤◌, Bool, true, false, cond, ⊎_elim, List, [], ◌∷◌, ◌++◌, map, length, sym, lt_of_not-le, refl, ap, ◌∙◌, subst, arith, append-nil, eq-eqb, ne_eqb, ◌==◌}
-use Rattle.std.specs.List.{filter, All, slice_index_or}
+use Rattle.std.proofs.Common.{◌≡◌, ◌≢◌, ℕ, suc, ◌+◌, ◌<◌, ◌≤◌, Bool, true, false, cond, ⊎_elim, List, [], ◌∷◌, ◌++◌, map, length, sym, lt_of_not-le, refl, ap, ◌∙◌, subst, arith, append-nil, eq-eqb, ne_eqb, ◌==◌}
+use Rattle.std.specs.List.{filter, sum_by, All, Contains, slice_index_or}
 use Rattle.std.proofs.lemmas.List.{map-append}
-use Rattle.std.proofs.lemmas.List.Elements.{filter-append, All-cons}
+use Rattle.std.proofs.lemmas.List.Elements.{filter-append, All-cons, All-head, All-tail}
+use Rattle.std.proofs.lemmas.List.Sums.{sum_by-cons}
 use Rattle.std.proofs.lemmas.Bool.Decides.{leb_tells}
-use Rattle.ba_turn.specs.History.{calls_by, number_of, entry_of, HasCalls, longer_of, shorter_of}
+use Rattle.ba_turn.specs.History.{calls_by, number_of, entry_of, HasCalls, AreDistinct, longer_of, shorter_of}
 use Rattle.ba_turn.specs.Rule.{Scene, IsJoined, AllJoined}
-use Rattle.ba_turn.proofs.Lists.{prefix_self}
+use Rattle.ba_turn.proofs.Lists.{prefix_self, in_tail}
+
+-- a number as a weight: 1 where it is the other
+abbrev hit : ℕ → ℕ → ℕ
+hit n m = cond (n == m) 1 0
+
+none_made : (ns : List ℕ) → sum_by (λ n. 0) ns ≡ 0
+none_made [] = refl
+none_made (n ∷ ns) = let a = sum_by-cons (λ (m : ℕ). 0) n ns in let rest = none_made ns in omega arith
+
+-- a number that stands nowhere, and one that stands once
+stands_nowhere : (n : ℕ) (ns : List ℕ) → All (λ m. n ≢ m) ns → sum_by (λ m. hit n m) ns ≡ 0
+stands_nowhere n [] other = refl
+stands_nowhere n (m ∷ ms) other =
+    let a = sum_by-cons (λ (k : ℕ). hit n k) m ms in
+    let here : hit n m ≡ 0 = ap (λ (b : Bool). cond b 1 0) (ne_eqb n m (All-head (λ k. n ≢ k) m ms other)) in
+    let rest = stands_nowhere n ms (All-tail (λ k. n ≢ k) m ms other) in
+    omega arith
+
+stands_once : (n : ℕ) (ns : List ℕ) → AreDistinct ns → Contains ns n → sum_by (λ m. hit n m) ns ≡ 1
+stands_once n [] apart at = absurd (let low = at.1 in omega arith)
+stands_once n (m ∷ ms) apart at =
+    let a = sum_by-cons (λ (k : ℕ). hit n k) m ms in
+    let others : All (λ k. m ≢ k) ms = λ k d within. apart 0 (suc k) d (omega arith) (omega arith) in
+    dite (ℕ_discrete n m)
+    (λ e. let here : hit n m ≡ 1 = ap (λ (b : Bool). cond b 1 0) (eq-eqb n m e) in
+    let rest = stands_nowhere n ms (subst (λ (i : ℕ). All (λ k. i ≢ k) ms) (sym e) others) in
+    omega arith)
+    (λ ne. let here : hit n m ≡ 0 = ap (λ (b : Bool). cond b 1 0) (ne_eqb n m ne) in
+    let rest = stands_once n ms (λ i j d lt within. apart (suc i) (suc j) d (omega arith) (omega arith)) (in_tail n m ms ne at) in
+    omega arith)
 
 nil_before : {A : Type 0} (xs ys : List A) → xs ++ ys ≡ [] → xs ≡ []
 nil_before [] ys e = refl
@@ -43,6 +74,28 @@ module _ {E : Type 0} where
       let none : calls_by n (seen ++ p.0) ≡ [] = ap (calls_by n) p.1 ∙ fresh n (lt_of_not-le high) in
       no_call n seen (nil_before (calls_by n seen) (calls_by n p.0) (sym (calls_more n seen p.0) ∙ none)) k d within refl
       ))
+
+  -- a history has as many calls as its numbers made, where these differ and each call has one of them
+  one_more : (c : ℕ × E) (cs : List (ℕ × E)) (n : ℕ) → length (calls_by n (c ∷ cs)) ≡ hit c.0 n + length (calls_by n cs)
+  one_more c cs n = elim (c.0 == n) as (λ b. length (map entry_of (cond b (c ∷ filter (λ (t : ℕ × E). number_of t == n) cs) (filter (λ (t : ℕ × E). number_of t == n) cs))) ≡ cond b 1 0 + length (calls_by n cs)) [ true ↦ omega arith | false ↦ omega arith ]
+
+  sums_more : (c : ℕ × E) (cs : List (ℕ × E)) (ns : List ℕ) → sum_by (λ n. length (calls_by n (c ∷ cs))) ns ≡ sum_by (λ n. hit c.0 n) ns + sum_by (λ n. length (calls_by n cs)) ns
+  sums_more c cs [] = refl
+  sums_more c cs (n ∷ ns) =
+      let one = one_more c cs n in
+      let rest = sums_more c cs ns in
+      let a = sum_by-cons (λ (m : ℕ). length (calls_by m (c ∷ cs))) n ns in
+      let b = sum_by-cons (λ (m : ℕ). hit c.0 m) n ns in
+      let d = sum_by-cons (λ (m : ℕ). length (calls_by m cs)) n ns in
+      omega arith
+
+  pub counted : (log : List (ℕ × E)) (ns : List ℕ) → AreDistinct ns → All (Contains ns) (map number_of log) → sum_by (λ n. length (calls_by n log)) ns ≡ length log
+  counted [] ns apart all = none_made ns
+  counted (c ∷ cs) ns apart all =
+      let one = stands_once c.0 ns apart (All-head (Contains ns) c.0 (map number_of cs) all) in
+      let rest = counted cs ns apart (All-tail (Contains ns) c.0 (map number_of cs) all) in
+      let both = sums_more c cs ns in
+      omega arith
 
   pub entries_more : (l : List (ℕ × E)) (n : ℕ) (e : E) → map entry_of (l ++ (n, e) ∷ []) ≡ map entry_of l ++ e ∷ []
   entries_more l n e = map-append entry_of l ((n, e) ∷ [])
@@ -79,3 +132,13 @@ module _ {S E : Type 0} where
   pub joined_else : (x : Scene S E) (n : ℕ) (l : List (ℕ × List E)) → 0 < x.place n → AllJoined x l → All (λ m. n ≢ m) (map number_of l)
   joined_else x n [] seated h = λ k d within. absurd (omega arith)
   joined_else x n (k ∷ ks) seated h = All-cons (λ m. n ≢ m) k.0 (map number_of ks) (λ e. let free = h.0.free in let same : x.place n ≡ x.place k.0 = ap x.place e in absurd (omega arith)) (joined_else x n ks seated h.1)
+
+  -- the calls of the passes that were joined, by the log and by what was counted
+  pub joined_sum : (x : Scene S E) (l : List (ℕ × List E)) → AllJoined x l → sum_by (λ n. length (calls_by n x.log)) (map number_of l) ≡ sum_by (λ k. length k.1) l
+  joined_sum x [] h = refl
+  joined_sum x (k ∷ ks) h =
+      let a = sum_by-cons (λ (n : ℕ). length (calls_by n x.log)) k.0 (map number_of ks) in
+      let b = sum_by-cons (λ (j : ℕ × List E). length j.1) k ks in
+      let one : length (calls_by k.0 x.log) ≡ length k.1 = ap (λ (l : List E). length l) h.0.calls_are in
+      let rest = joined_sum x ks h.1 in
+      omega arith

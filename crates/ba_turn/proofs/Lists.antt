@@ -6,7 +6,7 @@ use native.Mathlib.Decide.{ℕ_discrete}
 use lib.ListN.{get_elem?}
 use Rattle.std.proofs.Common.{◌≡◌, ◌≢◌, ℕ, zero, suc, ◌+◌, ◌<◌, ◌≤◌, cond, ⊎_elim, inl, inr, ◌⊎◌, List, [], ◌∷◌, ◌++◌, length, set, sym, refl, ap, ◌∙◌, arith, append_assoc, append-nil, length-append, eqb, eq-eqb, eqb-true, ne_eqb, Bool}
 use Rattle.std.specs.Cmp.{unsigned_Decides}
-use Rattle.std.specs.List.{sum_by, All, Contains}
+use Rattle.std.specs.List.{sum_by, All, Contains, slice_index_or}
 use Rattle.std.proofs.lemmas.List.Sums.{sum_by-cons}
 use Rattle.std.proofs.lemmas.List.{nil_from_length}
 use Rattle.std.proofs.lemmas.List.Elements.{All-cons, All-contains}
@@ -129,6 +129,13 @@ look_up n [] = inr (λ k d within. absurd (omega arith))
 look_up n (m ∷ ms) = dite (ℕ_discrete m n)
     (λ e. inl (0, omega arith, e))
     (λ ne. ⊎_elim (λ c. inl (suc c.0, omega arith, c.2)) (λ a. inr (All-cons (λ k. n ≢ k) m ms (λ e. ne (sym e)) a)) (look_up n ms))
+
+in_tail_at : (n m : ℕ) (ms : List ℕ) (k : ℕ) → n ≢ m → k < length (m ∷ ms) → slice_index_or (m ∷ ms) k n ≡ n → Contains ms n
+in_tail_at n m ms zero ne within is = absurd (ne (sym is))
+in_tail_at n m ms (suc k) ne within is = (k, omega arith, is)
+
+pub in_tail : (n m : ℕ) (ms : List ℕ) → n ≢ m → Contains (m ∷ ms) n → Contains ms n
+in_tail n m ms ne at = in_tail_at n m ms at.0 ne at.1 at.2
 
 few_numbers : (ns : List ℕ) (last : ℕ) → AreDistinct ns → All (λ m. m ≤ last) ns → length ns ≤ last + 1
 few_numbers ns last apart within = length-le_from_distinct_below ns (last + 1) (IsDistinct-from_AllPairs unsigned_Decides ns apart)

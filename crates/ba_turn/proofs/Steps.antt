@@ -6,9 +6,10 @@ use mathlib.Core.Option as maybe
 use native.Mathlib.Decide.{ℕ_discrete, dec_le}
 use lib.ListN.{get_elem?}
 use Rattle.std.proofs.Common.{◌≡◌, ◌≢◌, ℕ, ◌+◌, ◌%◌, ◌^◌, ◌<◌, ◌≤◌, Bool, true, false, cond, List, [], ◌∷◌, ◌++◌, map, length, get_or, set, sym, lt_of_not-le, refl, ap, ◌∙◌, subst, ⊎_elim, arith, Option, Some, None, vec_capacity, length-append}
-use Rattle.std.specs.List.{sum_by, All, slice_index_or}
+use Rattle.std.specs.List.{sum_by, All, Contains, slice_index_or}
 use Rattle.std.proofs.lemmas.List.{length-map}
 use Rattle.std.proofs.lemmas.List.Elements.{All-cons}
+use Rattle.std.proofs.lemmas.List.Sums.{sum_by-cons}
 use Rattle.atomic_table.specs.Table.{State, Me, Step, step, keeps, takes, gives, put_back, rest, Allows}
 use Rattle.atomic_table.specs.Table.{opening as table_opening}
 use Rattle.atomic_table.proofs.Lists.{at_set, set_here, set_else}
@@ -23,7 +24,7 @@ use Rattle.ba_turn.specs.Rule.{Scene, slot_of, IsTrueOf, AllJoined, left_of, liv
 use Rattle.ba_turn.specs.Steps.{Draws, Looks, CallsOn, IsTaken}
 use Rattle.ba_turn.specs.Passes.{known_by, start_of, allowance_of, value_of, HasTurn, IsGrown}
 use Rattle.ba_turn.proofs.Lists.{sum_set, sum_at, same_at, is_within, at_only, snoc_same, alone_weighs, alone_is, prefix_more, prefix_self, alone_differs, every_number, replaced, replaced_here, replaced_else}
-use Rattle.ba_turn.proofs.Histories.{calls_here, calls_else, entries_more, numbers_more, numbers_within, joined_map, joined_known}
+use Rattle.ba_turn.proofs.Histories.{calls_here, calls_else, entries_more, numbers_more, numbers_within, counted, joined_map, joined_known, joined_sum}
 
 abbrev kept_or : {K : Type 0} → K → List (ℕ × Option K) → K
 kept_or d [] = d
@@ -109,9 +110,9 @@ module _ {S E O : Type 0} (opening : S → O) (history : S → List E) (room : S
       record { seat = id; view = w; at = set_here vs id w (is_within vs id v at); live = t.0; seen = t.1 })
       (λ ne. record { seat = h.seat; view = h.view; at = set_else vs id h.seat w ne ∙ h.at; live = h.live; seen = h.seen })
 
-  -- what a seat without a ticket learns
-  pub sums : (s : St) (r : Rule s) (id : ℕ) (v : V) → get_elem? s.views id ≡ some v → v.live ≡ true → v.has_ticket ≡ false → SumsToAllowance v
-  sums s r id v at live idle zero_is all_back =
+  -- once all passes are back, the opening pass has seen the whole log
+  seen_whole : (s : St) (r : Rule s) (id : ℕ) (v : V) → get_elem? s.views id ≡ some v → v.live ≡ true → v.number ≡ 0 → v.splits ≡ length v.joined → (sum_by live_of s.views ≡ 1) × (length v.seen ≡ r.x.serving)
+  seen_whole s r id v at live zero_is all_back =
       let x : Scene S E = r.x in
       let f = r.each id v at live in
       let o = f.opens zero_is in
@@ -119,12 +120,21 @@ module _ {S E O : Type 0} (opening : S → O) (history : S → List E) (room : S
       let o1 = o.1 in
       let alive = r.alive in
       let one : sum_by live_of s.views ≡ 1 = omega arith in
+      let k = r.known in
+      let k_is : k.seat ≡ id = alone_is live_of s.views id k.seat v k.view at (ap one_if live) one k.at (ap one_if k.live) in
+      let k_same : k.view ≡ v = same_at s.views id k.view v (subst (λ (i : ℕ). get_elem? s.views i ≡ some k.view) k_is k.at) at in
+      (one, ap (λ (z : V). length z.seen) (sym k_same) ∙ k.seen)
+
+  -- what a seat without a ticket learns
+  pub sums : (s : St) (r : Rule s) (id : ℕ) (v : V) → get_elem? s.views id ≡ some v → v.live ≡ true → v.has_ticket ≡ false → SumsToAllowance v
+  sums s r id v at live idle zero_is all_back =
+      let x : Scene S E = r.x in
+      let f = r.each id v at live in
+      let whole = seen_whole s r id v at live zero_is all_back in
+      let one = whole.0 in
+      let seen = whole.1 in
       let made : live_of v ≡ 1 = ap one_if live in
       let left : sum_by left_of s.views ≡ v.left = alone_weighs left_of live_of s.views id v at made one (λ j b e z. r.spent j b e (not_live b.live z)) in
-      let k = r.known in
-      let k_is : k.seat ≡ id = alone_is live_of s.views id k.seat v k.view at made one k.at (ap one_if k.live) in
-      let k_same : k.view ≡ v = same_at s.views id k.view v (subst (λ (i : ℕ). get_elem? s.views i ≡ some k.view) k_is k.at) at in
-      let seen : length v.seen ≡ x.serving = ap (λ (z : V). length z.seen) (sym k_same) ∙ k.seen in
       let order = r.order in
       let sum = r.sum in
       let al = f.allowance_is in
@@ -136,16 +146,30 @@ module _ {S E O : Type 0} (opening : S → O) (history : S → List E) (room : S
       omega arith
 
   -- and what each seat learns of the numbers
+  all_numbers : (s : St) (r : Rule s) (id : ℕ) (v : V) → get_elem? s.views id ≡ some v → v.live ≡ true → v.number ≡ 0 → v.splits ≡ length v.joined → (l : List (ℕ × E)) → IsPrefix l r.x.log → All (Contains (numbers_of v)) (map number_of l)
+  all_numbers s r id v at live zero_is all_back l begins =
+      let x : Scene S E = r.x in
+      let f = r.each id v at live in
+      let o = f.opens zero_is in
+      let o0 = o.0 in
+      let few : All (λ m. m ≤ x.last) (numbers_of v) = All-cons (λ m. m ≤ x.last) v.number (map number_of v.joined) f.known (joined_known x v.joined f.joined) in
+      let full : length (numbers_of v) ≡ x.last + 1 = omega (arith, length-map v.joined number_of) in
+      λ k d within. every_number (numbers_of v) x.last (slice_index_or (map number_of l) k d) f.apart few full (numbers_within x.last l x.log begins r.fresh k d within)
+
   pub has_all_calls : (s : St) (r : Rule s) (id : ℕ) (v : V) → get_elem? s.views id ≡ some v → v.live ≡ true → HasAllCalls v
   has_all_calls s r id v at live = record {
-    each = λ zero_is all_back.
+    each = λ zero_is all_back. all_numbers s r id v at live zero_is all_back v.seen (r.each id v at live).seen;
+    count = λ zero_is all_back.
         let x : Scene S E = r.x in
         let f = r.each id v at live in
-        let o = f.opens zero_is in
-        let o0 = o.0 in
-        let few : All (λ m. m ≤ x.last) (numbers_of v) = All-cons (λ m. m ≤ x.last) v.number (map number_of v.joined) f.known (joined_known x v.joined f.joined) in
-        let full : length (numbers_of v) ≡ x.last + 1 = omega (arith, length-map v.joined number_of) in
-        λ k d within. every_number (numbers_of v) x.last (slice_index_or (map number_of v.seen) k d) f.apart few full (numbers_within x.last v.seen x.log f.seen r.fresh k d within);
+        let whole = seen_whole s r id v at live zero_is all_back in
+        let seen = whole.1 in
+        let logged = r.logged in
+        let all = counted x.log (numbers_of v) f.apart (all_numbers s r id v at live zero_is all_back x.log (prefix_self x.log)) in
+        let a = sum_by-cons (λ (n : ℕ). length (calls_by n x.log)) v.number (map number_of v.joined) in
+        let own : length (calls_by v.number x.log) ≡ length v.made = ap (λ (l : List E). length l) f.made in
+        let rest = joined_sum x v.joined f.joined in
+        omega arith;
   }
 
   -- the words as they are

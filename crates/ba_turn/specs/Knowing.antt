@@ -1,5 +1,5 @@
 -- What a pass knows after each call of a turn.
-use Rattle.std.specs.Prelude.{◌≡◌, ℕ, ◌+◌, ◌-◌, true, false, List, [], ◌∷◌, ◌++◌, map, length, Some, None, All, Contains}
+use Rattle.std.specs.Prelude.{◌≡◌, ℕ, ◌+◌, ◌-◌, true, false, List, [], ◌∷◌, ◌++◌, map, length, Some, None, All, Contains, sum_by}
 use Rattle.ba_turn.specs.declared.known.Known.{Known}
 use Rattle.ba_turn.specs.History.{number_of, longer_of, shorter_of}
 
@@ -48,6 +48,7 @@ SumsToAllowance v = v.number ≡ 0 → v.splits ≡ length v.joined → v.left +
 abbrev pub numbers_of : {S E : Type 0} → Known S E → List ℕ
 numbers_of v = v.number ∷ map number_of v.joined
 
--- where the opening pass has joined as many passes as it split off, each call that it has seen is its own or one of theirs
+-- where the opening pass has joined as many passes as it split off, its own calls and theirs are all calls: each that it has seen has one of their numbers, and these are as many as they made
 pub record HasAllCalls {S E : Type 0} (v : Known S E) : Type 0 where
   pub each : v.number ≡ 0 → v.splits ≡ length v.joined → All (Contains (numbers_of v)) (map number_of v.seen)
+  pub count : v.number ≡ 0 → v.splits ≡ length v.joined → length v.seen ≡ length v.made + sum_by (λ k. length k.1) v.joined

@@ -198,7 +198,7 @@ impl<S: Storied> Turn<S> {
 
     /// Joins a pass into the opening pass, which keeps the longer of the two histories and the joined number's calls.
     /// Its own number and those that it joined differ. Once it has joined all that it split off,
-    /// each call that it has seen has one of these numbers.
+    /// its own calls and those of the joined passes are all calls.
     pub fn join(&self, pass: &mut Pass<S, S::Entry>, other: Pass<S, S::Entry>)
         requires free { IsFree self.now pass.old × IsFree self.now other }
         requires opening { (known_by pass.old).number ≡ 0 }
