@@ -3,3 +3,4 @@ pub mod Seen
 pub mod Files
 pub mod Sink
 pub mod MemFiles
+pub mod MemSink

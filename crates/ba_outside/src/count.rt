@@ -1,5 +1,5 @@
 // Counts of 64 bits.
-ghost use Rattle.std.specs.Prelude.{◌≡◌, ◌+◌, ◌≤◌, min};
+ghost use Rattle.std.specs.Prelude.{◌≡◌, ◌↔◌, ◌+◌, ◌≤◌, Contains, IsTrue, min};
 ghost use Rattle.ba_outside.specs.Causes.{last_count};
 
 // A count that never falls and stops at its last value.
@@ -22,4 +22,11 @@ impl Count {
     {
         self.value = self.value.saturating_add(amount);
     }
+}
+
+// Whether a list has the number of a call.
+pub(crate) fn is_listed(numbers: &[u64], call: u64) -> bool
+    ensures { IsTrue result ↔ Contains numbers.now call }
+{
+    numbers.contains(&call)
 }
