@@ -1,0 +1,158 @@
+//! Covers that are found and refused.
+
+use super::written::{Handle, context, null_query, policy, policy_of, query};
+use ba_direct::cover::Cover;
+use ba_direct::search::{cover, is_cover};
+use ba_model::policy::Policy;
+use ba_model::query::{Op, Query};
+use ba_model::same::Duplicate;
+use std::alloc::AllocError;
+
+/// For each part the number of its view and the places of that view's tables, or `none`.
+fn text_of(rt: &impl Handle, found: &Result<Option<Cover>, AllocError>) -> String {
+    let mut text = String::new(rt.alloc());
+    match found {
+        Ok(Some(cover)) => {
+            for part in cover.parts.as_slice() {
+                let places = part.places.as_slice();
+                let part = format!(in rt.alloc(); "{}{places:?}", part.view);
+                text.push_str(part.expect(rt, "memory").as_str())
+                    .expect(rt, "memory");
+            }
+        }
+        Ok(None) => text.push_str("none").expect(rt, "memory"),
+        Err(_) => text.push_str("no memory").expect(rt, "memory"),
+    }
+    text
+}
+
+/// The text of the query's cover.
+fn found(rt: &impl Handle, policy: &Policy, query: &Query) -> String {
+    text_of(rt, &cover(rt.alloc(), policy, &context(rt), query))
+}
+
+const SHOWN: &str = "SELECT Shown FROM T";
+
+const OWN: &str = "SELECT Shown FROM T WHERE Hidden = ?N";
+
+const BELOW: &str = "SELECT Shown FROM T WHERE Hidden < 7";
+
+const PAIR: &str = "SELECT a.Shown, b.Shown FROM T a, T b WHERE a.Hidden = 1";
+
+const THREE: &str = "SELECT Shown FROM U;
+CREATE VIEW W AS SELECT Shown FROM T; CREATE VIEW X AS SELECT Shown FROM T";
+
+const TWICE: &str = "SELECT Shown FROM T UNION SELECT Shown FROM T";
+
+/// Views, a question, and its cover.
+const COVERS: [(&str, &str, &str); 32] = [
+    (SHOWN, SHOWN, "0[0]"),
+    (SHOWN, "SELECT Shown FROM T WHERE Shown < 7", "0[0]"),
+    (SHOWN, "SELECT Shown FROM T WHERE Hidden < 7", "none"),
+    (SHOWN, "SELECT Shown, 9 FROM T", "0[0]"),
+    (SHOWN, "SELECT Shown, ?N FROM T", "0[0]"),
+    (SHOWN, "SELECT Shown, Hidden FROM T", "none"),
+    (SHOWN, "SELECT Shown FROM U", "none"),
+    (SHOWN, "SELECT a.Shown FROM T a, T b", "none"),
+    (SHOWN, "SELECT a.Shown FROM T a, U b", "none"),
+    (OWN, OWN, "0[0]"),
+    (OWN, SHOWN, "none"),
+    (OWN, BELOW, "none"),
+    (OWN, "SELECT Shown FROM T WHERE Hidden = 5", "0[0]"),
+    (OWN, "SELECT Shown FROM T WHERE 5 = Hidden", "0[0]"),
+    (OWN, "SELECT Shown FROM T WHERE Hidden = 6", "none"),
+    (OWN, "SELECT Shown FROM T WHERE Shown = 5", "none"),
+    (
+        OWN,
+        "SELECT Shown FROM T WHERE Shown <> 9 AND Hidden = 5",
+        "0[0]",
+    ),
+    (
+        OWN,
+        "SELECT Shown FROM T WHERE Hidden = 5 AND Hidden < 9",
+        "none",
+    ),
+    (BELOW, BELOW, "0[0]"),
+    (BELOW, "SELECT Shown FROM T WHERE 7 < Hidden", "none"),
+    (BELOW, "SELECT Shown FROM T WHERE Hidden <= 7", "none"),
+    (PAIR, PAIR, "0[0, 1]"),
+    (
+        PAIR,
+        "SELECT b.Shown, a.Shown FROM T a, T b WHERE a.Hidden = 1",
+        "0[0, 1]",
+    ),
+    (
+        PAIR,
+        "SELECT a.Shown, b.Shown FROM T a, T b WHERE b.Hidden = 1",
+        "0[1, 0]",
+    ),
+    (PAIR, SHOWN, "none"),
+    (
+        PAIR,
+        "SELECT a.Shown, a.Shown FROM T a, U b WHERE a.Hidden = 1",
+        "none",
+    ),
+    (THREE, SHOWN, "1[0]"),
+    (
+        THREE,
+        "SELECT Shown FROM T UNION SELECT Shown FROM U",
+        "1[0]0[0]",
+    ),
+    (
+        THREE,
+        "SELECT Shown FROM T UNION SELECT Hidden FROM T",
+        "none",
+    ),
+    (
+        THREE,
+        "SELECT Shown FROM U WHERE Shown = 1 OR Shown = 2",
+        "0[0]0[0]",
+    ),
+    (TWICE, SHOWN, "none"),
+    (TWICE, TWICE, "none"),
+];
+
+#[test]
+fn covers(rt: HostRuntime) {
+    for (views, question, wanted) in COVERS {
+        let policy = policy(&rt, views);
+        let query = query(&rt, &policy, question);
+        let found = found(&rt, &policy, &query);
+        assert!(rt; found.as_str() == wanted, "{views} {question}");
+    }
+}
+
+#[test]
+fn covers_about_null(rt: HostRuntime) {
+    let policy = policy_of(&rt, null_query(&rt, Op::IsNull, 0));
+    for (op, column, wanted) in [
+        (Op::IsNull, 0, "0[0]"),
+        (Op::NotNull, 0, "none"),
+        (Op::IsNull, 1, "none"),
+    ] {
+        let found = found(&rt, &policy, &null_query(&rt, op, column));
+        assert!(rt; found.as_str() == wanted, "{op:?} {column}");
+    }
+}
+
+/// Whether a copy of what is found for the one query is a cover for the other.
+fn covers_too(rt: &impl Handle, policy: &Policy, one: &Query, other: &Query) -> bool {
+    let ctx = context(rt);
+    match &cover(rt.alloc(), policy, &ctx, one) {
+        Ok(Some(found)) => found
+            .copy(rt.alloc())
+            .is_ok_and(|given| is_cover(policy, &ctx, other, &given)),
+        _ => false,
+    }
+}
+
+/// A pair's cover is none of the pair whose rows are exchanged.
+#[test]
+fn given_covers(rt: HostRuntime) {
+    let policy = policy(&rt, PAIR);
+    let second = "SELECT a.Shown, b.Shown FROM T a, T b WHERE b.Hidden = 1";
+    let second = query(&rt, &policy, second);
+    let first = query(&rt, &policy, PAIR);
+    assert!(rt; covers_too(&rt, &policy, &second, &second));
+    assert!(rt; !covers_too(&rt, &policy, &second, &first));
+}

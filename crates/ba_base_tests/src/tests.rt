@@ -1,0 +1,11 @@
+mod classes;
+mod copies;
+mod drafts;
+mod files;
+mod gates;
+mod plans;
+mod sinks;
+mod traces;
+mod turns;
+mod values;
+mod written;
