@@ -1,22 +1,20 @@
 //! Answers that were worked out by hand.
 
-use super::written::{Handle, context, null_query, one, policy, query, rows};
+use super::written::{Handle, context, field, null_query, one, policy, query, rows};
 use ba_eval::{answer, contains};
 use ba_model::list::List;
 use ba_model::query::{Op, Query};
 use ba_model::value::{Row, RowSet, Value};
 
 /// The rows of Users, Attendances, T and U.
-const TABLES: [&str; 4] = [
-    "1 ann; 2 bob; 3 cy;",
-    "2 5; 1 5; 3 6; 1 7;",
-    "10 1; 9 2; NULL 3; -3 4; 9 2; NULL 5;",
-    "9 1; NULL 7;",
-];
+const TABLES: &str = "1 ann; 2 bob; 3 cy;
+2 5; 1 5; 3 6; 1 7;
+10 1; 9 2; NULL 3; -3 4; 9 2; NULL 5;
+9 1; NULL 7;";
 
 fn database(rt: &impl Handle) -> RowSet {
     let mut tables = List::new(rt.alloc());
-    for text in TABLES {
+    for text in TABLES.lines() {
         tables.push(rows(rt, text)).expect(rt, "memory");
     }
     RowSet { tables }
@@ -32,42 +30,29 @@ fn is_answered(rt: &impl Handle, database: &RowSet, query: &Query, wanted: &List
 }
 
 /// Questions and their rows.
-const ANSWERS: [(&str, &str); 13] = [
-    (
-        "SELECT Name FROM Users u, Attendances a WHERE u.UId = a.UId AND EId = ?N",
-        "ann; bob;",
-    ),
-    (
-        "SELECT UId FROM Users UNION SELECT EId FROM Attendances",
-        "1; 2; 3; 5; 6; 7;",
-    ),
-    ("SELECT Hidden FROM T", "NULL; -3; 9; 10;"),
-    ("SELECT Hidden FROM T WHERE Hidden = 9", "9;"),
-    ("SELECT Hidden FROM T WHERE Hidden <> 9", "-3; 10;"),
-    ("SELECT Hidden FROM T WHERE Hidden < 9", "-3;"),
-    ("SELECT Hidden FROM T WHERE Hidden <= 9", "-3; 9;"),
-    ("SELECT T.Shown FROM T, U WHERE T.Hidden = U.Hidden", "2;"),
-    ("SELECT Name FROM Users WHERE Name <> 'bob'", "ann; cy;"),
-    (
-        "SELECT UId, ?N, 'x' FROM Users WHERE UId = 3 OR UId = 1",
-        "1 5 x; 3 5 x;",
-    ),
-    (
-        "SELECT a.Name, b.Name FROM Users a, Users b WHERE a.UId < b.UId",
-        "ann bob; ann cy; bob cy;",
-    ),
-    ("SELECT 1 FROM Users", "1;"),
-    ("SELECT 1 FROM Users WHERE UId = 4", ""),
-];
+const ANSWERS: &str =
+    "SELECT Name FROM Users u, Attendances a WHERE u.UId = a.UId AND EId = ?N | ann; bob;
+SELECT UId FROM Users UNION SELECT EId FROM Attendances | 1; 2; 3; 5; 6; 7;
+SELECT Hidden FROM T | NULL; -3; 9; 10;
+SELECT Hidden FROM T WHERE Hidden = 9 | 9;
+SELECT Hidden FROM T WHERE Hidden <> 9 | -3; 10;
+SELECT Hidden FROM T WHERE Hidden < 9 | -3;
+SELECT Hidden FROM T WHERE Hidden <= 9 | -3; 9;
+SELECT T.Shown FROM T, U WHERE T.Hidden = U.Hidden | 2;
+SELECT Name FROM Users WHERE Name <> 'bob' | ann; cy;
+SELECT UId, ?N, 'x' FROM Users WHERE UId = 3 OR UId = 1 | 1 5 x; 3 5 x;
+SELECT a.Name, b.Name FROM Users a, Users b WHERE a.UId < b.UId | ann bob; ann cy; bob cy;
+SELECT 1 FROM Users | 1;
+SELECT 1 FROM Users WHERE UId = 4 |";
 
 #[test]
 fn answers(rt: HostRuntime) {
     let policy = policy(&rt, "SELECT UId FROM Users");
     let database = database(&rt);
-    for (question, wanted) in ANSWERS {
-        let query = query(&rt, &policy, question);
-        let wanted = rows(&rt, wanted);
-        assert!(rt; is_answered(&rt, &database, &query, &wanted), "{question}");
+    for line in ANSWERS.lines() {
+        let query = query(&rt, &policy, field(line, 0));
+        let wanted = rows(&rt, field(line, 1));
+        assert!(rt; is_answered(&rt, &database, &query, &wanted), "{line}");
     }
 }
 

@@ -1,6 +1,6 @@
 //! Covers that are found and refused.
 
-use super::written::{Handle, context, null_query, policy, policy_of, query};
+use super::written::{Handle, context, field, null_query, policy, policy_of, query};
 use ba_direct::cover::Cover;
 use ba_direct::search::{cover, is_cover};
 use ba_model::policy::Policy;
@@ -31,94 +31,64 @@ fn found(rt: &impl Handle, policy: &Policy, query: &Query) -> String {
     text_of(rt, &cover(rt.alloc(), policy, &context(rt), query))
 }
 
-const SHOWN: &str = "SELECT Shown FROM T";
-
-const OWN: &str = "SELECT Shown FROM T WHERE Hidden = ?N";
-
-const BELOW: &str = "SELECT Shown FROM T WHERE Hidden < 7";
-
 const PAIR: &str = "SELECT a.Shown, b.Shown FROM T a, T b WHERE a.Hidden = 1";
 
-const THREE: &str = "SELECT Shown FROM U;
-CREATE VIEW W AS SELECT Shown FROM T; CREATE VIEW X AS SELECT Shown FROM T";
-
-const TWICE: &str = "SELECT Shown FROM T UNION SELECT Shown FROM T";
+/// The views of this name.
+fn views(name: &str) -> &str {
+    match name {
+        "shown" => "SELECT Shown FROM T",
+        "own" => "SELECT Shown FROM T WHERE Hidden = ?N",
+        "below" => "SELECT Shown FROM T WHERE Hidden < 7",
+        "pair" => PAIR,
+        "three" => {
+            "SELECT Shown FROM U; CREATE VIEW W AS SELECT Shown FROM T;
+             CREATE VIEW X AS SELECT Shown FROM T"
+        }
+        _ => "SELECT Shown FROM T UNION SELECT Shown FROM T",
+    }
+}
 
 /// Views, a question, and its cover.
-const COVERS: [(&str, &str, &str); 32] = [
-    (SHOWN, SHOWN, "0[0]"),
-    (SHOWN, "SELECT Shown FROM T WHERE Shown < 7", "0[0]"),
-    (SHOWN, "SELECT Shown FROM T WHERE Hidden < 7", "none"),
-    (SHOWN, "SELECT Shown, 9 FROM T", "0[0]"),
-    (SHOWN, "SELECT Shown, ?N FROM T", "0[0]"),
-    (SHOWN, "SELECT Shown, Hidden FROM T", "none"),
-    (SHOWN, "SELECT Shown FROM U", "none"),
-    (SHOWN, "SELECT a.Shown FROM T a, T b", "none"),
-    (SHOWN, "SELECT a.Shown FROM T a, U b", "none"),
-    (OWN, OWN, "0[0]"),
-    (OWN, SHOWN, "none"),
-    (OWN, BELOW, "none"),
-    (OWN, "SELECT Shown FROM T WHERE Hidden = 5", "0[0]"),
-    (OWN, "SELECT Shown FROM T WHERE 5 = Hidden", "0[0]"),
-    (OWN, "SELECT Shown FROM T WHERE Hidden = 6", "none"),
-    (OWN, "SELECT Shown FROM T WHERE Shown = 5", "none"),
-    (
-        OWN,
-        "SELECT Shown FROM T WHERE Shown <> 9 AND Hidden = 5",
-        "0[0]",
-    ),
-    (
-        OWN,
-        "SELECT Shown FROM T WHERE Hidden = 5 AND Hidden < 9",
-        "none",
-    ),
-    (BELOW, BELOW, "0[0]"),
-    (BELOW, "SELECT Shown FROM T WHERE 7 < Hidden", "none"),
-    (BELOW, "SELECT Shown FROM T WHERE Hidden <= 7", "none"),
-    (PAIR, PAIR, "0[0, 1]"),
-    (
-        PAIR,
-        "SELECT b.Shown, a.Shown FROM T a, T b WHERE a.Hidden = 1",
-        "0[0, 1]",
-    ),
-    (
-        PAIR,
-        "SELECT a.Shown, b.Shown FROM T a, T b WHERE b.Hidden = 1",
-        "0[1, 0]",
-    ),
-    (PAIR, SHOWN, "none"),
-    (
-        PAIR,
-        "SELECT a.Shown, a.Shown FROM T a, U b WHERE a.Hidden = 1",
-        "none",
-    ),
-    (THREE, SHOWN, "1[0]"),
-    (
-        THREE,
-        "SELECT Shown FROM T UNION SELECT Shown FROM U",
-        "1[0]0[0]",
-    ),
-    (
-        THREE,
-        "SELECT Shown FROM T UNION SELECT Hidden FROM T",
-        "none",
-    ),
-    (
-        THREE,
-        "SELECT Shown FROM U WHERE Shown = 1 OR Shown = 2",
-        "0[0]0[0]",
-    ),
-    (TWICE, SHOWN, "none"),
-    (TWICE, TWICE, "none"),
-];
+const COVERS: &str = "shown | SELECT Shown FROM T | 0[0]
+shown | SELECT Shown FROM T WHERE Shown < 7 | 0[0]
+shown | SELECT Shown FROM T WHERE Hidden < 7 | none
+shown | SELECT Shown, 9 FROM T | 0[0]
+shown | SELECT Shown, ?N FROM T | 0[0]
+shown | SELECT Shown, Hidden FROM T | none
+shown | SELECT Shown FROM U | none
+shown | SELECT a.Shown FROM T a, T b | none
+shown | SELECT a.Shown FROM T a, U b | none
+own | SELECT Shown FROM T WHERE Hidden = ?N | 0[0]
+own | SELECT Shown FROM T | none
+own | SELECT Shown FROM T WHERE Hidden < 7 | none
+own | SELECT Shown FROM T WHERE Hidden = 5 | 0[0]
+own | SELECT Shown FROM T WHERE 5 = Hidden | 0[0]
+own | SELECT Shown FROM T WHERE Hidden = 6 | none
+own | SELECT Shown FROM T WHERE Shown = 5 | none
+own | SELECT Shown FROM T WHERE Shown <> 9 AND Hidden = 5 | 0[0]
+own | SELECT Shown FROM T WHERE Hidden = 5 AND Hidden < 9 | none
+below | SELECT Shown FROM T WHERE Hidden < 7 | 0[0]
+below | SELECT Shown FROM T WHERE 7 < Hidden | none
+below | SELECT Shown FROM T WHERE Hidden <= 7 | none
+pair | SELECT a.Shown, b.Shown FROM T a, T b WHERE a.Hidden = 1 | 0[0, 1]
+pair | SELECT b.Shown, a.Shown FROM T a, T b WHERE a.Hidden = 1 | 0[0, 1]
+pair | SELECT a.Shown, b.Shown FROM T a, T b WHERE b.Hidden = 1 | 0[1, 0]
+pair | SELECT Shown FROM T | none
+pair | SELECT a.Shown, a.Shown FROM T a, U b WHERE a.Hidden = 1 | none
+three | SELECT Shown FROM T | 1[0]
+three | SELECT Shown FROM T UNION SELECT Shown FROM U | 1[0]0[0]
+three | SELECT Shown FROM T UNION SELECT Hidden FROM T | none
+three | SELECT Shown FROM U WHERE Shown = 1 OR Shown = 2 | 0[0]0[0]
+twice | SELECT Shown FROM T | none
+twice | SELECT Shown FROM T UNION SELECT Shown FROM T | none";
 
 #[test]
 fn covers(rt: HostRuntime) {
-    for (views, question, wanted) in COVERS {
-        let policy = policy(&rt, views);
-        let query = query(&rt, &policy, question);
+    for line in COVERS.lines() {
+        let policy = policy(&rt, views(field(line, 0)));
+        let query = query(&rt, &policy, field(line, 1));
         let found = found(&rt, &policy, &query);
-        assert!(rt; found.as_str() == wanted, "{views} {question}");
+        assert!(rt; found.as_str() == field(line, 2), "{line}");
     }
 }
 

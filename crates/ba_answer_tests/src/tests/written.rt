@@ -47,6 +47,11 @@ pub fn query(rt: &impl Handle, policy: &Policy, text: &str) -> Query {
     query.expect(rt, "a query")
 }
 
+/// What stands between bars, from 0 on.
+pub fn field(line: &str, n: usize) -> &str {
+    line.split('|').nth(n).unwrap_or("").trim()
+}
+
 pub fn context(rt: &impl Handle) -> Context {
     Context {
         values: one(rt, Value::Int(5)),

@@ -1,6 +1,6 @@
 //! Terms and facts about differences.
 
-use super::written::Handle;
+use super::written::{Handle, field, number, numbers};
 use ba_classes::classes::Classes;
 use ba_classes::order::Order;
 
@@ -32,30 +32,29 @@ fn circle(rt: &impl Handle) -> Order {
     order
 }
 
-const FAR: i128 = 1_000_000_000_000_000_000_000_000_000_000;
-
-/// Whether it is shown that a node and a number are at most another node.
-const SHOWN: [(u32, i128, u32, bool); 9] = [
-    (0, FAR, 2, true),
-    (2, FAR, 2, true),
-    (1, FAR, 0, false),
-    (3, 5, 4, true),
-    (3, 6, 4, false),
-    (4, 0, 4, true),
-    (4, 1, 4, false),
-    (9, 0, 9, true),
-    (9, 0, 8, false),
-];
+/// A node and a number, and whether it is shown that they are at most another node.
+const SHOWN: &str = "0 1000000000000000000000000000000 2 yes
+2 1000000000000000000000000000000 2 yes
+1 1000000000000000000000000000000 0 no
+3 5 4 yes
+3 6 4 no
+4 0 4 yes
+4 1 4 no
+9 0 9 yes
+9 0 8 no";
 
 #[test]
 fn chains_and_circles(rt: HostRuntime) {
     let copy = circle(&rt).copy(rt.alloc()).expect(&rt, "memory");
-    assert!(rt; copy.absurd() && copy.facts().len() == 4);
-    for (low, gap, high, shown) in SHOWN {
-        assert!(rt;
-            copy.shows(low, gap, high) == shown,
-            "{low} + {gap} <= {high}"
-        );
+    assert!(rt; copy.absurd());
+    assert!(rt; copy.facts().len() == 4);
+    for line in SHOWN.lines() {
+        let mut words = line.split_whitespace();
+        let low = number(words.next().unwrap_or(""));
+        let gap = integer(&rt, words.next().unwrap_or(""));
+        let high = number(words.next().unwrap_or(""));
+        let wanted = words.next() == Some("yes");
+        assert!(rt; copy.shows(low, gap, high) == wanted, "{line}");
     }
 }
 
@@ -71,35 +70,41 @@ fn bounds(rt: &impl Handle) -> Order {
 }
 
 /// Nodes, used numbers, and the values that the nodes get.
-const VALUES: [([u32; 3], [i128; 3], [i128; 3]); 7] = [
-    ([6, 7, 8], [0, 2, 5], [1, 3, 4]),
-    ([1, 1, 6], [3, 5, 0], [4, 4, 1]),
-    ([2, 7, 8], [7, 6, 0], [5, 1, 2]),
-    ([3, 3, 0], [10, 12, 0], [11, 11, 0]),
-    ([3, 7, 8], [10, 11, 0], [10, 1, 2]),
-    ([4, 5, 6], [1, 2, 3], [0, 4, 5]),
-    ([5, 4, 6], [1, 2, -2], [0, -3, 3]),
-];
+const VALUES: &str = "6 7 8 | 0 2 5 | 1 3 4
+1 1 6 | 3 5 0 | 4 4 1
+2 7 8 | 7 6 0 | 5 1 2
+3 3 0 | 10 12 0 | 11 11 0
+3 7 8 | 10 11 0 | 10 1 2
+4 5 6 | 1 2 3 | 0 4 5
+5 4 6 | 1 2 -2 | 0 -3 3";
 
-/// Whether the nodes get these values.
-fn are_given(
-    rt: &impl Handle,
-    order: &Order,
-    nodes: &[u32],
-    used: &[i128],
-    wanted: &[i128],
-) -> bool {
+fn integer(rt: &impl Handle, word: &str) -> i128 {
+    word.parse::<i128>().expect(rt, "a number")
+}
+
+fn integers(rt: &impl Handle, words: &str) -> Vec<i128> {
+    let mut all = Vec::new(rt.alloc());
+    for word in words.split_whitespace() {
+        all.push(integer(rt, word)).expect(rt, "memory");
+    }
+    all
+}
+
+/// Whether the nodes of a line of `VALUES` get its values.
+fn are_given(rt: &impl Handle, order: &Order, line: &str) -> bool {
+    let nodes = numbers(rt, field(line, 0));
+    let used = integers(rt, field(line, 1));
+    let wanted = integers(rt, field(line, 2));
     !order.absurd()
         && order
-            .solve(rt.alloc(), nodes, used)
-            .is_ok_and(|values| values.as_slice() == wanted)
+            .solve(rt.alloc(), nodes.as_slice(), &used)
+            .is_ok_and(|values| values.as_slice() == wanted.as_slice())
 }
 
 #[test]
 fn values_between_bounds(rt: HostRuntime) {
     let order = bounds(&rt);
-    for (nodes, used, wanted) in VALUES {
-        let given = are_given(&rt, &order, &nodes, &used, &wanted);
-        assert!(rt; given, "{nodes:?} with {used:?}");
+    for line in VALUES.lines() {
+        assert!(rt; are_given(&rt, &order, line), "{line}");
     }
 }
