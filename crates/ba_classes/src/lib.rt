@@ -13,5 +13,3 @@ mod image;
 pub mod laws;
 pub mod order;
 mod row;
-#[cfg(test)]
-mod tests;

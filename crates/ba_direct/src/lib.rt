@@ -6,5 +6,3 @@ pub mod laws;
 mod pairing;
 pub mod search;
 mod test;
-#[cfg(test)]
-mod tests;

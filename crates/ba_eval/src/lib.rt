@@ -76,6 +76,3 @@ fn in_order(mut found: Vec<Row>) -> List<Row>
     found.dedup();
     List::from_vec(found)
 }
-
-#[cfg(test)]
-mod tests;

@@ -12,7 +12,5 @@ pub mod policy;
 pub mod query;
 pub mod same;
 pub mod schema;
-#[cfg(test)]
-mod tests;
 pub mod text;
 pub mod value;

@@ -18,8 +18,6 @@ mod sink;
 mod std_sink;
 mod sure_files;
 mod sure_sink;
-#[cfg(test)]
-mod tests;
 
 pub use disk_files::DiskFiles;
 pub use files::{Files, ReadFail};

@@ -12,6 +12,3 @@ mod stop;
 pub use files::read_file;
 pub use sink::send;
 pub use stop::Stop;
-
-#[cfg(test)]
-mod tests;

@@ -22,8 +22,6 @@ mod pass;
 mod plays;
 mod rule;
 mod storied;
-#[cfg(test)]
-mod tests;
 mod turn;
 
 pub use held::Held;
