@@ -1,28 +1,38 @@
 -- The problem of a question: its parts, and that it fits where the question does.
-use Rattle.std.proofs.Common.{◌≡◌, ℕ, suc, ◌+◌, ◌<◌, ◌≤◌, List, [], ◌∷◌, ◌++◌, get_or, inl, inr, length, map, refl, take, ap, sym, ◌∙◌, subst, append_assoc, append-nil, arith}
+use borrow.Author.Tests.{eqb-true}
+use Rattle.std.proofs.Common.{◌≡◌, Bool, true, false, ◌&&◌, ℕ, suc, ◌+◌, ◌<◌, ◌≤◌, List, [], ◌∷◌, ◌++◌, get_or, inl, inr, length, map, refl, take, ap, sym, ◌∙◌, subst, append_assoc, append-nil, arith}
 use Rattle.std.proofs.lemmas.List.{map-append, take_all}
-use Rattle.std.proofs.lemmas.Option.{get_or_from_slice_get, slice_get_within}
+use Rattle.std.proofs.lemmas.Option.{get_or_from_slice_get, same_Some, slice_get_within}
 use Rattle.std.proofs.lemmas.List.FromFn.{get_or-range_with_len, length-range_with_len}
-use Rattle.std.proofs.lemmas.List.Elements.{All-append, All-cons, All-head, All-map, All-nil, All-tail, All-weaker}
+use Rattle.std.proofs.lemmas.List.Elements.{All-append, All-cons, All-contains, All-head, All-map, All-nil, All-tail, All-weaker}
+use Rattle.std.proofs.lemmas.List.Sums.{AllPass-from_list_all}
 use Rattle.std.proofs.lemmas.Grind.{flat_map-append}
-use Rattle.std.specs.List.{All, AllZip, flat_map, range_with_len, zip}
-use Rattle.std.specs.Prelude.{Some, slice_get}
-use Rattle.ba_model.specs.Conform.{IsOfKind}
-use Rattle.ba_model.specs.Fit.{AtomFits, kind_of_value, kinds_of}
+use Rattle.std.specs.List.{All, AllZip, flat_map, list_all, range_with_len, zip}
+use Rattle.std.specs.Prelude.{◌==◌, ◌≢◌, Option, Some, None, is_some, slice_get}
+use Rattle.ba_model.proofs.FitLemmas.{HasKind, has_value}
+use Rattle.ba_model.specs.Conform.{Conforms, IsOfKind}
+use Rattle.ba_model.specs.Fit.{AtomFits, ContextFits, PartFits, QueryFits, kind_of, kind_of_value, kinds_of}
+use Rattle.ba_model.specs.Meaning.{InAnswer, IsChoice, value_of}
+use Rattle.ba_model.specs.SchemaFaults.{columns_of, columns_or, columns_there, has_columns, link_columns_there, targets_there, widths_agree}
+use Rattle.ba_model.specs.declared.check_schema.SchemaFault.TheVariants.{UnknownTable, UnknownColumn, WidthDiffers}
 use Rattle.ba_model.specs.declared.policy.Context.{Context}
 use Rattle.ba_model.specs.declared.policy.Policy.{Policy}
 use Rattle.ba_model.specs.declared.query.Atom.{Atom}
+use Rattle.ba_model.specs.declared.query.Operand.{Operand}
 use Rattle.ba_model.specs.declared.query.Operand.TheVariants.{Val}
 use Rattle.ba_model.specs.declared.query.Query.{Query}
 use Rattle.ba_model.specs.declared.schema.Kind.{Kind}
 use Rattle.ba_model.specs.declared.schema.Kind.TheVariants.{Int as IntKind, Text as TextKind}
+use Rattle.ba_model.specs.declared.schema.Link.{Link}
 use Rattle.ba_model.specs.declared.schema.Schema.{Schema}
+use Rattle.ba_model.specs.declared.schema.Table.{Table}
+use Rattle.ba_model.specs.declared.value.RowSet.{RowSet}
 use Rattle.ba_model.specs.declared.value.Value.{Value}
 use Rattle.ba_model.specs.declared.value.Value.TheVariants.{Null, Int, Text}
 use Rattle.ba_comply.specs.declared.trace.TraceEntry.{TraceEntry}
 use Rattle.ba_kernel.proofs.ZipLemmas.{pair_at, pair_below, taken, zip_short}
-use Rattle.ba_kernel.specs.Asked.{MayBeOfKind, QuestionIsProblem, RecordFits}
-use Rattle.ba_kernel.specs.Courses.{EntryFits, RowOperandFits}
+use Rattle.ba_kernel.specs.Asked.{AnswersAreRecords, CheckedLinksFit, MayBeOfKind, QuestionIsProblem, RecordFits}
+use Rattle.ba_kernel.specs.Courses.{EntryFits, LinkFits, RowOperandFits}
 use Rattle.ba_kernel.specs.Problems.{entries_of, param_is, problem_of}
 use Rattle.ba_kernel.specs.declared.problem.Problem.{Problem}
 use Rattle.ba_kernel.specs.declared.problem.ProblemEntry.{ProblemEntry}
@@ -108,8 +118,8 @@ module _ (policy : Policy) (c : Context) (trace : List TraceEntry) (q : Query) w
   record_fits it h =
       let p = problem_of policy c trace q in
       All-map (EntryFits p) (entry_of it.query) it.rows
-      (All-weaker (AllZip MayBeOfKind (h.query).kinds) (λ row. EntryFits p (entry_of it.query row))
-      (λ row fits. record { query = h.query; within = h.within; row = row_fits p (h.query).kinds row fits }) it.rows h.rows)
+      (All-weaker (AllZip MayBeOfKind h.query.fits.kinds) (λ row. EntryFits p (entry_of it.query row))
+      (λ row fits. record { query = h.query; row = row_fits p h.query.fits.kinds row fits }) it.rows h.rows)
 
   records_fit : (some : List TraceEntry) → All (RecordFits policy) some → All (EntryFits (problem_of policy c trace q)) (flat_map entries_of some)
   records_fit [] h = All-nil (EntryFits (problem_of policy c trace q))
@@ -117,14 +127,95 @@ module _ (policy : Policy) (c : Context) (trace : List TraceEntry) (q : Query) w
       All-append (EntryFits (problem_of policy c trace q)) (entries_of it) (flat_map entries_of some) (record_fits it (All-head (RecordFits policy) it some h))
       (records_fit some (All-tail (RecordFits policy) it some h))
 
+-- ---- checked schemas
+
+and_both : (b d : Bool) → (b && d) ≡ true → (b ≡ true) × (d ≡ true)
+and_both true d e = (refl, e)
+and_both false d e = cc
+
+some_of : {X : Type 0} (o : Option X) → is_some o ≡ true → (x : X) × (o ≡ Some x)
+some_of None e = cc
+some_of (Some x) e = (x, refl)
+
+not_none : {X : Type 0} (o : Option X) → is_some o ≡ true → o ≢ None
+not_none None e same = cc
+not_none (Some x) e same = cc
+
+link_fits : (s : Schema) (t : Table) (link : Link) → is_some (slice_get s.tables link.target) ≡ true → link_columns_there s.tables t link ≡ true →
+    (length link.columns == length link.target_columns) ≡ true → LinkFits s link
+link_fits s t link there columns wide =
+    let target = some_of (slice_get s.tables link.target) there in
+    let both = and_both (has_columns t.columns link.columns) (has_columns (columns_of s.tables link.target) link.target_columns) columns in
+    let own : has_columns (target.0).columns link.target_columns ≡ true =
+    subst (λ (o : Option Table). has_columns (columns_or o) link.target_columns ≡ true) target.1 both.1 in
+    let each = AllPass-from_list_all (λ n. is_some (slice_get (target.0).columns n)) link.target_columns own in
+    record {
+      target = target.0;
+      target_is = target.1;
+      columns = All-weaker (λ n. is_some (slice_get (target.0).columns n) ≡ true) (λ n. slice_get (target.0).columns n ≢ None)
+          (λ n. not_none (slice_get (target.0).columns n)) link.target_columns each;
+      wide = eqb-true (length link.columns) (length link.target_columns) wide;
+    }
+
+table_links : (s : Schema) (t : Table) → targets_there s.tables t ≡ true → columns_there s.tables t ≡ true → widths_agree t ≡ true → All (LinkFits s) t.links
+table_links s t targets columns widths =
+    let both = and_both (list_all (has_columns t.columns) t.keys) (list_all (link_columns_there s.tables t) t.links) columns in
+    λ k link below.
+    link_fits s t (get_or t.links k link) (AllPass-from_list_all (λ link. is_some (slice_get s.tables link.target)) t.links targets k link below)
+    (AllPass-from_list_all (link_columns_there s.tables t) t.links both.1 k link below)
+    (AllPass-from_list_all (λ link. length link.columns == length link.target_columns) t.links widths k link below)
+
+pub checked_links_fit : CheckedLinksFit
+checked_links_fit s are =
+    λ k table below.
+    table_links s (get_or s.tables k table) (AllPass-from_list_all (targets_there s.tables) s.tables (are.lacks UnknownTable) k table below)
+    (AllPass-from_list_all (columns_there s.tables) s.tables (are.lacks UnknownColumn) k table below)
+    (AllPass-from_list_all widths_agree s.tables (are.lacks WidthDiffers) k table below)
+
+-- ---- recorded rows
+
+module _ (s : Schema) (params : List Kind) (c : Context) (d : RowSet) (conforms : Conforms s d) (context : ContextFits params c) where
+  value_may : (kind : Kind) (v : Value) → HasKind kind v → MayBeOfKind kind v
+  value_may kind v (inl none) = inr none
+  value_may kind v (inr of) = inl of
+
+  head_kinds : (from : List ℕ) (rows : List (List Value)) → IsChoice d from rows → (head : List Operand) (kinds : List Kind) (r : List Value) →
+      map (kind_of s params [] from) head ≡ map Some kinds → map (value_of c rows) head ≡ map Some r → AllZip MayBeOfKind kinds r
+  head_kinds from rows chosen [] [] [] p q = tt
+  head_kinds from rows chosen [] [] (v ∷ r) p q = cc
+  head_kinds from rows chosen [] (kind ∷ kinds) r p q = cc
+  head_kinds from rows chosen (x ∷ head) [] r p q = cc
+  head_kinds from rows chosen (x ∷ head) (kind ∷ kinds) [] p q = cc
+  head_kinds from rows chosen (x ∷ head) (kind ∷ kinds) (v ∷ r) p q =
+      let kind_is : kind_of s params [] from x ≡ Some kind = cc in
+      let value_is : value_of c rows x ≡ Some v = cc in
+      let kinds_are : map (kind_of s params [] from) head ≡ map Some kinds = cc in
+      let values_are : map (value_of c rows) head ≡ map Some r = cc in
+      let found = has_value s params c d from rows conforms context chosen x kind kind_is in
+      let same : found.0 ≡ v = same_Some found.0 v (sym found.1 ∙ value_is) in
+      (value_may kind v (subst (HasKind kind) same found.2), head_kinds from rows chosen head kinds r kinds_are values_are)
+
+  answer_kinds : (q : Query) (fits : QueryFits s params [] q) (r : List Value) → InAnswer q c d r → AllZip MayBeOfKind fits.kinds r
+  answer_kinds q fits r (part, of, (rows, chosen, gives)) =
+      let own = All-contains (PartFits s params [] fits.kinds) q.parts part fits.parts of in
+      head_kinds part.from rows chosen part.head fits.kinds r own.head gives.head
+
+pub answers_are_records : AnswersAreRecords
+answers_are_records policy c d it query conforms context answers =
+    record {
+      query = query;
+      rows = All-weaker (InAnswer it.query c d) (AllZip MayBeOfKind query.fits.kinds)
+          (answer_kinds policy.schema (kinds_of policy.params) c d conforms context it.query query.fits) it.rows answers;
+    }
+
+-- ---- questions
+
 pub question_is_problem : QuestionIsProblem
 question_is_problem policy c trace q h =
     record {
-      links = h.links;
+      links = checked_links_fit policy.schema h.tables;
       rules = h.rules;
-      policy = h.views;
-      views_within = h.views_within;
-      goal_within = h.within;
+      views = h.views;
       goal = h.asked;
       entries = records_fit policy c trace q trace h.trace_fits;
       assumed = params_fit policy.schema (kinds_of policy.params) (kinds_of policy.params) c.values 0

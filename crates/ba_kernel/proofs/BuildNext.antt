@@ -5,7 +5,7 @@ use Rattle.std.proofs.lemmas.List.Elements.{All-cons, All-nil, All-weaker}
 use Rattle.std.proofs.lemmas.Option.{same_Some}
 use Rattle.std.specs.List.{All, AllZip}
 use Rattle.std.specs.Prelude.{Option, Some, slice_get}
-use Rattle.ba_model.specs.Fit.{PartFits, QueryFits, kind_of, kinds_of}
+use Rattle.ba_model.specs.Fit.{IsQuery, PartFits, QueryFits, kind_of, kinds_of}
 use Rattle.ba_model.specs.declared.policy.View.{View}
 use Rattle.ba_model.specs.declared.query.Operand.{Operand}
 use Rattle.ba_model.specs.declared.query.Operand.TheVariants.{Col, Val, Param, Var}
@@ -105,12 +105,12 @@ module _ (p : Problem) (entry : ℕ) (it : ProblemEntry) (fits : ProblemFits p) 
   fixed_terms (kind ∷ kinds) (x ∷ row) h = All-cons (HasTerm []) x row (fixed_term kind x h.0) (fixed_terms kinds row h.1)
 
   pub entry_terms : All (HasTerm []) it.row
-  entry_terms = fixed_terms (entry_fits.query).kinds it.row entry_fits.row
+  entry_terms = fixed_terms entry_fits.query.fits.kinds it.row entry_fits.row
 
   pub entry_parts : (row : List Term) → map (term_of []) it.row ≡ map Some row → All (IsPartFor p.policy.schema (length row)) it.query.parts
   entry_parts row e =
-      parts_for p.policy.schema (kinds_of p.policy.params) p.vars it.query entry_fits.query (length row)
-      (zip_length (RowOperandFits p) (entry_fits.query).kinds it.row entry_fits.row ∙ same_count (term_of []) it.row row e)
+      parts_for p.policy.schema (kinds_of p.policy.params) p.vars it.query entry_fits.query.fits (length row)
+      (zip_length (RowOperandFits p) entry_fits.query.fits.kinds it.row entry_fits.row ∙ same_count (term_of []) it.row row e)
 
   pub entry_leads : (b : Branch) (operands : List Operand) (items row : List Term) (round : ℕ) (parts : List Part) (cases : List Branch) → operands ≡ it.row →
       row_of b [] operands ≡ map Some items → row ≡ items → IsEntryRound p operands round → parts ≡ it.query.parts →
@@ -155,7 +155,8 @@ module _ (p : Problem) (b : Branch) (fits : ProblemFits p) (tidy : IsTidy p b) w
   module _ (view part : ℕ) (facts : List ℕ) (it : View) (of : Part) (at_view : slice_get p.policy.views view ≡ Some it) (at_part : slice_get it.query.parts part ≡ Some of)
       (passes : ViewPasses p b view part facts) where
     view_fits : QueryFits p.policy.schema (kinds_of p.policy.params) [] it.query
-    view_fits = All-at (λ (v : View). QueryFits p.policy.schema (kinds_of p.policy.params) [] v.query) p.policy.views view it fits.policy at_view
+    view_fits =
+        (All-at (λ (v : View). IsQuery p.policy.schema (kinds_of p.policy.params) [] v.query) p.policy.views view it fits.views at_view).fits
 
     part_fits : PartFits p.policy.schema (kinds_of p.policy.params) [] view_fits.kinds of
     part_fits = All-at (PartFits p.policy.schema (kinds_of p.policy.params) [] view_fits.kinds) it.query.parts part of view_fits.parts at_part

@@ -23,9 +23,9 @@ use Rattle.ba_facts.specs.declared.term.Term.{Term}
 pub part_of_goal : (p : Problem) (parts : List Part) (fits : ProblemFits p) (i : ℕ) (part : Part) → parts ≡ p.goal.parts → i < length parts → part ≡ get_or parts i part →
     IsPartOf p part
 part_of_goal p parts fits i part same below at =
-    let kinds = (fits.goal).kinds in
+    let kinds = fits.goal.fits.kinds in
     let all : All (PartFits p.policy.schema (kinds_of p.policy.params) p.vars kinds) parts =
-    subst (All (PartFits p.policy.schema (kinds_of p.policy.params) p.vars kinds)) (sym same) (fits.goal).parts in
+    subst (All (PartFits p.policy.schema (kinds_of p.policy.params) p.vars kinds)) (sym same) fits.goal.fits.parts in
     record { kinds = kinds; fits = subst (PartFits p.policy.schema (kinds_of p.policy.params) p.vars kinds) (sym at) (all i part below) }
 
 pub part_for : (p : Problem) (part : Part) → IsPartOf p part → IsPartFor p.policy.schema (length part.head) part

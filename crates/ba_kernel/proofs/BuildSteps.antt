@@ -55,8 +55,8 @@ module _ (p : Problem) (b : Branch) (fits : ProblemFits p) (tidy : IsTidy p b) (
   rule_fits : RuleFits p.policy.schema it
   rule_fits = All-at (RuleFits p.policy.schema) p.policy.schema.rules rule it fits.rules at_rule
 
-  left_fits : PartFits p.policy.schema [] [] (rule_fits.left).kinds left
-  left_fits = All-at (PartFits p.policy.schema [] [] (rule_fits.left).kinds) it.left.parts part left (rule_fits.left).parts at_part
+  left_fits : PartFits p.policy.schema [] [] rule_fits.left.fits.kinds left
+  left_fits = All-at (PartFits p.policy.schema [] [] rule_fits.left.fits.kinds) it.left.parts part left rule_fits.left.fits.parts at_part
 
   same_rule : passes.is_part.of ≡ it
   same_rule = same_Some passes.is_part.of it (sym passes.is_part.rule_is ∙ at_rule)
@@ -74,12 +74,12 @@ module _ (p : Problem) (b : Branch) (fits : ProblemFits p) (tidy : IsTidy p b) (
   rule_first = slice_get_within b.facts (get_or facts 0 0) (first_fact.1).fact (first_fact.1).there
 
   pub rule_terms : All (HasTerm (rows_at b facts)) left.head
-  rule_terms = mapped_terms p.policy.schema [] [] (rule_fits.left).kinds b passes.side left facts left_fits tidy.facts rule_pass.mapping
+  rule_terms = mapped_terms p.policy.schema [] [] rule_fits.left.fits.kinds b passes.side left facts left_fits tidy.facts rule_pass.mapping
 
   pub rule_parts : All (IsPartFor p.policy.schema (length left.head)) it.right.parts
   rule_parts =
-      parts_for p.policy.schema [] [] it.right rule_fits.right (length left.head)
-      (ap length rule_fits.kinds ∙ sym (same_count (kind_of p.policy.schema [] [] left.from) left.head (rule_fits.left).kinds left_fits.head))
+      parts_for p.policy.schema [] [] it.right rule_fits.right.fits (length left.head)
+      (ap length rule_fits.kinds ∙ sym (same_count (kind_of p.policy.schema [] [] left.from) left.head rule_fits.left.fits.kinds left_fits.head))
 
   pub rule_leads : (first : Fact) (parts : List Part) (cases : List Branch) → slice_get b.facts (get_or facts 0 0) ≡ Some first → parts ≡ it.right.parts →
       AreNext p.policy.schema b first.side left facts parts cases → RuleLeads p b rule part facts cases

@@ -50,10 +50,10 @@ pub goal_has_no_fit : YieldsIsTrue → SameIsTrue → (p : Problem) (i : Instanc
 goal_has_no_fit yields_true same p i trace d e r values b part facts cases problem instance breaks fit leads =
     let s = p.policy.schema in
     let there = Contains-at p.goal.parts part leads.of leads.part_is in
-    let fits = All-at (PartFits s (kinds_of p.policy.params) p.vars problem.goal.kinds) p.goal.parts part leads.of problem.goal.parts leads.part_is in
+    let fits = All-at (PartFits s (kinds_of p.policy.params) p.vars problem.goal.fits.kinds) p.goal.parts part leads.of problem.goal.fits.parts leads.part_is in
     let row = same_heads b.known (row_of b facts leads.of.head) b.goal leads.head in
     let yields : Yields b Two leads.of facts row.0 = record { mapping = leads.mapping; shown = leads.shown; head = row.1 } in
-    let given = yields_true p i b Two problem.goal.kinds leads.of facts row.0 d e r values instance fit fits yields in
+    let given = yields_true p i b Two problem.goal.fits.kinds leads.of facts row.0 d e r values instance fit fits yields in
     let is : given.0 ≡ r = one_image given.0 r (sym given.1 ∙ (same_values same s b i d e r values fit row.0 b.goal row.2 ∙ fit.goal)) in
     let answer : InAnswer (query_at i.vars p.goal) i.context e r =
     (part_at i.vars leads.of, Contains-map (part_at i.vars) p.goal.parts leads.of there, subst (InPart i.context e (part_at i.vars leads.of)) is given.2) in

@@ -13,6 +13,7 @@ pub mod SplitLemmas
 pub mod GoalLemmas
 pub mod StepLemmas
 pub mod PassLemmas
+pub mod NumberLemmas
 pub mod SearchLemmas
 pub mod BuildCases
 pub mod BuildLemmas
@@ -27,3 +28,7 @@ pub mod AskedLemmas
 pub mod ZipLemmas
 pub mod NewLemmas
 pub mod LeastLemmas
+pub mod OneCase
+pub mod OneFault
+pub mod OneEnd
+pub mod ReplayLemmas

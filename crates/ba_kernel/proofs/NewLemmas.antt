@@ -64,7 +64,7 @@ given_as b side facts xs ys ps qs row_is parts_are h =
     subst (λ them. IsGiven b side (row_of b facts ys) them) parts_are (subst (λ row. IsGiven b side (row_of b facts row) ps) row_is h)
 
 -- facts of a part with a table are of one side
-side_is : (b : Branch) (from facts : List ℕ) (s t : Side) → from ≢ [] → IsMapping b s from facts → IsMapping b t from facts → s ≡ t
+pub side_is : (b : Branch) (from facts : List ℕ) (s t : Side) → from ≢ [] → IsMapping b s from facts → IsMapping b t from facts → s ≡ t
 side_is b [] facts s t some left right = absurd (some refl)
 side_is b (table ∷ from) [] s t some left right = absurd left
 side_is b (table ∷ from) (fact ∷ facts) s t some left right =
@@ -77,8 +77,8 @@ pub rule_some : (p : Problem) → ProblemFits p → (rule part : ℕ) (it : Rule
     slice_get it.left.parts part ≡ Some left → left.from ≢ []
 rule_some p fits rule part it left rule_is part_is =
     let of : RuleFits p.policy.schema it = all_at (RuleFits p.policy.schema) p.policy.schema.rules rule it fits.rules rule_is in
-    let own : PartFits p.policy.schema [] [] of.left.kinds left =
-    all_at (PartFits p.policy.schema [] [] of.left.kinds) it.left.parts part left of.left.parts part_is in
+    let own : PartFits p.policy.schema [] [] of.left.fits.kinds left =
+    all_at (PartFits p.policy.schema [] [] of.left.fits.kinds) it.left.parts part left of.left.fits.parts part_is in
     own.some_table
 
 told_as : {A B : Type 0} (r : Bool) → (IsTrue r ↔ A) → (A → B) → (B → A) → IsTrue r ↔ B

@@ -1,9 +1,10 @@
 -- What a search keeps when the cases of a step are put in a branch's place.
-use Rattle.std.proofs.Common.{◌≡◌, ℕ, zero, suc, ◌≤◌, ◌<◌, List, [], ◌∷◌, ◌++◌, length, refl, ap, sym, ◌∙◌, subst, arith}
+use Rattle.std.proofs.Common.{◌≡◌, ℕ, zero, suc, ◌+◌, ◌*◌, ◌≤◌, ◌<◌, List, [], ◌∷◌, ◌++◌, length, refl, ap, sym, ◌∙◌, subst, arith}
 use Rattle.std.proofs.lemmas.List.{append-nil, length-append}
 use Rattle.std.proofs.lemmas.Option.{slice_get-get_or, slice_get_within}
 use Rattle.std.specs.Prelude.{OnOk, OnErr, Option, Some, None, Result, Ok, Err, get_or, slice_get, slice_set, take}
 use Rattle.ba_facts.specs.declared.branch.Branch.{Branch}
+use Rattle.ba_kernel.proofs.NumberLemmas.{after_few, leads_few, start_few}
 use Rattle.ba_kernel.specs.Courses.{IsOpen, IsStart, ProblemFits, Runs, Slots, Takes, after, branch_of, next, start}
 use Rattle.ba_kernel.specs.Effects.{Leads}
 use Rattle.ba_kernel.specs.Tests.{Course, IsCourse, IsTidy, LeadsAt, RunsAreTidy, first_case, open_at, other_cases}
@@ -54,8 +55,12 @@ plain_course p taken then slots left step cases course then_is left_is few h =
     let l = led p slots (branch_of step) step cases h in
     let takes : Takes p slots step left = record { branch = l.branch; open_ = l.open_; cases = cases; leads = l.leads; new_is = left_is } in
     let runs : Runs p (taken ++ step ∷ []) left = next course.runs takes in
-    let long : length then ≤ 100000 = omega (arith, ap length then_is, length-append taken (step ∷ []), few) in
-    record { fits = course.fits; few = long; runs = subst (λ l. Runs p l left) (sym then_is) runs }
+    let count = ap length then_is ∙ length-append taken (step ∷ []) in
+    let long : length then ≤ 100000 = omega (arith, count, few) in
+    let made = leads_few p course.fits l.branch step cases l.leads in
+    let more = after_few slots (branch_of step) cases in
+    let numbers : length left ≤ 32 * (1 + length then) = omega (arith, count, made, more, ap length left_is, course.numbers) in
+    record { fits = course.fits; few = long; numbers = numbers; runs = subst (λ l. Runs p l left) (sym then_is) runs }
 
 pub put_course : (k : Course) (p : Problem) (taken then : List Step) (slots left : Slots) (step : Step) (cases : List Branch) →
     record { problem = p; steps = taken; slots = slots } ≡ k → IsCourse (record { problem = p; steps = taken; slots = slots }) →
@@ -108,7 +113,10 @@ tidy_open k p taken slots n b view tidy course =
 -- ---- the start, what is put back, and the end
 
 first_course : (p : Problem) (slots : Slots) → ProblemFits p → IsStart p slots → IsCourse (record { problem = p; steps = []; slots = slots })
-first_course p slots fits is_start = record { fits = fits; few = omega (arith); runs = start is_start }
+first_course p slots fits is_start =
+    let started = start_few p fits slots is_start in
+    let numbers : length slots ≤ 32 * (1 + 0) = omega (arith, started) in
+    record { fits = fits; few = omega (arith); numbers = numbers; runs = start is_start }
 
 pub start_course : (p : Problem) (taken : List Step) (slots : Slots) → ProblemFits p → taken ≡ [] → IsStart p slots → IsCourse (record { problem = p; steps = taken; slots = slots })
 start_course p taken slots fits none is_start = subst (λ l. IsCourse (record { problem = p; steps = l; slots = slots })) (sym none) (first_course p slots fits is_start)

@@ -4,7 +4,7 @@ use Rattle.std.proofs.lemmas.List.Elements.{All-contains}
 use Rattle.std.specs.List.{All, AllZip, Contains}
 use Rattle.std.specs.Prelude.{Some, option_and_then}
 use Rattle.ba_model.specs.Conform.{RuleHolds, no_context}
-use Rattle.ba_model.specs.Fit.{PartFits, QueryFits, kinds_of}
+use Rattle.ba_model.specs.Fit.{IsQuery, PartFits, kinds_of}
 use Rattle.ba_model.specs.Meaning.{InAnswer, InPart}
 use Rattle.ba_model.specs.declared.query.Operand.{Operand}
 use Rattle.ba_model.specs.declared.query.Part.{Part}
@@ -95,7 +95,7 @@ module _ (keeps : CaseKeepsFit) (p : Problem) (i : Instance) (trace : List Trace
       let s = p.policy.schema in
       let params = kinds_of p.policy.params in
       let parts = leads.it.query.parts in
-      let query = All-at (λ view. QueryFits s params [] view.query) p.policy.views view leads.it problem.policy leads.view_is in
+      let query = (All-at (λ view. IsQuery s params [] view.query) p.policy.views view leads.it problem.views leads.view_is).fits in
       let fits = All-at (PartFits s params [] query.kinds) parts part leads.of query.parts leads.part_is in
       let given = yields_true p i b One query.kinds leads.of facts leads.row d e r values instance fit
       (part_stays s params [] params p.vars (extends_itself params) (extends_nothing p.vars) query.kinds leads.of fits) leads.yields in
@@ -117,19 +117,19 @@ module _ (keeps : CaseKeepsFit) (p : Problem) (i : Instance) (trace : List Trace
       let side = database_of d e leads.side in
       let left = leads.left in
       let it = All-at (RuleFits s) s.rules rule leads.it problem.rules leads.rule_is in
-      let fits = All-at (PartFits s [] [] it.left.kinds) leads.it.left.parts part left it.left.parts leads.part_is in
-      let given = yields_true p i b leads.side it.left.kinds left facts leads.row d e r values instance fit
-      (part_stays s [] [] params p.vars (extends_nothing params) (extends_nothing p.vars) it.left.kinds left fits) leads.yields in
-      let here : InPart i.context side left given.0 = to_plain s [] i.vars it.left.kinds left fits i.context side given.0 given.2 in
+      let fits = All-at (PartFits s [] [] it.left.fits.kinds) leads.it.left.parts part left it.left.fits.parts leads.part_is in
+      let given = yields_true p i b leads.side it.left.fits.kinds left facts leads.row d e r values instance fit
+      (part_stays s [] [] params p.vars (extends_nothing params) (extends_nothing p.vars) it.left.fits.kinds left fits) leads.yields in
+      let here : InPart i.context side left given.0 = to_plain s [] i.vars it.left.fits.kinds left fits i.context side given.0 given.2 in
       let answer : InAnswer leads.it.left no_context side given.0 =
-      (left, Contains-at leads.it.left.parts part left leads.part_is, part_fixed s i.context no_context side it.left.kinds left given.0 fits here) in
+      (left, Contains-at leads.it.left.parts part left leads.part_is, part_fixed s i.context no_context side it.left.fits.kinds left given.0 fits here) in
       let conforms = side_conforms s d e leads.side fit.one fit.two in
       let found = All-at (RuleHolds side) s.rules rule leads.it conforms.rules leads.rule_is given.0 answer in
-      let found_fits = All-contains (PartFits s [] [] it.right.kinds) leads.it.right.parts found.0 it.right.parts found.1 in
+      let found_fits = All-contains (PartFits s [] [] it.right.fits.kinds) leads.it.right.parts found.0 it.right.fits.parts found.1 in
       cases_fit keeps p i b leads.side (1 + round_of b facts) leads.row leads.it.right.parts found.0 cases d e r values given.0 instance fit given.1
       leads.cases_are found.1
-      (from_plain s [] i.vars it.right.kinds found.0 found_fits i.context side given.0
-      (part_fixed s no_context i.context side it.right.kinds found.0 given.0 found_fits found.2))
+      (from_plain s [] i.vars it.right.fits.kinds found.0 found_fits i.context side given.0
+      (part_fixed s no_context i.context side it.right.fits.kinds found.0 given.0 found_fits found.2))
 
 -- ---- all steps
 

@@ -32,7 +32,7 @@ no_first P xs n all first =
 some_inj : {X : Type 0} (o : Option X) (x y : X) → o ≡ Some x → o ≡ Some y → x ≡ y
 some_inj o x y left right = cc
 
-key_is : (p : Problem) (f g : Fact) (key : ℕ) (xs ys : List ℕ) → f ≡ g →
+pub key_is : (p : Problem) (f g : Fact) (key : ℕ) (xs ys : List ℕ) → f ≡ g →
     IsKeyOf p.policy.schema f key xs → IsKeyOf p.policy.schema g key ys → xs ≡ ys
 key_is p f g key xs ys same left right =
     let tables : slice_get p.policy.schema.tables f.table ≡ Some right.table = ap (λ it. slice_get p.policy.schema.tables it.table) same ∙ right.table_is in
@@ -71,12 +71,12 @@ link_not_both p b link fact _ pass (LinkRefuses.hidden {f} {it} {n} there of fir
     let own : All (IsNotNullAt b f.terms) pass.it.columns = subst (λ g. All (IsNotNullAt b g.terms) pass.it.columns) one pass.not_null in
     no_first (IsNotNullAt b f.terms) it.columns n (subst (λ g. All (IsNotNullAt b f.terms) g.columns) same own) first
 
-rule_part_is : (p : Problem) (rule part : ℕ) (x y : Part) → IsRulePart p rule part x → IsRulePart p rule part y → x ≡ y
+pub rule_part_is : (p : Problem) (rule part : ℕ) (x y : Part) → IsRulePart p rule part x → IsRulePart p rule part y → x ≡ y
 rule_part_is p rule part x y left right =
     let of : left.of ≡ right.of = some_inj _ _ _ left.rule_is right.rule_is in
     some_inj _ _ _ left.part_is (ap (λ it. slice_get it.left.parts part) of ∙ right.part_is)
 
-view_part_is : (p : Problem) (view part : ℕ) (x y : Part) → IsViewPart p view part x → IsViewPart p view part y → x ≡ y
+pub view_part_is : (p : Problem) (view part : ℕ) (x y : Part) → IsViewPart p view part x → IsViewPart p view part y → x ≡ y
 view_part_is p view part x y left right =
     let of : left.of ≡ right.of = some_inj _ _ _ left.view_is right.view_is in
     some_inj _ _ _ left.part_is (ap (λ it. slice_get it.query.parts part) of ∙ right.part_is)

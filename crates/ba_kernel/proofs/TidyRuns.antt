@@ -5,7 +5,7 @@ use Rattle.std.proofs.lemmas.List.FromFn.{length-range_with_len}
 use Rattle.std.proofs.lemmas.List.Elements.{All-append, All-cons, All-head, All-map, All-nil, All-push, All-set, All-tail, All-weaker}
 use Rattle.std.specs.List.{All, AllZip, range_with_len}
 use Rattle.std.specs.Prelude.{Option, Some, None, ◌≢◌, slice_get}
-use Rattle.ba_model.specs.Fit.{PartFits, QueryFits, kind_of, kinds_of}
+use Rattle.ba_model.specs.Fit.{IsQuery, PartFits, QueryFits, kind_of, kinds_of}
 use Rattle.ba_model.specs.SchemaFaults.{columns_of, columns_or}
 use Rattle.ba_model.specs.declared.policy.View.{View}
 use Rattle.ba_model.specs.declared.query.Part.{Part}
@@ -162,7 +162,7 @@ module _ (p : Problem) where
     leads_tidy : (b : Branch) (step : Step) (cases : List Branch) → IsTidy p b → Leads p b step cases → All (IsTidy p) cases
     leads_tidy b (steps.Entry branch entry) cases h leads =
         let it = All-at (EntryFits p) p.entries entry leads.it fits.entries leads.there in
-        cases_tidy One leads.round b leads.row leads.it.query.parts cases (tables_of (kinds_of p.policy.params) p.vars leads.it.query it.query) h leads.cases_are
+        cases_tidy One leads.round b leads.row leads.it.query.parts cases (tables_of (kinds_of p.policy.params) p.vars leads.it.query it.query.fits) h leads.cases_are
     leads_tidy b (steps.Key branch key left right) cases h leads = one_tidy (with_lessons b _) cases leads.cases_are (lessons_tidy b _ h)
     leads_tidy b (steps.Link branch link fact) cases h leads =
         let target = fact_tidy leads.f.side (1 + leads.f.round) b leads.it.target (target_is_table b link fact cases leads) h in
@@ -170,10 +170,10 @@ module _ (p : Problem) where
         (lessons_tidy (with_fact s leads.f.side (1 + leads.f.round) b leads.it.target) leads.lessons target)
     leads_tidy b (steps.Rule branch rule part facts) cases h leads =
         let it = All-at (RuleFits s) s.rules rule leads.it fits.rules leads.rule_is in
-        cases_tidy leads.side (1 + round_of b facts) b leads.row leads.it.right.parts cases (tables_of [] [] leads.it.right it.right) h leads.cases_are
+        cases_tidy leads.side (1 + round_of b facts) b leads.row leads.it.right.parts cases (tables_of [] [] leads.it.right it.right.fits) h leads.cases_are
     leads_tidy b (steps.View branch view part facts) cases h leads =
-        let it = All-at (λ (v : View). QueryFits s (kinds_of p.policy.params) [] v.query) p.policy.views view leads.it fits.policy leads.view_is in
-        cases_tidy Two (1 + round_of b facts) b leads.row leads.it.query.parts cases (tables_of (kinds_of p.policy.params) [] leads.it.query it) h leads.cases_are
+        let it = All-at (λ (v : View). IsQuery s (kinds_of p.policy.params) [] v.query) p.policy.views view leads.it fits.views leads.view_is in
+        cases_tidy Two (1 + round_of b facts) b leads.row leads.it.query.parts cases (tables_of (kinds_of p.policy.params) [] leads.it.query it.fits) h leads.cases_are
     leads_tidy b (steps.Split branch atom) cases h leads =
         subst (All (IsTidy p)) (sym leads.cases_are)
         (All-cons (IsTidy p) (with_lessons b _) (with_lessons b _ ∷ []) (lessons_tidy b _ h) (All-cons (IsTidy p) (with_lessons b _) [] (lessons_tidy b _ h) (All-nil (IsTidy p))))
@@ -182,35 +182,35 @@ module _ (p : Problem) where
 
     -- ---- starts
 
-    start_tidy : (part : Part) (new : Branch) → PartFits s (kinds_of p.policy.params) p.vars (fits.goal).kinds part → IsStartOf p part new → IsTidy p new
+    start_tidy : (part : Part) (new : Branch) → PartFits s (kinds_of p.policy.params) p.vars fits.goal.fits.kinds part → IsStartOf p part new → IsTidy p new
     start_tidy part new of h =
         let rows = with_facts s One 0 (nothing_known p) part.from in
         let learned = with_lessons rows (h.atoms ++ h.assumed) in
         let there = facts_there s One 0 part.from (nothing_known p) (nothing_there p) in
         let goal_there = row_there rows (range_with_len 0 (length part.from)) part.head h.goal there h.goal_is in
-        let kinds_wide = same_count (kind_of s (kinds_of p.policy.params) p.vars part.from) part.head (fits.goal).kinds of.head in
+        let kinds_wide = same_count (kind_of s (kinds_of p.policy.params) p.vars part.from) part.head fits.goal.fits.kinds of.head in
         let wide = same_count (term_of (rows_at rows (range_with_len 0 (length part.from)))) part.head h.goal h.goal_is in
         let it : IsTidy p (record learned { goal = h.goal }) =
         record {
           facts = All-weaker (FactIsTidy s rows.known) (FactIsTidy s learned.known) (fact_stays_tidy s rows.known learned.known (omega arith)) rows.facts
               (all_facts One 0 part.from (nothing_known p) of.tables (All-nil (FactIsTidy s (nothing_known p).known)));
           goal = row_there_more rows.known learned.known (omega arith) h.goal goal_there;
-          goal_wide = All-weaker (PartFits s (kinds_of p.policy.params) p.vars (fits.goal).kinds) (λ (other : Part). length other.head ≡ length h.goal)
-              (λ other fit. same_count (kind_of s (kinds_of p.policy.params) p.vars other.from) other.head (fits.goal).kinds fit.head ∙ (sym kinds_wide ∙ wide))
-              p.goal.parts (fits.goal).parts;
+          goal_wide = All-weaker (PartFits s (kinds_of p.policy.params) p.vars fits.goal.fits.kinds) (λ (other : Part). length other.head ≡ length h.goal)
+              (λ other fit. same_count (kind_of s (kinds_of p.policy.params) p.vars other.from) other.head fits.goal.fits.kinds fit.head ∙ (sym kinds_wide ∙ wide))
+              p.goal.parts fits.goal.fits.parts;
           params = same_params One 0 part.from (nothing_known p);
           vars = same_vars One 0 part.from (nothing_known p);
         } in
         subst (IsTidy p) (sym h.new_is) it
 
-    starts_tidy : (parts : List Part) (branches : List Branch) → All (PartFits s (kinds_of p.policy.params) p.vars (fits.goal).kinds) parts →
+    starts_tidy : (parts : List Part) (branches : List Branch) → All (PartFits s (kinds_of p.policy.params) p.vars fits.goal.fits.kinds) parts →
         AllZip (IsStartOf p) parts branches → All (IsTidy p) branches
     starts_tidy [] [] of h = All-nil (IsTidy p)
     starts_tidy [] (b ∷ branches) of h = absurd h
     starts_tidy (part ∷ parts) [] of h = absurd h
     starts_tidy (part ∷ parts) (b ∷ branches) of h =
-        All-cons (IsTidy p) b branches (start_tidy part b (All-head (PartFits s (kinds_of p.policy.params) p.vars (fits.goal).kinds) part parts of) h.0)
-        (starts_tidy parts branches (All-tail (PartFits s (kinds_of p.policy.params) p.vars (fits.goal).kinds) part parts of) h.1)
+        All-cons (IsTidy p) b branches (start_tidy part b (All-head (PartFits s (kinds_of p.policy.params) p.vars fits.goal.fits.kinds) part parts of) h.0)
+        (starts_tidy parts branches (All-tail (PartFits s (kinds_of p.policy.params) p.vars fits.goal.fits.kinds) part parts of) h.1)
 
     -- ---- courses
 
@@ -226,7 +226,7 @@ module _ (p : Problem) where
 
     runs_tidy : {taken : List Step} {slots : Slots} → Runs p taken slots → All SlotIsTidy slots
     runs_tidy (start {slots = slots} h) =
-        subst (All SlotIsTidy) (sym h.slots_are) (All-map SlotIsTidy Some h.branches (starts_tidy p.goal.parts h.branches (fits.goal).parts h.starts))
+        subst (All SlotIsTidy) (sym h.slots_are) (All-map SlotIsTidy Some h.branches (starts_tidy p.goal.parts h.branches fits.goal.fits.parts h.starts))
     runs_tidy (next {step = step} {old = old} {new = new} runs takes) =
         let before = runs_tidy runs in
         let tidy = All-at SlotIsTidy old (branch_of step) (Some takes.branch) before takes.open_ in

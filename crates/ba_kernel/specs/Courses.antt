@@ -1,11 +1,11 @@
 -- The course of a search: its branches from the start, step by step, and that what breaks compliance fits one of them.
 use Rattle.std.specs.Prelude.{◌≡◌, ◌≢◌, ℕ, ◌⊎◌, List, [], ◌∷◌, ◌++◌, All, map, length, Option, Some, None, slice_get, slice_set}
 use Rattle.std.specs.List.{AllZip, range_with_len}
-use Rattle.ba_model.specs.Fit.{AtomFits, PartWithin, PolicyFits, QueryFits, kind_of, kinds_of}
+use Rattle.ba_model.specs.Fit.{AtomFits, IsQuery, kind_of, kinds_of}
 use Rattle.ba_model.specs.declared.query.Operand.{Operand}
 use Rattle.ba_model.specs.declared.query.Operand.TheVariants.{Val}
+use Rattle.ba_model.specs.declared.policy.Policy.{Policy}
 use Rattle.ba_model.specs.declared.query.Part.{Part}
-use Rattle.ba_model.specs.declared.query.Query.{Query}
 use Rattle.ba_model.specs.declared.schema.Kind.{Kind}
 use Rattle.ba_model.specs.declared.schema.Link.{Link}
 use Rattle.ba_model.specs.declared.schema.Rule.{Rule}
@@ -104,23 +104,16 @@ AllClosed slots = All (λ slot. slot ≡ None) slots
 abbrev pub RowOperandFits : Problem → Kind → Operand → Type 0
 RowOperandFits p kind operand = (operand ≡ Val Null) ⊎ (kind_of p.policy.schema (kinds_of p.policy.params) p.vars [] operand ≡ Some kind)
 
--- no part of the query is past the limits
-abbrev pub IsWithin : Query → Type 0
-IsWithin q = All PartWithin q.parts
-
 -- the entry's query fits and is within the limits, and its row has the query's width and kinds
 pub record EntryFits (p : Problem) (entry : ProblemEntry) : Type 0 where
-  pub query : QueryFits p.policy.schema (kinds_of p.policy.params) p.vars entry.query
-  pub within : IsWithin entry.query
-  pub row : AllZip (RowOperandFits p) query.kinds entry.row
+  pub query : IsQuery p.policy.schema (kinds_of p.policy.params) p.vars entry.query
+  pub row : AllZip (RowOperandFits p) query.fits.kinds entry.row
 
 -- a rule's queries fit the schema, without parameters and variables, are within the limits, and have the same kinds
 pub record RuleFits (s : Schema) (rule : Rule) : Type 0 where
-  pub left : QueryFits s [] [] rule.left
-  pub right : QueryFits s [] [] rule.right
-  pub kinds : right.kinds ≡ left.kinds
-  pub left_within : IsWithin rule.left
-  pub right_within : IsWithin rule.right
+  pub left : IsQuery s [] [] rule.left
+  pub right : IsQuery s [] [] rule.right
+  pub kinds : right.fits.kinds ≡ left.fits.kinds
 
 -- the link's target is a table of the schema, which has the target columns, one for each of the link's columns
 pub record LinkFits (s : Schema) (link : Link) : Type 0 where
@@ -129,15 +122,20 @@ pub record LinkFits (s : Schema) (link : Link) : Type 0 where
   pub columns : All (λ n. slice_get target.columns n ≢ None) link.target_columns
   pub wide : length link.columns ≡ length link.target_columns
 
--- the links, the policy, the rules, the goal, the entries and the assumed atoms fit the schema, the parameters and the variables,
+abbrev pub LinksFit : Schema → Type 0
+LinksFit s = All (λ (table : Table). All (LinkFits s) table.links) s.tables
+
+-- each view fits the policy's schema and parameters, has no variables, and is within the limits
+abbrev pub ViewsFit : Policy → Type 0
+ViewsFit policy = All (λ view. IsQuery policy.schema (kinds_of policy.params) [] view.query) policy.views
+
+-- the links, the rules, the views, the goal, the entries and the assumed atoms fit the schema, the parameters and the variables,
 -- and the queries are within the limits
 pub record ProblemFits (p : Problem) : Type 0 where
-  pub links : All (λ (table : Table). All (LinkFits p.policy.schema) table.links) p.policy.schema.tables
+  pub links : LinksFit p.policy.schema
   pub rules : All (RuleFits p.policy.schema) p.policy.schema.rules
-  pub policy : PolicyFits p.policy
-  pub views_within : All (λ view. IsWithin view.query) p.policy.views
-  pub goal_within : IsWithin p.goal
-  pub goal : QueryFits p.policy.schema (kinds_of p.policy.params) p.vars p.goal
+  pub views : ViewsFit p.policy
+  pub goal : IsQuery p.policy.schema (kinds_of p.policy.params) p.vars p.goal
   pub entries : All (EntryFits p) p.entries
   pub assumed : All (AtomFits p.policy.schema (kinds_of p.policy.params) p.vars []) p.assumed
 

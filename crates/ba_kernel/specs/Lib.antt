@@ -4,6 +4,7 @@ pub mod Refusals
 pub mod Courses
 pub mod Soundness
 pub mod Tests
+pub mod Replays
 pub mod Tidy
 pub mod News
 pub mod NewParts

@@ -2,7 +2,9 @@
 use Rattle.std.specs.Prelude.{◌≡◌, ℕ, ◌+◌, min, Bool, true, false, ◌⊎◌, List, All, Any, Option, Some, None}
 use Rattle.std.specs.List.{zip}
 use Rattle.ba_model.specs.declared.policy.View.{View}
+use Rattle.ba_model.specs.Fit.{PartWithin}
 use Rattle.ba_model.specs.declared.query.Part.{Part}
+use Rattle.ba_model.specs.declared.query.Query.{Query}
 use Rattle.ba_model.specs.declared.schema.Link.{Link}
 use Rattle.ba_model.specs.declared.schema.Rule.{Rule}
 use Rattle.ba_facts.specs.Known.{Known}
@@ -61,6 +63,10 @@ least_of (Some m) (Some n) = Some (min m n)
 -- the atom is one of a live mapping to these facts: of one of the parts to the side, with the row for its head if there is one
 abbrev pub IsAtomOfParts : Branch → Side → List Part → Option (List Term) → TermAtom → List ℕ → Type 0
 IsAtomOfParts b side parts row atom facts = Any (λ part. IsLiveAtom b side part row atom facts) parts
+
+-- no part of the query is past the limits
+abbrev pub IsWithin : Query → Type 0
+IsWithin q = All PartWithin q.parts
 
 -- of one of the views to side One
 abbrev pub IsAtomOfViews : Branch → List View → TermAtom → List ℕ → Type 0

@@ -1,5 +1,5 @@
 -- The tests that a step must pass, in order, and a branch on which steps can be taken.
-use Rattle.std.specs.Prelude.{◌≡◌, ℕ, List, [], ◌∷◌, All, length, map, Option, Some, None, slice_get, option_and_then, Result, Ok, Err, ⊤, ◌≤◌}
+use Rattle.std.specs.Prelude.{◌≡◌, ℕ, ◌+◌, ◌*◌, List, [], ◌∷◌, All, length, map, Option, Some, None, slice_get, option_and_then, Result, Ok, Err, ⊤, ◌≤◌}
 use Rattle.std.specs.List.{AllZip, zip}
 use Rattle.ba_model.specs.Fit.{kinds_of}
 use Rattle.ba_model.specs.declared.query.Part.{Part}
@@ -118,10 +118,11 @@ pub record Course : Type 0 where
   pub steps : List Step
   pub slots : Slots
 
--- the problem fits, and the steps are at most 100,000 and are accepted from its start
+-- the problem fits, the steps are at most 100,000 and are accepted from its start, and it and each of them gave at most 32 numbers
 pub record IsCourse (c : Course) : Type 0 where
   pub fits : ProblemFits c.problem
   pub few : length c.steps ≤ 100000
+  pub numbers : length c.slots ≤ 32 * (1 + length c.steps)
   pub runs : Runs c.problem c.steps c.slots
 
 -- the branch of the number, if it is open

@@ -1,6 +1,8 @@
 //! Why a course of steps proves, stated as functions that do nothing.
+ghost use Rattle.ba_kernel.specs.Asked.{AnswersAreRecords, CheckedLinksFit, QuestionIsProblem};
 ghost use Rattle.ba_kernel.specs.Courses.{ClosedIsStrong, RunsAreSound};
 ghost use Rattle.ba_kernel.specs.Problems.{ProblemIsQuestion};
+ghost use Rattle.ba_kernel.specs.Replays.{ReplaysHaveOneEnd};
 ghost use Rattle.ba_kernel.specs.Soundness.{CaseKeepsFit, StartFits, StepKeepsFit};
 ghost use Rattle.ba_kernel.specs.Tests.{RunsAreTidy};
 
@@ -53,6 +55,27 @@ pub fn closed_is_strong()
 /// know of all their terms.
 pub fn runs_are_tidy()
     ensures { RunsAreTidy }
+{}
+
+/// Steps that close a problem from its start have no fault, and others have one at most.
+pub fn replays_have_one_end()
+    ensures { ReplaysHaveOneEnd }
+{}
+
+/// The links of a schema's tables fit where the tables are checked.
+pub fn checked_links_fit()
+    ensures { CheckedLinksFit }
+{}
+
+/// Rows of a checked query's answer, in a database that conforms, may be recorded.
+pub fn answers_are_records()
+    ensures { AnswersAreRecords }
+{}
+
+/// The problem of a question fits where the schema, the views, the context, the recorded rows and
+/// the query are as their readers ensure.
+pub fn question_is_problem()
+    ensures { QuestionIsProblem }
 {}
 
 /// A question is strongly compliant after a trace where each instance of its problem is: the problem

@@ -12,6 +12,7 @@ mod news;
 mod passes;
 pub mod problem;
 pub mod proved;
+pub mod replay;
 pub mod search;
 mod start;
 pub mod step;

@@ -1,5 +1,7 @@
 ghost use Rattle.std.specs.Prelude.{◌≡◌, ◌≤◌, length};
 ghost use Rattle.ba_kernel.specs.Courses.{AllClosed, ProblemFits, Runs};
+ghost use Rattle.ba_kernel.specs.Problems.{StrongAll};
+ghost use Rattle.ba_kernel.specs.Tests.{IsProved};
 
 use crate::laws::closed_is_strong;
 use crate::problem::Problem;
@@ -47,16 +49,18 @@ impl Proved {
         Proved { problem, steps }
     }
 
-    /// The problem.
+    /// The problem, of which every instance is strongly compliant.
     pub fn problem(&self) -> &Problem
-        ensures { result.now ≡ self.now.problem }
+        ensures is { result.now ≡ self.now.problem }
+        ensures strong { StrongAll result.now }
     {
         &self.problem
     }
 
-    /// The steps, the first one first.
+    /// The steps, the first one first. They prove the problem.
     pub fn steps(&self) -> &List<Step>
-        ensures { result.now ≡ self.now.steps }
+        ensures is { result.now ≡ self.now.steps }
+        ensures proved { IsProved self.now.problem result.now }
     {
         &self.steps
     }

@@ -2,7 +2,7 @@ ghost use Rattle.std.specs.Prelude.{◌≡◌, ◌∷◌, ◌++◌, ◌<◌, ◌
 ghost use Rattle.std.specs.Option.{option_copied};
 ghost use Rattle.ba_kernel.specs.Courses.{AllClosed, IsStart, ProblemFits, Takes, after, branch_of};
 ghost use Rattle.ba_kernel.specs.News.{IsNewAt, IsNewRound};
-ghost use Rattle.ba_kernel.specs.Tests.{IsErrorOf, LeadsAt, first_case, open_at, other_cases};
+ghost use Rattle.ba_kernel.specs.Tests.{IsCourse, IsErrorOf, LeadsAt, first_case, open_at, other_cases};
 
 use crate::cases::cases_of;
 use crate::laws::runs_are_tidy;
@@ -110,10 +110,10 @@ impl Search {
     }
 
     /// How many numbers were given to branches, of which some may be closed.
-    pub fn branches(&self) -> u64
+    pub fn branches(&self) -> u32
         ensures { result ≡ length self.now.slots }
     {
-        self.slots.len() as u64
+        self.slots.len() as u32
     }
 
     /// The branch of a number, if it is open.
@@ -126,23 +126,28 @@ impl Search {
         }
     }
 
-    /// The problem.
+    /// The problem. It fits.
     pub fn problem(&self) -> &Problem
-        ensures { result.now ≡ self.now.problem }
+        ensures is { result.now ≡ self.now.problem }
+        ensures fits { ProblemFits result.now }
     {
         &self.problem
     }
 
-    /// The steps that were accepted, the first one first.
+    /// The steps that were accepted, the first one first. They are at most 100,000, and leave these
+    /// branches.
     pub fn steps(&self) -> &List<Step>
-        ensures { result.now ≡ self.now.steps }
+        ensures is { result.now ≡ self.now.steps }
+        ensures course { IsCourse self.now }
     {
         &self.steps
     }
 
-    /// What the steps prove, if they leave no branch open; else the search as it was.
+    /// What the steps prove, if they leave no branch open; else the search as it was. They are
+    /// accepted from the problem's start, and leave these branches.
     pub fn close(self) -> Result<Proved, Search>
         ensures exact { IsOk result ↔ AllClosed self.slots }
+        ensures course { IsCourse self }
         ensures proved { IfOk result (λ it. it ≡ record { problem = self.problem; steps = self.steps }) }
         ensures err { IfErr result (λ it. it ≡ self) }
     {

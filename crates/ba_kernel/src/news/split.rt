@@ -2,8 +2,8 @@
 ghost use Rattle.std.specs.Prelude.{◌↔◌, ◌≡◌, All, IsTrue};
 ghost use Rattle.std.specs.Option.{option_copied};
 ghost use Rattle.ba_facts.specs.Matches.{LeastRound};
-ghost use Rattle.ba_kernel.specs.Courses.{IsWithin, ProblemFits};
-ghost use Rattle.ba_kernel.specs.NewParts.{IsAtomOfParts, IsAtomOfRules, IsAtomOfSides, IsAtomOfViews, IsToldSplit, MayTell, least_of};
+ghost use Rattle.ba_kernel.specs.Courses.{ProblemFits};
+ghost use Rattle.ba_kernel.specs.NewParts.{IsAtomOfParts, IsAtomOfRules, IsAtomOfSides, IsAtomOfViews, IsToldSplit, IsWithin, MayTell, least_of};
 ghost use Rattle.ba_kernel.specs.News.{IsCandidate, IsOfNewKind};
 ghost use Rattle.ba_model.specs.Fit.{PartWithin};
 

@@ -1,0 +1,77 @@
+//! Steps that are taken from a problem's start, one after another.
+ghost use Rattle.std.specs.Prelude.{◌≡◌, ◌≤◌, ◌<◌, ◌∷◌, ◌++◌, [], IfErr, OnOk, length};
+ghost use Rattle.ba_kernel.specs.Courses.{ProblemFits};
+ghost use Rattle.ba_kernel.specs.Replays.{IsNextRefused, Replays};
+ghost use Rattle.ba_kernel.specs.declared.replay.ReplayError.TheVariants.{NoMemory};
+
+use crate::problem::Problem;
+use crate::proved::Proved;
+use crate::search::Search;
+use crate::step::{Step, StepError, StepFault};
+use ba_model::list::List;
+use std::alloc::{AllocError, Global};
+use thiserror::Error;
+
+/// Why steps prove nothing.
+#[derive(Clone, Copy, Debug, PartialEq, Eq)]
+pub enum ReplayFault {
+    /// The step of this number, from 0, is the first that isn't accepted.
+    Refused { number: u32, fault: StepFault },
+    /// All steps are accepted, and a branch is open.
+    Open,
+}
+
+/// Want of memory, or a fault of the steps.
+#[derive(Debug, Drop, Error)]
+pub enum ReplayError {
+    #[error("out of memory")]
+    NoMemory,
+    #[error("no proof")]
+    Fault(ReplayFault),
+}
+
+impl From<AllocError> for ReplayError {
+    ghost from_gives = { λ _ e. e ≡ NoMemory };
+
+    fn from(_e: AllocError) -> ReplayError {
+        ReplayError::NoMemory
+    }
+}
+
+/// The proof that the steps are: each is accepted, one after another from the problem's start, and
+/// in the end no branch is open.
+///
+/// Else `Refused` tells the first step that isn't accepted and its fault, or `Open` that all are
+/// accepted and a branch is open. Steps have one such end
+/// ([`crate::laws::replays_have_one_end`]). `NoMemory` leaves nothing behind.
+pub fn replay(alloc: Global, problem: Problem, steps: List<Step>) -> Result<Proved, ReplayError>
+    requires fits { ProblemFits problem }
+    requires few { length steps ≤ 100000 }
+    ensures { Replays problem steps result }
+{
+    let mut search = Search::start(alloc, problem)?;
+    for step in steps.into_vec() {
+        take_next(alloc, &mut search, step)?;
+    }
+    match search.close() {
+        Ok(proved) => Ok(proved),
+        Err(_) => Err(ReplayError::Fault(ReplayFault::Open)),
+    }
+}
+
+/// Takes the next step, or tells its number with its fault.
+fn take_next(alloc: Global, search: &mut Search, step: Step) -> Result<(), ReplayError>
+    requires { length search.old.steps < 100000 }
+    ensures problem { OnOk result (search.new.problem ≡ search.old.problem) }
+    ensures steps { OnOk result (search.new.steps ≡ search.old.steps ++ step ∷ []) }
+    ensures fault { IfErr result (IsNextRefused search.old step) }
+{
+    let number = search.steps().len() as u32;
+    match search.apply(alloc, step) {
+        Ok(()) => Ok(()),
+        Err(StepError::NoMemory) => Err(ReplayError::NoMemory),
+        Err(StepError::Fault(fault)) => {
+            Err(ReplayError::Fault(ReplayFault::Refused { number, fault }))
+        }
+    }
+}
