@@ -20,11 +20,6 @@ fn kinds(alloc: Global) -> Result<List<Kind>, AllocError> {
     Ok(kinds)
 }
 
-/// A branch of which nothing is known, with a parameter, a variable and no facts.
-pub(super) fn empty(alloc: Global) -> Result<Branch, AllocError> {
-    Branch::new(alloc, kinds(alloc)?, kinds(alloc)?)
-}
-
 pub(super) fn side(text: &str) -> Side {
     if text.contains("Two") {
         Side::Two
@@ -78,9 +73,17 @@ fn add(alloc: Global, branch: &mut Branch, text: &str) -> Result<(), AllocError>
 /// Adds facts and learns atoms, with commas between them, in turn.
 pub(super) fn add_all(alloc: Global, branch: &mut Branch, text: &str) -> Result<(), AllocError> {
     for piece in text.split(',') {
+        let piece = piece.trim();
         if !piece.is_empty() {
-            add(alloc, branch, piece.trim())?;
+            add(alloc, branch, piece)?;
         }
     }
     Ok(())
+}
+
+/// A branch with these facts and lessons, a parameter and a variable.
+pub(super) fn branch(alloc: Global, text: &str) -> Result<Branch, AllocError> {
+    let mut branch = Branch::new(alloc, kinds(alloc)?, kinds(alloc)?)?;
+    add_all(alloc, &mut branch, text)?;
+    Ok(branch)
 }

@@ -6,7 +6,7 @@
 //! NULL. A rule is two queries with `within` between them, and what was told is a query, `gives` and
 //! a row of operands.
 
-use super::words::{add_atoms, add_numbers, add_operands, bar, number};
+use super::words::{add_atoms, add_numbers, add_operands, bar, number, numbers};
 use ba_kernel::problem::{Problem, ProblemEntry};
 use ba_model::list::List;
 use ba_model::policy::{Parameter, Policy, View};
@@ -84,9 +84,7 @@ pub(super) fn add_columns(
 }
 
 fn add_key(alloc: Global, keys: &mut List<List<u32>>, text: &str) -> Result<(), AllocError> {
-    let mut key = List::new(alloc);
-    add_numbers(&mut key, text)?;
-    keys.push(key)
+    keys.push(numbers(alloc, text)?)
 }
 
 fn add_keys(alloc: Global, keys: &mut List<List<u32>>, text: &str) -> Result<(), AllocError> {

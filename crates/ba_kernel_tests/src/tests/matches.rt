@@ -5,15 +5,13 @@
 //! - `mappings`: the live mappings of the part to facts of the side.
 //! - `row`, with facts and a row of operands over them: whether some facts of the side show the part's
 //!   atoms and give the row.
-//! - `term`, with facts and an operand over them: what it stands for.
-//! - `undecided`, with facts: the part's first atom that they don't show.
 //! - `round`, with a row or `any`, and an atom: the least round of the live mappings that have the
 //!   atom.
 
-use super::branches::{add_all, empty, side};
+use super::branches::{add_all, branch, side};
 use super::given::part;
-use super::spelled::{write_mappings, write_term};
-use super::words::{add_numbers, add_operands, add_terms, bar, operand, term_atom};
+use super::spelled::write_mappings;
+use super::words::{add_operands, add_terms, bar, numbers, term_atom};
 use ba_facts::branch::Branch;
 use ba_facts::term::{Side, Term};
 use ba_model::list::List;
@@ -21,12 +19,6 @@ use ba_model::query::Part;
 use std::alloc::{AllocError, Global};
 use std::fmt::Write;
 use std::test::Fail;
-
-fn numbers(alloc: Global, text: &str) -> Result<List<u32>, AllocError> {
-    let mut all = List::new(alloc);
-    add_numbers(&mut all, text)?;
-    Ok(all)
-}
 
 fn tell_mappings(
     alloc: Global,
@@ -56,34 +48,6 @@ fn tell_row(
         told.push_str("yes")
     } else {
         told.push_str("no")
-    }
-}
-
-fn tell_term(
-    alloc: Global,
-    branch: &Branch,
-    asked: &str,
-    told: &mut String,
-) -> Result<(), AllocError> {
-    let facts = numbers(alloc, bar(asked, 4))?;
-    let operand = operand(alloc, bar(asked, 5))?;
-    match branch.term_of(facts.as_slice(), &operand) {
-        Some(term) => write_term(told, term),
-        None => told.push_str("-"),
-    }
-}
-
-fn tell_undecided(
-    alloc: Global,
-    branch: &Branch,
-    part: &Part,
-    asked: &str,
-    told: &mut String,
-) -> Result<(), AllocError> {
-    let facts = numbers(alloc, bar(asked, 4))?;
-    match branch.undecided(part, facts.as_slice()) {
-        Some(n) => write!(told, "{n}"),
-        None => told.push_str("-"),
     }
 }
 
@@ -131,18 +95,25 @@ fn tell(
     match asked.split_whitespace().next().unwrap_or("") {
         "mappings" => tell_mappings(alloc, branch, part, side(asked), told),
         "row" => tell_row(alloc, branch, part, asked, told),
-        "term" => tell_term(alloc, branch, asked, told),
-        "undecided" => tell_undecided(alloc, branch, part, asked, told),
         "round" => tell_round(alloc, branch, part, asked, told),
         _ => Err(AllocError),
     }
 }
 
+fn tell_asked(
+    alloc: Global,
+    branch: &Branch,
+    asked: &str,
+    told: &mut String,
+) -> Result<(), AllocError> {
+    let (_, text) = asked.split_once('|').unwrap_or((asked, ""));
+    tell(alloc, branch, &part(alloc, text)?, asked, told)
+}
+
 fn is_so(alloc: Global, branch: &Branch, line: &str) -> Result<bool, AllocError> {
     let (asked, wanted) = line.split_once("=>").unwrap_or((line, ""));
-    let (_, text) = asked.split_once('|').unwrap_or((asked, ""));
     let mut told = String::new(alloc);
-    tell(alloc, branch, &part(alloc, text)?, asked, &mut told)?;
+    tell_asked(alloc, branch, asked, &mut told)?;
     Ok(told.as_str().trim() == wanted.trim())
 }
 
@@ -161,15 +132,15 @@ fn first_wrong<'a>(
 
 /// The first line that isn't so of a branch with these facts, of which this is known.
 fn wrong<'a>(alloc: Global, given: &str, lines: &'a str) -> Result<Option<&'a str>, AllocError> {
-    let mut branch = empty(alloc)?;
-    add_all(alloc, &mut branch, given)?;
+    let branch = branch(alloc, given)?;
     first_wrong(alloc, &branch, lines)
 }
 
 /// Fact n has the unknowns 2n and 2n + 1, of which the second may be NULL. The first columns of facts
-/// 0 and 1 are 2, and that of fact 3 is 3. The second of fact 1 is below 5.
+/// 0 to 2 are 2, and that of fact 3 is 3. The second of fact 1 is below 5, and the same as that of
+/// fact 2.
 const GIVEN: &str = "One iI 0 0, One iI 1 0, Two iI 1 0, One iI 1 0, Two iI 0 0, \
-u.0 ~ 2, u.2 ~ u.0, u.6 ~ 3, u.3 < 5";
+u.0 ~ 2, u.2 ~ u.0, u.6 ~ 3, u.3 < 5, u.4 ~ 2, u.5 ~ u.3";
 
 #[test]
 fn live_mappings(rt: HostRuntime) -> Result<(), Fail> {
@@ -207,7 +178,11 @@ fn rows_that_are_there_already(rt: HostRuntime) -> Result<(), Fail> {
 row One | 1 | a.0 = 2 | a.1 | 1 | a.1 => yes
 row One | 1 | a.0 = 2 | a.1 | 3 | a.1 => no
 row One | 1 | | a.1 | 3 | a.1 => yes
-row One | 1 | | a.1 | 2 | a.1 => no
+row One | 1 | | a.1 | 2 | a.1 => yes
+row One | 1 | | a.1 | 4 | a.1 => no
+row Two | 1 | a.0 = 2 | a.1 | 1 | a.1 => yes
+row Two | 1 | a.0 = 2 | a.1 | 3 | a.1 => no
+row Two | 1 | a.0 = 3 | a.1 | 1 | a.1 => no
 row One | 1 | a.1 < 7 | a.0 | 0 | a.0 => yes
 row One | 1 | a.1 < 7 | a.0 | 3 | a.0 => no
 row One | 1 | | a.0 a.1 | 1 | a.0 a.1 => yes
@@ -224,27 +199,6 @@ row One | 1 | | 5 | | 5 => yes
 row One | 2 | | 5 | | 5 => no
 row One | | | p.7 | | p.7 => yes
 row One | | | p.7 | | v.8 => no";
-    assert_eq!(rt; wrong(rt.alloc(), GIVEN, lines)?, None);
-    Ok(())
-}
-
-#[test]
-fn terms_and_undecided_atoms(rt: HostRuntime) -> Result<(), Fail> {
-    let lines = "\
-term | | | | 1 | a.0 => u.2
-term | | | | 1 | a.1 => u.3
-term | | | | 1 | b.0 => -
-term | | | | 1 3 | b.1 => u.7
-term | | | | 9 | a.0 => -
-term | | | | | 4 => 4
-term | | | | | p.7 => p.7
-term | | | | | v.8 => v.8
-term | | | | 1 | a.2 => -
-undecided | 1 | | | 1 => -
-undecided | 1 | a.0 = 2, a.1 < 5 | | 1 => -
-undecided | 1 | a.0 = 2, a.0 = 3, a.1 < 3 | | 1 => 1
-undecided | 1 | a.1 < 5, a.1 < 4 | | 1 => 1
-undecided | 1 | b.0 = b.0 | | 1 => 0";
     assert_eq!(rt; wrong(rt.alloc(), GIVEN, lines)?, None);
     Ok(())
 }
@@ -288,18 +242,6 @@ round One | 0 | a.0 null a.0 | | any | u.0 null u.0 => -";
     Ok(())
 }
 
-/// The other side's row is there once its first column is known too.
-#[test]
-fn other_side(rt: HostRuntime) -> Result<(), Fail> {
-    let before = "row Two | 1 | a.0 = 2 | a.1 | 1 | a.1 => no";
-    let after = "row Two | 1 | a.0 = 2 | a.1 | 1 | a.1 => yes";
-    let facts = "One iI 0 0, One iI 1 0, Two iI 1 0, u.2 ~ 2, u.5 ~ u.3";
-    let more = "One iI 0 0, One iI 1 0, Two iI 1 0, u.2 ~ 2, u.5 ~ u.3, u.4 ~ 2";
-    assert_eq!(rt; wrong(rt.alloc(), facts, before)?, None);
-    assert_eq!(rt; wrong(rt.alloc(), more, after)?, None);
-    Ok(())
-}
-
 /// Whether the copy has the original's mappings, and its own after it learned more.
 fn copy_is_its_own(alloc: Global, branch: &Branch, copy: &mut Branch) -> Result<bool, AllocError> {
     let original = "mappings One | 1 | a.1 < 7 => 1 ; 3 ?0 ;";
@@ -311,9 +253,9 @@ fn copy_is_its_own(alloc: Global, branch: &Branch, copy: &mut Branch) -> Result<
 }
 
 fn copies_are_right(alloc: Global) -> Result<bool, AllocError> {
-    let mut branch = empty(alloc)?;
-    add_all(alloc, &mut branch, GIVEN)?;
-    copy_is_its_own(alloc, &branch, &mut branch.copy(alloc)?)
+    let branch = branch(alloc, GIVEN)?;
+    let mut copy = branch.copy(alloc)?;
+    copy_is_its_own(alloc, &branch, &mut copy)
 }
 
 /// A copy knows the same, and what is learned of it afterwards is its own.

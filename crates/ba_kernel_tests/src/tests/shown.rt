@@ -5,7 +5,7 @@
 //! `absurd`, which aren't refuted. `u.0`, `u.1` and `u.2` are whole numbers that may be NULL, `u.3`
 //! and `u.4` ones that aren't, and `u.5` and `u.6` texts that may be NULL.
 
-use super::branches::{add_all, empty};
+use super::branches::branch;
 use super::words::{bar, term_atom};
 use ba_facts::branch::Branch;
 use std::alloc::{AllocError, Global};
@@ -45,16 +45,10 @@ fn tells(alloc: Global, branch: &Branch, line: &str) -> Result<bool, AllocError>
     Ok(shown && refuted && neither)
 }
 
-/// A branch with one fact, of which nothing is known.
-fn with_fact(alloc: Global) -> Result<Branch, AllocError> {
-    let mut branch = empty(alloc)?;
-    add_all(alloc, &mut branch, "One IIIiiTT 0 0")?;
-    Ok(branch)
-}
-
 fn is_so(alloc: Global, line: &str) -> Result<bool, AllocError> {
-    let mut branch = with_fact(alloc)?;
-    add_all(alloc, &mut branch, bar(line, 0))?;
+    let learned = bar(line, 0);
+    let given = format!(in alloc; "One IIIiiTT 0 0, {learned}")?;
+    let branch = branch(alloc, given.as_str())?;
     tells(alloc, &branch, line)
 }
 

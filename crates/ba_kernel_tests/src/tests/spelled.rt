@@ -20,7 +20,7 @@ fn write_value(text: &mut String, value: &Value) -> Result<(), AllocError> {
     }
 }
 
-pub(super) fn write_term(text: &mut String, term: TermRef<'_>) -> Result<(), AllocError> {
+fn write_term(text: &mut String, term: TermRef<'_>) -> Result<(), AllocError> {
     match term {
         TermRef::Unknown(n) => write!(text, "u.{n}"),
         TermRef::Val(value) => write_value(text, value),

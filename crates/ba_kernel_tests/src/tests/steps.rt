@@ -1,7 +1,7 @@
 //! Steps that are written as short texts: a kind and its numbers in order. After a split's branch
 //! stands its atom.
 
-use super::words::{add_numbers, number, term_atom};
+use super::words::{number, numbers, term_atom};
 use ba_kernel::step::Step;
 use ba_model::list::List;
 use std::alloc::{AllocError, Global};
@@ -80,9 +80,8 @@ fn split_step(alloc: Global, text: &str) -> Result<Step, AllocError> {
 pub(super) fn step(alloc: Global, text: &str) -> Result<Step, AllocError> {
     let (kind, others) = text.split_once(' ').unwrap_or((text, ""));
     if kind == "split" {
-        return split_step(alloc, others);
+        split_step(alloc, others)
+    } else {
+        numbered_step(alloc, kind, numbers(alloc, others)?.as_slice())
     }
-    let mut numbers = List::new(alloc);
-    add_numbers(&mut numbers, others)?;
-    numbered_step(alloc, kind, numbers.as_slice())
 }

@@ -30,6 +30,12 @@ pub(super) fn add_numbers(all: &mut List<u32>, text: &str) -> Result<(), AllocEr
     Ok(())
 }
 
+pub(super) fn numbers(alloc: Global, text: &str) -> Result<List<u32>, AllocError> {
+    let mut all = List::new(alloc);
+    add_numbers(&mut all, text)?;
+    Ok(all)
+}
+
 fn value(alloc: Global, word: &str) -> Result<Value, AllocError> {
     if word == "NULL" {
         return Ok(Value::Null);
@@ -49,7 +55,7 @@ fn named_operand(letter: &str, n: u32) -> Operand {
     }
 }
 
-pub(super) fn operand(alloc: Global, word: &str) -> Result<Operand, AllocError> {
+fn operand(alloc: Global, word: &str) -> Result<Operand, AllocError> {
     match word.split_once('.') {
         Some((letter, digits)) => Ok(named_operand(letter, number(digits))),
         None => Ok(Operand::Val(value(alloc, word)?)),
