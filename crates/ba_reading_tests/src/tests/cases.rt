@@ -3,6 +3,7 @@
 //! A line is a text, ` => ` and what the text reads as. In it `~` stands for a line feed, and
 //! `[[3 x#,]]` for `x0,x1,x2,`: the piece so often, with its number for `#`.
 
+use ba_model::value::Value;
 use std::alloc::{AllocError, Global};
 use std::fmt::Write;
 use std::process::Abort;
@@ -16,12 +17,19 @@ pub(super) trait Reading {
     fn tell(&self, alloc: Global, text: &str, told: &mut String) -> Told;
 }
 
+/// Adds the piece with its number for `#`.
+fn push_piece(all: &mut String, piece: &str, n: u32) -> Told {
+    let Some((before, after)) = piece.split_once('#') else {
+        return all.push_str(piece);
+    };
+    all.push_str(before)?;
+    write!(all, "{n}")?;
+    all.push_str(after)
+}
+
 fn push_pieces(all: &mut String, piece: &str, count: u32) -> Told {
     for n in 0..count {
-        match piece.split_once('#') {
-            Some((before, after)) => write!(all, "{before}{n}{after}")?,
-            None => all.push_str(piece)?,
-        }
+        push_piece(all, piece, n)?;
     }
     Ok(())
 }
@@ -114,4 +122,16 @@ fn byte(b: u8) -> u8 {
 /// The bytes of a text, in which `^` stands for a carriage return and `@` for a byte that no UTF-8 has.
 pub(super) fn bytes_of(alloc: Global, text: &str) -> Result<Vec<u8>, AllocError> {
     text.bytes().map(byte).collect(alloc)
+}
+
+pub(super) fn write_value(told: &mut String, value: &Value) -> Told {
+    match value {
+        Value::Null => told.push_str(" NULL"),
+        Value::Int(n) => write!(told, " {n}"),
+        Value::Text(text) => {
+            told.push_str(" '")?;
+            told.push_str(text.as_str())?;
+            told.push_str("'")
+        }
+    }
 }

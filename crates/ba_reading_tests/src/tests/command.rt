@@ -6,12 +6,28 @@ use std::alloc::{AllocError, Global};
 use std::fmt::Write;
 use std::test::Fail;
 
-fn words_of(alloc: Global, line: &str) -> Result<Vec<String>, AllocError> {
-    let mut words = Vec::new(alloc);
+fn add_words(alloc: Global, line: &str, words: &mut Vec<String>) -> Told {
     for word in line.split_whitespace() {
-        words.push(String::from_str(alloc, word)?)?;
+        let word = String::from_str(alloc, word)?;
+        words.push(word)?;
     }
-    Ok(words)
+    Ok(())
+}
+
+fn write_command(told: &mut String, command: &Command) -> Told {
+    let Command::Run {
+        schema,
+        policy,
+        tables,
+        script,
+        workers,
+        budget,
+    } = command;
+    for name in [schema, policy, tables, script] {
+        told.push_str(name.as_str())?;
+        told.push_str(" ")?;
+    }
+    write!(told, "{workers} {budget}")
 }
 
 /// Words behind those of the front.
@@ -22,22 +38,11 @@ struct Words {
 
 impl Reading for Words {
     fn tell(&self, alloc: Global, text: &str, told: &mut String) -> Told {
-        let line = format!(in alloc; "{} {text}", self.front)?;
-        let words = words_of(alloc, line.as_str())?;
+        let mut words = Vec::new(alloc);
+        add_words(alloc, self.front, &mut words)?;
+        add_words(alloc, text, &mut words)?;
         match read_words(alloc, words.as_slice()) {
-            Ok(
-                Command::Run {
-                    schema,
-                    policy,
-                    tables,
-                    script,
-                    workers,
-                    budget,
-                },
-            ) => write!(
-                told,
-                "{schema} {policy} {tables} {script} {workers} {budget}"
-            ),
+            Ok(command) => write_command(told, &command),
             Err(WordsError::NoMemory) => Err(AllocError),
             Err(WordsError::Words) => told.push_str("words"),
         }

@@ -1,6 +1,6 @@
 //! Faults, as the program prints them.
 
-use super::cases::Told;
+use super::cases::{Reading, Told, all_are_so};
 use ba_lex::LexFault;
 use ba_model::check_schema::{Counted, SchemaFault};
 use ba_model::text::Str;
@@ -16,11 +16,13 @@ use std::test::Fail;
 
 /// The reason in the fault line of a file F, or the whole of another line.
 fn reason_in(line: &str) -> &str {
-    let front = r#"{"fault":"input","file":"F","reason":""#;
-    let Some(words) = line.strip_prefix(front) else {
-        return line.trim_end();
+    let Some((_, words)) = line.split_once(r#"{"fault":"input","file":"F","reason":""#) else {
+        return line;
     };
-    words.strip_suffix("\",\"status\":3}\n").unwrap_or(line)
+    match words.split_once("\",\"status\":3}\n") {
+        Some((reason, "")) => reason,
+        _ => line,
+    }
 }
 
 fn write_line(alloc: Global, fault: &Fault, told: &mut String) -> Told {
@@ -158,17 +160,23 @@ pub(super) fn write_script_fault(alloc: Global, fault: ScriptFault, told: &mut S
     }
 }
 
-/// The lines and the reason that no case has.
+/// The lines that no case of another file has.
+struct Lines;
+
+impl Reading for Lines {
+    fn tell(&self, alloc: Global, text: &str, told: &mut String) -> Told {
+        if text == "words" {
+            return write_line(alloc, &Fault::Words, told);
+        }
+        let file = Str::new(alloc, text)?;
+        write_line(alloc, &Fault::Read { file }, told)
+    }
+}
+
+const LINES: &str = r#"words => {"fault":"words","status":2,"usage":"blockaid run|check|gen"}~
+t0/Users.csv => {"fault":"read","file":"t0/Users.csv","status":4}~"#;
+
 #[test]
 fn other_fault_lines(rt: HostRuntime) -> Result<(), Fail> {
-    let mut told = String::new(rt.alloc());
-    write_line(rt.alloc(), &Fault::Words, &mut told)?;
-    let file = Str::new(rt.alloc(), "t0/Users.csv")?;
-    write_line(rt.alloc(), &Fault::Read { file }, &mut told)?;
-    write_reason(rt.alloc(), Reason::EmptyKey, &mut told)?;
-    let words = r#"{"fault":"words","status":2,"usage":"blockaid run|check|gen"}"#;
-    let read = r#"{"fault":"read","file":"t0/Users.csv","status":4}"#;
-    let rest = told.as_str().strip_prefix(words).unwrap_or("");
-    assert_eq!(rt; rest.strip_prefix(read), Some("empty_key"));
-    Ok(())
+    all_are_so(&rt, &Lines, LINES, "")
 }

@@ -2,25 +2,16 @@
 //!
 //! Rows are their number and their values, as in `2: 1 'ann'; 2 'bob';`.
 
-use super::cases::{Reading, Told, all_are_so, bytes_of};
+use super::cases::{Reading, Told, all_are_so, bytes_of, write_value};
 use super::faults::write_table_fault;
+use super::standard::schema_of;
 use ba_model::list::List;
-use ba_model::schema::Schema;
-use ba_model::value::{Row, Value};
-use ba_sql_ddl::read_schema;
+use ba_model::value::Row;
 use ba_tables::fault::TableError;
 use ba_tables::file::{read_table, rows_of_file};
 use std::alloc::{AllocError, Global};
 use std::fmt::Write;
 use std::test::Fail;
-
-fn write_value(told: &mut String, value: &Value) -> Told {
-    match value {
-        Value::Null => told.push_str(" NULL"),
-        Value::Int(n) => write!(told, " {n}"),
-        Value::Text(text) => write!(told, " '{text}'"),
-    }
-}
 
 fn write_row(told: &mut String, row: &Row) -> Told {
     for value in row.as_slice() {
@@ -49,29 +40,33 @@ fn write_file(alloc: Global, read: Result<List<Row>, TableError>, told: &mut Str
     }
 }
 
-/// Files of the second table.
-#[derive(Drop)]
-struct Files {
-    schema: Schema,
-}
-
-impl Files {
-    fn new(alloc: Global) -> Result<Files, AllocError> {
-        let text = b"CREATE TABLE Tags (A INT NOT NULL);
+const SCHEMA: &str = "CREATE TABLE Tags (A INT NOT NULL);
 CREATE TABLE Users (Id INT NOT NULL, Name TEXT NOT NULL);";
-        let schema = read_schema(alloc, text).map_err(|_| AllocError)?;
-        Ok(Files { schema })
-    }
-}
+
+/// Files of the second table.
+struct Files;
 
 impl Reading for Files {
     fn tell(&self, alloc: Global, text: &str, told: &mut String) -> Told {
         let bytes = bytes_of(alloc, text)?;
-        if self.schema.tables.len() < 2 {
+        let schema = schema_of(alloc, SCHEMA)?;
+        if schema.tables.len() < 2 {
             return Err(AllocError);
         }
-        let read = read_table(alloc, &self.schema, 1, bytes.as_slice());
-        write_file(alloc, read, told)
+        write_file(alloc, read_table(alloc, &schema, 1, bytes.as_slice()), told)
+    }
+}
+
+/// Files of the first table.
+struct Tags;
+
+impl Reading for Tags {
+    fn tell(&self, alloc: Global, text: &str, told: &mut String) -> Told {
+        let schema = schema_of(alloc, SCHEMA)?;
+        match schema.tables.find(0) {
+            Some(tags) => write_file(alloc, rows_of_file(alloc, tags, text.as_bytes()), told),
+            None => Err(AllocError),
+        }
     }
 }
 
@@ -102,25 +97,13 @@ Id,Name~1.0,bob~ => number 1 0
 Id,Name~9223372036854775808,bob~ => number 1 0
 Id,Name~-9223372036854775809,bob~ => number 1 0
 Id,Name~[[100000 1,ann~]] => 100000:
-Id,Name~[[100000 1,ann~]]2,bob => {"fault":"limit","limit":100000,"status":7,"what":"rows"}
+Id,Name~[[100000 1,ann~]]2,bob => {"fault":"limit","limit":100000,"status":7,"what":"rows"}~
 Id,Name~[[100000 1,ann~]]2,bob~x,eve => number 100002 0"#;
 
 #[test]
 fn texts_of_files(rt: HostRuntime) -> Result<(), Fail> {
-    let files = Files::new(rt.alloc())?;
-    all_are_so(&rt, &files, ROWS, "")?;
-    all_are_so(&rt, &files, "\u{feff}Id,Name~1,ann", "1: 1 'ann';")?;
-    all_are_so(&rt, &files, FAULTS, "header")
-}
-
-#[test]
-fn rows_of_a_table(rt: HostRuntime) -> Result<(), Fail> {
-    let files = Files::new(rt.alloc())?;
-    let mut told = String::new(rt.alloc());
-    if let Some(tags) = files.schema.tables.find(0) {
-        let read = rows_of_file(rt.alloc(), tags, b"A\n2\n1");
-        write_file(rt.alloc(), read, &mut told)?;
-    }
-    assert_eq!(rt; told.as_str(), "2: 2; 1;");
-    Ok(())
+    all_are_so(&rt, &Tags, "A~2~1", "2: 2; 1;")?;
+    all_are_so(&rt, &Files, ROWS, "")?;
+    all_are_so(&rt, &Files, "\u{feff}Id,Name~1,ann", "1: 1 'ann';")?;
+    all_are_so(&rt, &Files, FAULTS, "header")
 }

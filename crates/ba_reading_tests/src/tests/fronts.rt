@@ -2,18 +2,16 @@
 
 use super::cases::{Reading, Told, all_are_so};
 use ba_grammar::{Element, ReadError, all, any_word, lexemes, listed, name, number};
-use ba_lex::{LexError, Lexeme, tokens};
+use ba_lex::{Lexeme, tokens};
 use ba_model::list::List;
 use std::alloc::{AllocError, Global};
 use std::fmt::Write;
 use std::test::Fail;
 
-/// The words of a text, none where it has no tokens.
 pub(super) fn words_of(alloc: Global, text: &str) -> Result<List<Lexeme>, AllocError> {
     match tokens(alloc, text, 1_000_000) {
         Ok(found) => lexemes(alloc, found),
-        Err(LexError::Fault(_)) => Ok(List::new(alloc)),
-        Err(LexError::NoMemory) => Err(AllocError),
+        Err(_) => Err(AllocError),
     }
 }
 

@@ -49,25 +49,29 @@ fn write_run(alloc: Global, name: &Str, rows: &List<Row>, told: &mut String) -> 
     Ok(())
 }
 
-fn rows(alloc: Global, text: &str) -> Result<List<Row>, AllocError> {
-    let text = Value::Text(Str::new(alloc, text)?);
-    let least = Value::Int(-9223372036854775808);
-    let mut rows = List::new(alloc);
-    for value in [Value::Null, least, Value::Int(9223372036854775807), text] {
-        rows.push(List::from_vec(vec![in alloc; value]?))?;
-    }
-    Ok(rows)
+fn add_row(alloc: Global, rows: &mut List<Row>, value: Value) -> Told {
+    let mut row = List::new(alloc);
+    row.push(value)?;
+    rows.push(row)
+}
+
+fn add_rows(alloc: Global, rows: &mut List<Row>) -> Told {
+    let text = Str::new(alloc, "\"\\/\u{8}\u{c}\n\r\t\u{0}\u{1f}é\u{1f600}")?;
+    add_row(alloc, rows, Value::Text(text))?;
+    add_row(alloc, rows, Value::Null)?;
+    add_row(alloc, rows, Value::Int(-9223372036854775808))
 }
 
 #[test]
 fn lines_of_a_run(rt: HostRuntime) -> Result<(), Fail> {
     let alloc = rt.alloc();
     let name = Str::new(alloc, "a\"b")?;
-    let rows = rows(alloc, "\"\\/\u{8}\u{c}\n\r\t\u{0}\u{1f}é\u{1f600}")?;
+    let mut rows = List::new(alloc);
+    add_rows(alloc, &mut rows)?;
     let mut told = String::new(alloc);
     write_run(alloc, &name, &rows, &mut told)?;
     let want = r#"{"begin":"a\"b","line":1,"version":0}
-{"by":"cover","line":2,"request":"a\"b","rows":[[null],[-9223372036854775808],[9223372036854775807],["\"\\/\b\f\n\r\t\u0000\u001fé😀"]],"version":0}
+{"by":"cover","line":2,"request":"a\"b","rows":[["\"\\/\b\f\n\r\t\u0000\u001fé😀"],[null],[-9223372036854775808]],"version":0}
 {"blocked":"uncovered","line":3,"request":"a\"b","version":1}
 {"end":"a\"b","line":4}
 {"line":18446744073709551615,"memory":true}

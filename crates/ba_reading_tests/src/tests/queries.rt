@@ -1,4 +1,6 @@
 //! Questions, each printed as the query that it reads as.
+ghost use Rattle.std.specs.Prelude.{[]};
+ghost use Rattle.ba_model.specs.Fit.{IsQuery, kinds_of};
 
 use super::cases::{Reading, Told, all_are_so};
 use super::faults::write_text_fault;
@@ -15,27 +17,96 @@ use std::alloc::{AllocError, Global};
 use std::fmt::Write;
 use std::test::Fail;
 
-/// Questions under a policy's parameters. Of a long one the number of parts is told.
-#[derive(Drop)]
-struct Questions {
-    policy: Policy,
+/// The query's text, or the number of its parts where that is long.
+fn write_query(alloc: Global, policy: &Policy, query: &Query, told: &mut String) -> Told
+    requires { IsQuery policy.now.schema (kinds_of policy.now.params) [] query.now }
+{
+    let text = print_query(alloc, &policy.schema, &policy.params, query)?;
+    let parts = query.parts.len();
+    if text.len() > 1_000 {
+        return write!(told, "{parts} parts");
+    }
+    told.push_str(text.as_str())
 }
+
+struct Questions;
 
 impl Reading for Questions {
     fn tell(&self, alloc: Global, text: &str, told: &mut String) -> Told {
-        let (schema, params) = (&self.policy.schema, &self.policy.params);
-        match read_query(alloc, schema, params, text) {
-            Ok(query) => {
-                let text = print_query(alloc, schema, params, &query)?;
-                if text.len() > 1_000 {
-                    return write!(told, "{} parts", query.parts.len());
-                }
-                told.push_str(text.as_str())
-            }
+        let policy = policy(alloc)?;
+        match read_query(alloc, &policy.schema, &policy.params, text) {
+            Ok(query) => write_query(alloc, &policy, &query, told),
             Err(ReadQueryError::NoMemory) => Err(AllocError),
             Err(ReadQueryError::Fault(fault)) => write_text_fault(alloc, fault, told),
         }
     }
+}
+
+/// The words of a view's query.
+struct Words;
+
+impl Reading for Words {
+    fn tell(&self, alloc: Global, text: &str, told: &mut String) -> Told {
+        let policy = policy(alloc)?;
+        let words = words_of(alloc, text)?;
+        match read_words(alloc, &policy.schema, &policy.params, words.as_slice()) {
+            Ok(query) => write_query(alloc, &policy, &query, told),
+            Err(_) => Err(AllocError),
+        }
+    }
+}
+
+/// A query as it is written.
+struct Written;
+
+impl Reading for Written {
+    fn tell(&self, alloc: Global, text: &str, told: &mut String) -> Told {
+        let words = words_of(alloc, text)?;
+        match read_written(alloc, words.as_slice()) {
+            Ok(written) => write!(told, "{written:?}"),
+            Err(_) => Err(AllocError),
+        }
+    }
+}
+
+/// The users whose Name is NULL and isn't, which no text asks for.
+struct NullTests;
+
+impl Reading for NullTests {
+    fn tell(&self, alloc: Global, _text: &str, told: &mut String) -> Told {
+        let policy = policy(alloc)?;
+        let mut parts = List::new(alloc);
+        add_null_part(alloc, &mut parts)?;
+        let vars = List::new(alloc);
+        match Query::check(&policy.schema, &policy.params, &vars, QueryDraft { parts }) {
+            Ok(query) => write_query(alloc, &policy, &query, told),
+            Err(_) => Err(AllocError),
+        }
+    }
+}
+
+/// Of column 1 of the first table.
+fn null_test(op: Op) -> Atom {
+    let left = Operand::Col(0, 1);
+    let right = Operand::Col(0, 1);
+    Atom { op, left, right }
+}
+
+fn fill_null_part(part: &mut Part) -> Told {
+    part.from.push(0)?;
+    part.conds.push(null_test(Op::IsNull))?;
+    part.conds.push(null_test(Op::NotNull))?;
+    part.head.push(Operand::Col(0, 0))
+}
+
+fn add_null_part(alloc: Global, parts: &mut List<Part>) -> Told {
+    let mut part = Part {
+        from: List::new(alloc),
+        conds: List::new(alloc),
+        head: List::new(alloc),
+    };
+    fill_null_part(&mut part)?;
+    parts.push(part)
 }
 
 /// An ON condition sees the sources behind it, and an alias hides its table's name.
@@ -151,82 +222,27 @@ SELECT Name FROM Events x[[2000 ,Users]] => ambiguous
 SELECT x[[6500 ,x]] FROM Users[[6500 ,Users]] => unknown_column
 SELECT z.UId[[4500 ,z.UId]] FROM Users a[[4500 ,Users a]] => unknown_table"#;
 
+const WRITTEN: &str =
+    r#"SELECT t.a FROM T t WHERE b IN (1, ?p) OR c > 'x' => QueryText { selects: List { items: [Select { heads: Items(List { items: [One(Column(Named { qualifier: Some(Str { text: "t" }), column: Str { text: "a" } }))] }), sources: List { items: [Source { table: Str { text: "T" }, alias: Some(Str { text: "t" }) }] }, condition: List { items: [Test(Among { side: Column(Named { qualifier: None, column: Str { text: "b" } }), among: List { items: [Value(Int(1)), Param(Str { text: "p" })] } }), Test(Compare { op: Lt, left: Constant(Value(Text(Str { text: "x" }))), right: Column(Named { qualifier: None, column: Str { text: "c" } }) }), Or] } }] } }"#;
+
+const WORDS: &str =
+    r#"SELECT UId FROM Users WHERE UId = ?MyUId => SELECT t0."UId" FROM "Users" t0 WHERE t0."UId" = ?MyUId"#;
+
+const NULL_TESTS: &str =
+    r#" => SELECT t0."UId" FROM "Users" t0 WHERE t0."Name" IS NULL AND t0."Name" IS NOT NULL"#;
+
 #[test]
-fn read_questions(rt: HostRuntime) -> Result<(), Fail> {
-    let policy = policy(rt.alloc())?;
-    let questions = Questions { policy };
-    all_are_so(&rt, &questions, READ, "")?;
-    all_are_so(&rt, &questions, OTHER_TEXTS, "syntax")?;
-    all_are_so(&rt, &questions, UNSUPPORTED, "")
+fn readings(rt: HostRuntime) -> Result<(), Fail> {
+    all_are_so(&rt, &Questions, READ, "")?;
+    all_are_so(&rt, &Words, WORDS, "")?;
+    all_are_so(&rt, &Written, WRITTEN, "")?;
+    all_are_so(&rt, &NullTests, NULL_TESTS, "")
 }
 
 #[test]
 fn faults_and_limits(rt: HostRuntime) -> Result<(), Fail> {
-    let policy = policy(rt.alloc())?;
-    let questions = Questions { policy };
-    all_are_so(&rt, &questions, FAULTS, "")?;
-    all_are_so(&rt, &questions, LIMITS, "")
-}
-
-/// The words of a view.
-#[test]
-fn words_of_a_query(rt: HostRuntime) -> Result<(), Fail> {
-    let alloc = rt.alloc();
-    let policy = policy(alloc)?;
-    let words = words_of(alloc, "SELECT Title FROM Events WHERE EId = ?MyUId")?;
-    let query = read_words(alloc, &policy.schema, &policy.params, words.as_slice())?;
-    let text = print_query(alloc, &policy.schema, &policy.params, &query)?;
-    let want = r#"SELECT t0."Title" FROM "Events" t0 WHERE t0."EId" = ?MyUId"#;
-    assert_eq!(rt; text.as_str(), want);
-    Ok(())
-}
-
-#[test]
-fn a_written_query(rt: HostRuntime) -> Result<(), Fail> {
-    let words = words_of(
-        rt.alloc(),
-        "SELECT t.a FROM T t WHERE b IN (1, ?p) OR c > 'x'",
-    )?;
-    let written = read_written(rt.alloc(), words.as_slice())?;
-    let text = format!(in rt.alloc(); "{written:?}")?;
-    let want =
-        r#"QueryText { selects: List { items: [Select { heads: Items(List { items: [One(Column(Named { qualifier: Some(Str { text: "t" }), column: Str { text: "a" } }))] }), sources: List { items: [Source { table: Str { text: "T" }, alias: Some(Str { text: "t" }) }] }, condition: List { items: [Test(Among { side: Column(Named { qualifier: None, column: Str { text: "b" } }), among: List { items: [Value(Int(1)), Param(Str { text: "p" })] } }), Test(Compare { op: Lt, left: Constant(Value(Text(Str { text: "x" }))), right: Column(Named { qualifier: None, column: Str { text: "c" } }) }), Or] } }] } }"#;
-    assert_eq!(rt; text.as_str(), want);
-    Ok(())
-}
-
-/// The users whose Name is NULL and isn't, which no text asks for.
-fn null_part(alloc: Global) -> Result<Part, AllocError> {
-    let mut part = Part {
-        from: List::new(alloc),
-        conds: List::new(alloc),
-        head: List::new(alloc),
-    };
-    part.from.push(0)?;
-    for op in [Op::IsNull, Op::NotNull] {
-        let (left, right) = (Operand::Col(0, 1), Operand::Col(0, 1));
-        part.conds.push(Atom { op, left, right })?;
-    }
-    part.head.push(Operand::Col(0, 0))?;
-    Ok(part)
-}
-
-fn null_query(alloc: Global, policy: &Policy) -> Result<String, AllocError> {
-    let mut parts = List::new(alloc);
-    parts.push(null_part(alloc)?)?;
-    let vars = List::new(alloc);
-    match Query::check(&policy.schema, &policy.params, &vars, QueryDraft { parts }) {
-        Ok(query) => print_query(alloc, &policy.schema, &policy.params, &query),
-        Err(_) => Err(AllocError),
-    }
-}
-
-#[test]
-fn tests_for_null(rt: HostRuntime) -> Result<(), Fail> {
-    let policy = policy(rt.alloc())?;
-    let text = null_query(rt.alloc(), &policy)?;
-    let want =
-        r#"SELECT t0."UId" FROM "Users" t0 WHERE t0."Name" IS NULL AND t0."Name" IS NOT NULL"#;
-    assert_eq!(rt; text.as_str(), want);
-    Ok(())
+    all_are_so(&rt, &Questions, OTHER_TEXTS, "syntax")?;
+    all_are_so(&rt, &Questions, UNSUPPORTED, "")?;
+    all_are_so(&rt, &Questions, FAULTS, "")?;
+    all_are_so(&rt, &Questions, LIMITS, "")
 }

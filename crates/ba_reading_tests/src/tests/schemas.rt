@@ -4,6 +4,7 @@
 
 use super::cases::{Reading, Told, all_are_so};
 use super::faults::write_ddl_fault;
+use super::standard::kind_word;
 use ba_model::list::List;
 use ba_model::schema::{Column, Link, Schema, Table};
 use ba_sql_ddl::{DdlError, read_schema};
@@ -11,10 +12,15 @@ use std::alloc::{AllocError, Global};
 use std::fmt::Write;
 use std::test::Fail;
 
+fn write_column(told: &mut String, n: usize, column: &Column) -> Told {
+    told.push_str(if n > 0 { ", " } else { " " })?;
+    told.push_str(column.name.as_str())?;
+    told.push_str(kind_word(column.kind))
+}
+
 fn write_columns(told: &mut String, columns: &[Column]) -> Told {
     for (n, column) in columns.iter().enumerate() {
-        told.push_str(if n > 0 { ", " } else { " " })?;
-        write!(told, "{} {:?}", column.name, column.kind)?;
+        write_column(told, n, column)?;
     }
     told.push_str(" |")
 }
@@ -34,18 +40,24 @@ fn write_keys(told: &mut String, keys: &[List<u32>]) -> Told {
     told.push_str(" |")
 }
 
+fn write_link(told: &mut String, link: &Link) -> Told {
+    let target = link.target;
+    write_numbers(told, link.columns.as_slice())?;
+    write!(told, " > {target}:")?;
+    write_numbers(told, link.target_columns.as_slice())
+}
+
 fn write_links(told: &mut String, links: &[Link]) -> Told {
     for (n, link) in links.iter().enumerate() {
         told.push_str(if n > 0 { "," } else { "" })?;
-        write_numbers(told, link.columns.as_slice())?;
-        write!(told, " > {}:", link.target)?;
-        write_numbers(told, link.target_columns.as_slice())?;
+        write_link(told, link)?;
     }
     told.push_str(";")
 }
 
 fn write_table(told: &mut String, table: &Table) -> Told {
-    write!(told, "{}:", table.name)?;
+    told.push_str(table.name.as_str())?;
+    told.push_str(":")?;
     write_columns(told, table.columns.as_slice())?;
     write_keys(told, table.keys.as_slice())?;
     write_links(told, table.links.as_slice())
@@ -54,8 +66,9 @@ fn write_table(told: &mut String, table: &Table) -> Told {
 /// The tables, or how many there are where that isn't a few.
 fn write_schema(told: &mut String, schema: &Schema) -> Told {
     let tables = schema.tables.as_slice();
-    if tables.len() > 4 {
-        return write!(told, "{} tables", tables.len());
+    let count = tables.len();
+    if count > 4 {
+        return write!(told, "{count} tables");
     }
     for table in tables {
         write_table(told, table)?;
@@ -125,13 +138,13 @@ CREATE TABLE table (a INT NOT NULL);
 CREATE TABLE T (key INT NOT NULL);";
 
 const LIMITS: &str = r#"[[64 CREATE TABLE t# (a INT NOT NULL);]] => 64 tables
-[[65 CREATE TABLE t# (a INT NOT NULL);]] => {"fault":"limit","limit":64,"status":7,"what":"tables"}
+[[65 CREATE TABLE t# (a INT NOT NULL);]] => {"fault":"limit","limit":64,"status":7,"what":"tables"}~
 CREATE TABLE T (a INT NOT NULL[[31 , c# INT NOT NULL]]); => T: a Int[[31 , c# Int]] | |;
-CREATE TABLE T (a INT NOT NULL[[32 , c# INT NOT NULL]]); => {"fault":"limit","limit":32,"status":7,"what":"columns"}
+CREATE TABLE T (a INT NOT NULL[[32 , c# INT NOT NULL]]); => {"fault":"limit","limit":32,"status":7,"what":"columns"}~
 CREATE TABLE T (a INT UNIQUE PRIMARY KEY[[14 , UNIQUE (a)]]); => T: a Int | 0[[15 , 0]] |;
-CREATE TABLE T (a INT UNIQUE PRIMARY KEY[[15 , UNIQUE (a)]]); => {"fault":"limit","limit":16,"status":7,"what":"keys"}
+CREATE TABLE T (a INT UNIQUE PRIMARY KEY[[15 , UNIQUE (a)]]); => {"fault":"limit","limit":16,"status":7,"what":"keys"}~
 CREATE TABLE T (a INT NOT NULL[[16  REFERENCES T (a)]]); => T: a Int | | 0 > 0: 0[[15 , 0 > 0: 0]];
-CREATE TABLE T (a INT NOT NULL[[17  REFERENCES T (a)]]); => {"fault":"limit","limit":16,"status":7,"what":"links"}"#;
+CREATE TABLE T (a INT NOT NULL[[17  REFERENCES T (a)]]); => {"fault":"limit","limit":16,"status":7,"what":"links"}~"#;
 
 #[test]
 fn texts_of_schemas(rt: HostRuntime) -> Result<(), Fail> {
@@ -144,8 +157,8 @@ fn texts_of_schemas(rt: HostRuntime) -> Result<(), Fail> {
 /// They take time that their length bounds.
 const LONG_TEXTS: &str =
     r#"CREATE TABLE t (a INT);[[16383 ---------------------------------------------------------------~]]----------------------------------------~ => nullable t a
-[[16384 ---------------------------------------------------------------~]]  => {"fault":"limit","limit":1048576,"status":7,"what":"bytes"}
-[[9000 CREATE TABLE t#(a INT NOT NULL REFERENCES t9(a));]] => {"fault":"limit","limit":64,"status":7,"what":"tables"}
+[[16384 ---------------------------------------------------------------~]]  => {"fault":"limit","limit":1048576,"status":7,"what":"bytes"}~
+[[9000 CREATE TABLE t#(a INT NOT NULL REFERENCES t9(a));]] => {"fault":"limit","limit":64,"status":7,"what":"tables"}~
 CREATE TABLE T ([[9000 c# INT NOT NULL UNIQUE,]]PRIMARY KEY ([[9000 c#,]]c9000)); => unknown_column"#;
 
 #[test]

@@ -1,12 +1,9 @@
 //! Lines of scripts, and scripts.
 
-use super::cases::{Reading, Told, all_are_so, bytes_of};
+use super::cases::{Reading, Told, all_are_so, bytes_of, write_value};
 use super::faults::write_script_fault;
-use ba_model::list::List;
-use ba_model::policy::{Context, Parameter};
-use ba_model::value::Value;
-use ba_policy::read_policy;
-use ba_sql_ddl::read_schema;
+use super::standard::policy_of;
+use ba_model::policy::Context;
 use ba_wire::entry::{ScriptEntry, ScriptError};
 use ba_wire::read::read_script;
 use ba_wire::script::{Given, LineError, LineReason, Member, ScriptLine, read_line};
@@ -14,12 +11,21 @@ use std::alloc::{AllocError, Global};
 use std::fmt::Write;
 use std::test::Fail;
 
-fn write_member(told: &mut String, member: &Member) -> Told {
-    match &member.value {
-        Given::Int(n) => write!(told, " {}={n}", member.name),
-        Given::Text(text) => write!(told, " {}='{text}'", member.name),
-        Given::Other => write!(told, " {}?", member.name),
+fn write_given(told: &mut String, given: &Given) -> Told {
+    match given {
+        Given::Int(n) => write!(told, "={n}"),
+        Given::Text(text) => {
+            told.push_str("=")?;
+            told.push_str(text.as_str())
+        }
+        Given::Other => told.push_str("?"),
     }
+}
+
+fn write_member(told: &mut String, member: &Member) -> Told {
+    told.push_str(" ")?;
+    told.push_str(member.name.as_str())?;
+    write_given(told, &member.value)
 }
 
 fn write_members(told: &mut String, members: &[Member]) -> Told {
@@ -62,7 +68,7 @@ const LINES: &str = r#"{"begin":"r1","context":{"MyUId":2}} => begin r1 MyUId=2
 {"begin":"r","context":{"a":9223372036854775808,"b":1e400000}} => json
 {"begin":"r","context":{"a":0,"b":-0,"c":1.0,"d":1e2}} => begin r a=0 b? c? d?
 {"begin":"r","context":{"a":null,"b":true,"c":[1],"d":{"e":1}}} => begin r a? b? c? d?
-{"begin":"r","context":{"a":"x","":"\u0041","a":3}} => begin r ='A' a=3
+{"begin":"r","context":{"a":"x","":"\u0041","a":3}} => begin r =A a=3
  => json
 {"end":"r1" => json
 {"end":"r1"} x => json
@@ -86,11 +92,7 @@ fn forms_of_lines(rt: HostRuntime) -> Result<(), Fail> {
 
 fn write_context(told: &mut String, context: &Context) -> Told {
     for value in context.values.as_slice() {
-        match value {
-            Value::Null => told.push_str(" NULL")?,
-            Value::Int(n) => write!(told, " {n}")?,
-            Value::Text(text) => write!(told, " '{text}'")?,
-        }
+        write_value(told, value)?;
     }
     told.push_str(";")
 }
@@ -125,22 +127,6 @@ fn write_entries(told: &mut String, entries: &[ScriptEntry]) -> Told {
     Ok(())
 }
 
-/// Scripts for a text `?Name` and a number `?MyUId`.
-#[derive(Drop)]
-struct Scripts {
-    params: List<Parameter>,
-}
-
-impl Scripts {
-    fn new(alloc: Global) -> Result<Scripts, AllocError> {
-        let schema = read_schema(alloc, b"").map_err(|_| AllocError)?;
-        let text = b"PARAM Name TEXT; PARAM MyUId INT;";
-        let policy = read_policy(alloc, &schema, text).map_err(|_| AllocError)?;
-        let params = policy.params;
-        Ok(Scripts { params })
-    }
-}
-
 /// The script with lines for the letters that stand before a `.` at its front: B begins r1 and C r2,
 /// A and F ask in them, and E ends r1.
 fn with_lines(alloc: Global, text: &str) -> Result<String, AllocError> {
@@ -163,11 +149,15 @@ fn line_of(letter: char) -> &'static str {
     }
 }
 
+/// Scripts for a text `?Name` and a number `?MyUId`.
+struct Scripts;
+
 impl Reading for Scripts {
     fn tell(&self, alloc: Global, text: &str, told: &mut String) -> Told {
         let text = with_lines(alloc, text)?;
         let bytes = bytes_of(alloc, text.as_str())?;
-        match read_script(alloc, &self.params, bytes.as_slice()) {
+        let policy = policy_of(alloc, "", "PARAM Name TEXT; PARAM MyUId INT;")?;
+        match read_script(alloc, &policy.params, bytes.as_slice()) {
             Ok(script) => write_entries(told, script.entries.as_slice()),
             Err(ScriptError::NoMemory) => Err(AllocError),
             Err(ScriptError::Fault(fault)) => write_script_fault(alloc, fault, told),
@@ -205,28 +195,26 @@ BE.~{"end":"r1"} => line 3 json"#;
 
 /// What is too much is told after the line's own faults.
 const LIMITS: &str = r#"B[[256 A]]. => 257 entries
-B[[257 A]].{ => {"fault":"limit","limit":256,"status":7,"what":"asks"}
+B[[257 A]].{ => {"fault":"limit","limit":256,"status":7,"what":"asks"}~
 B[[256 A]].{ => line 258 json
 B[[256 A]]F. => line 258 unbegun
 B[[256 A]].{"ask":"r1","query":1} => line 258 shape
 B[[256 A]]EB[[256 A]]. => 515 entries
 BC[[256 AF]]. => 514 entries
-BC[[256 AF]]F. => {"fault":"limit","limit":256,"status":7,"what":"asks"}
+BC[[256 AF]]F. => {"fault":"limit","limit":256,"status":7,"what":"asks"}~
 [[8192 BE]]. => 16384 entries
-[[8192 BE]]B. => {"fault":"limit","limit":8192,"status":7,"what":"requests"}
+[[8192 BE]]B. => {"fault":"limit","limit":8192,"status":7,"what":"requests"}~
 [[8192 BE]].{"begin":"r1","context":{}} => line 16385 context
 [[65536 ~]] => line 1 json
-[[65536 ~]]{ => {"fault":"limit","limit":65536,"status":7,"what":"lines"}"#;
+[[65536 ~]]{ => {"fault":"limit","limit":65536,"status":7,"what":"lines"}~"#;
 
 #[test]
 fn whole_scripts(rt: HostRuntime) -> Result<(), Fail> {
-    let scripts = Scripts::new(rt.alloc())?;
-    all_are_so(&rt, &scripts, SCRIPTS, "")?;
-    all_are_so(&rt, &scripts, FAULTS, "")
+    all_are_so(&rt, &Scripts, SCRIPTS, "")?;
+    all_are_so(&rt, &Scripts, FAULTS, "")
 }
 
 #[test]
 fn limits_of_scripts(rt: HostRuntime) -> Result<(), Fail> {
-    let scripts = Scripts::new(rt.alloc())?;
-    all_are_so(&rt, &scripts, LIMITS, "")
+    all_are_so(&rt, &Scripts, LIMITS, "")
 }

@@ -1,7 +1,7 @@
 //! The schema and the policy of most cases.
 
 use ba_model::policy::Policy;
-use ba_model::schema::Schema;
+use ba_model::schema::{Kind, Schema};
 use ba_policy::read_policy;
 use ba_sql_ddl::read_schema;
 use std::alloc::{AllocError, Global};
@@ -20,11 +20,32 @@ CREATE VIEW V2 AS SELECT UId, EId, At FROM Attendances WHERE UId = ?MyUId;
 CREATE VIEW V3 AS SELECT e.EId, e.Title, e.Duration FROM Events e
   JOIN Attendances a ON a.EId = e.EId WHERE a.UId = ?MyUId OR At IN (1, 2);";
 
+pub(super) fn schema_of(alloc: Global, text: &str) -> Result<Schema, AllocError> {
+    match read_schema(alloc, text.as_bytes()) {
+        Ok(schema) => Ok(schema),
+        Err(_) => Err(AllocError),
+    }
+}
+
+pub(super) fn policy_of(alloc: Global, schema: &str, text: &str) -> Result<Policy, AllocError> {
+    let schema = schema_of(alloc, schema)?;
+    match read_policy(alloc, &schema, text.as_bytes()) {
+        Ok(policy) => Ok(policy),
+        Err(_) => Err(AllocError),
+    }
+}
+
 pub(super) fn schema(alloc: Global) -> Result<Schema, AllocError> {
-    read_schema(alloc, SCHEMA.as_bytes()).map_err(|_| AllocError)
+    schema_of(alloc, SCHEMA)
 }
 
 pub(super) fn policy(alloc: Global) -> Result<Policy, AllocError> {
-    let schema = schema(alloc)?;
-    read_policy(alloc, &schema, POLICY.as_bytes()).map_err(|_| AllocError)
+    policy_of(alloc, SCHEMA, POLICY)
+}
+
+pub(super) fn kind_word(kind: Kind) -> &'static str {
+    match kind {
+        Kind::Int => " Int",
+        Kind::Text => " Text",
+    }
 }

@@ -2,6 +2,7 @@
 
 use super::cases::{Reading, Told, all_are_so};
 use super::faults::write_broken;
+use super::standard::schema_of;
 use ba_model::list::List;
 use ba_model::value::{Row, RowSet, Value};
 use ba_sql_ddl::read_schema;
@@ -72,23 +73,28 @@ fn keys_and_links(rt: HostRuntime) -> Result<(), Fail> {
     all_are_so(&rt, &Rows, ROWS, "")
 }
 
-/// Two rows of NULL and 1, and one of `last` and 1.
-fn rows_with_null(alloc: Global, last: i64) -> Result<List<Row>, AllocError> {
-    let mut rows = List::new(alloc);
-    for first in [Value::Null, Value::Null, Value::Int(last)] {
-        let row = vec![in alloc; first, Value::Int(1)]?;
-        rows.push(List::from_vec(row))?;
-    }
-    Ok(rows)
+/// Adds a row of this value and 1.
+fn add_row(alloc: Global, rows: &mut List<Row>, value: Value) -> Told {
+    let mut row = List::new(alloc);
+    row.push(value)?;
+    row.push(Value::Int(1))?;
+    rows.push(row)
 }
 
+fn add_rows(alloc: Global, rows: &mut List<Row>, last: i64) -> Told {
+    add_row(alloc, rows, Value::Null)?;
+    add_row(alloc, rows, Value::Null)?;
+    add_row(alloc, rows, Value::Int(last))
+}
+
+/// What is broken in two rows of NULL and 1, and one of `last` and 1.
 fn broken(alloc: Global, last: i64) -> Result<Option<TablesFault>, AllocError> {
-    let text = b"CREATE TABLE T (A INT NOT NULL UNIQUE REFERENCES T (B), B INT NOT NULL);";
-    let schema = read_schema(alloc, text).map_err(|_| AllocError)?;
-    let mut rows = RowSet {
-        tables: List::new(alloc),
-    };
-    rows.tables.push(rows_with_null(alloc, last)?)?;
+    let text = "CREATE TABLE T (A INT NOT NULL UNIQUE REFERENCES T (B), B INT NOT NULL);";
+    let schema = schema_of(alloc, text)?;
+    let mut rows = List::new(alloc);
+    add_rows(alloc, &mut rows, last)?;
+    let tables = List::from_vec(vec![in alloc; rows]?);
+    let rows = RowSet { tables };
     if schema.tables.len() != rows.tables.len() {
         return Err(AllocError);
     }

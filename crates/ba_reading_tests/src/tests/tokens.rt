@@ -4,17 +4,23 @@ use super::cases::{Reading, Told, all_are_so, bytes_of};
 use super::faults::write_lex_fault;
 use ba_lex::{LexError, Lexeme, Token, tokens, tokens_of_bytes};
 use ba_model::list::List;
+use ba_model::text::Str;
 use std::alloc::{AllocError, Global};
 use std::fmt::Write;
 use std::test::Fail;
 
+fn write_marked(told: &mut String, mark: &str, text: &Str) -> Told {
+    told.push_str(mark)?;
+    told.push_str(text.as_str())
+}
+
 fn write_lexeme(told: &mut String, lexeme: &Lexeme) -> Told {
     match lexeme {
-        Lexeme::Word(word) => write!(told, "{word}"),
-        Lexeme::Quoted(name) => write!(told, "name:{name}"),
+        Lexeme::Word(word) => write_marked(told, "", word),
+        Lexeme::Quoted(name) => write_marked(told, "name:", name),
         Lexeme::Number(n) => write!(told, "{n}"),
-        Lexeme::Text(text) => write!(told, "text:{text}"),
-        Lexeme::Param(name) => write!(told, "?{name}"),
+        Lexeme::Text(text) => write_marked(told, "text:", text),
+        Lexeme::Param(name) => write_marked(told, "?", name),
         Lexeme::Sign(sign) => write!(told, "{sign:?}"),
     }
 }
@@ -58,6 +64,18 @@ impl Reading for OfFile {
     }
 }
 
+/// The tokens of a text and their places.
+struct Places;
+
+impl Reading for Places {
+    fn tell(&self, alloc: Global, text: &str, told: &mut String) -> Told {
+        write!(told, "{:?}", tokens(alloc, text, 80))
+    }
+}
+
+const PLACES: &str =
+    r#" a = 'b' => Ok(List { items: [Token { lexeme: Word(Str { text: "a" }), start: 1, end: 2 }, Token { lexeme: Sign(Equal), start: 3, end: 4 }, Token { lexeme: Text(Str { text: "b" }), start: 5, end: 8 }] })"#;
+
 const TEXTS: &str =
     r##"Select "a b",`c`.* FROM Tab2 => Select name:a b Comma name:c Dot Star FROM Tab2
 FROM Tab2--, 'x~WHERE _a<>-5-- => FROM Tab2 WHERE _a NotEqual -5
@@ -85,15 +103,6 @@ fn tokens_of_texts(rt: HostRuntime) -> Result<(), Fail> {
 'abc @ => bad_byte
 'abcdef @ => too_long";
     all_are_so(&rt, &OfFile, files, "")?;
+    all_are_so(&rt, &Places, PLACES, "")?;
     all_are_so(&rt, &OfText, TEXTS, "")
-}
-
-#[test]
-fn places_of_tokens(rt: HostRuntime) -> Result<(), Fail> {
-    let found = tokens(rt.alloc(), " a = 'b'", 8)?;
-    let list = found.as_slice();
-    assert_eq!(rt; list.len(), 3);
-    assert_eq!(rt; (list[0].start, list[0].end), (1, 2));
-    assert_eq!(rt; (list[2].start, list[2].end), (5, 8));
-    Ok(())
 }
