@@ -1,12 +1,12 @@
 //! Whether a problem fits, so that a search may start from it.
 ghost use Rattle.std.specs.Prelude.{◌≡◌, ◌≢◌, ◌↔◌, ◌++◌, List, [], All, IfOk, IsTrue, OnOk, None, Some, map, slice_get};
 ghost use Rattle.std.specs.List.{AllZip};
-ghost use Rattle.ba_model.specs.Fit.{AtomFits, OpFits, PolicyFits, QueryFits, kind_of, kinds_of};
+ghost use Rattle.ba_model.specs.Fit.{AtomFits, IsQuery, OpFits, kind_of, kinds_of};
 ghost use Rattle.ba_model.specs.declared.schema.Kind.{Kind};
 ghost use Rattle.ba_model.specs.declared.schema.Table.{Table};
 ghost use Rattle.ba_model.specs.declared.query.Operand.TheVariants.{Val};
 ghost use Rattle.ba_model.specs.declared.value.Value.TheVariants.{Null};
-ghost use Rattle.ba_kernel.specs.Courses.{EntryFits, IsWithin, LinkFits, ProblemFits, RowOperandFits, RuleFits};
+ghost use Rattle.ba_kernel.specs.Courses.{EntryFits, LinkFits, LinksFit, ProblemFits, RowOperandFits, RuleFits, ViewsFit};
 
 use ba_kernel::problem::{Problem, ProblemEntry};
 use ba_model::check_query::{QueryDraft, operand_kind};
@@ -70,7 +70,7 @@ fn table_fits(schema: &Schema, table: &Table) -> bool
 }
 
 fn links_fit(schema: &Schema) -> bool
-    ensures { IsTrue result ↔ All (λ (table : Table). All (LinkFits schema.now) table.links) schema.now.tables }
+    ensures { IsTrue result ↔ LinksFit schema.now }
 {
     schema
         .tables
@@ -89,8 +89,7 @@ fn query_fits(
     vars: &List<Kind>,
     query: &Query,
 ) -> Result<(), AllocError>
-    ensures fits { OnOk result (QueryFits schema.now (kinds_of params.now) vars.now query.now) }
-    ensures within { OnOk result (IsWithin query.now) }
+    ensures { OnOk result (IsQuery schema.now (kinds_of params.now) vars.now query.now) }
 {
     let draft = QueryDraft {
         parts: query.parts.copy(alloc)?,
@@ -102,8 +101,7 @@ fn query_fits(
 }
 
 fn view_fits(alloc: Global, policy: &Policy, view: &View) -> Result<(), AllocError>
-    ensures fits { OnOk result (QueryFits policy.now.schema (kinds_of policy.now.params) [] view.now.query) }
-    ensures within { OnOk result (IsWithin view.now.query) }
+    ensures { OnOk result (IsQuery policy.now.schema (kinds_of policy.now.params) [] view.now.query) }
 {
     query_fits(
         alloc,
@@ -115,8 +113,7 @@ fn view_fits(alloc: Global, policy: &Policy, view: &View) -> Result<(), AllocErr
 }
 
 fn views_fit(alloc: Global, policy: &Policy) -> Result<(), AllocError>
-    ensures fits { OnOk result (PolicyFits policy.now) }
-    ensures within { OnOk result (All (λ view. IsWithin view.query) policy.now.views) }
+    ensures { OnOk result (ViewsFit policy.now) }
 {
     for view in policy.views.as_slice() {
         view_fits(alloc, policy, view)?;

@@ -81,20 +81,13 @@ fn write_slot(text: &mut String, branch: Option<&Branch>) -> Result<(), AllocErr
     }
 }
 
-fn branch(search: &Search, number: u64) -> Option<&Branch> {
-    match u32::try_from(number) {
-        Ok(n) => search.branch(n),
-        Err(_) => None,
-    }
-}
-
 /// How many steps were taken, and the branches.
 fn write_search(text: &mut String, search: &Search) -> Result<(), AllocError> {
     let steps = search.steps().len();
     write!(text, "{steps}")?;
     for n in 0..search.branches() {
         text.push_str("\n")?;
-        write_slot(text, branch(search, n))?;
+        write_slot(text, search.branch(n))?;
     }
     Ok(())
 }
