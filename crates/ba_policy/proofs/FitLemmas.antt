@@ -74,11 +74,14 @@ module _ (s : Schema) (ps more vars : List Kind) where
   }
 
 abbrev Fits : Schema → List Kind → View → Type 0
-Fits s ps it = QueryFits s ps [] it.query
+Fits s ps it = IsQuery s ps [] it.query
+
+checked_more : (s : Schema) (ps more : List Kind) (q : Query) → IsQuery s ps [] q → IsQuery s (ps ++ more) [] q
+checked_more s ps more q h = record { fits = query_more s ps more [] q h.fits; few_parts = h.few_parts; within = h.within }
 
 views_more : (s : Schema) (ps more : List Kind) (vs : List View) → AllByRecursion (Fits s ps) vs → AllByRecursion (Fits s (ps ++ more)) vs
 views_more s ps more [] h = tt
-views_more s ps more (v ∷ vs) h = (query_more s ps more [] v.query h.0, views_more s ps more vs h.1)
+views_more s ps more (v ∷ vs) h = (checked_more s ps more v.query h.0, views_more s ps more vs h.1)
 
 param_fits : (s : Schema) (d : Draft) (name : List ℕ) (kind : Kind) → DraftFits s d → DraftFits s (with_param d name kind)
 param_fits s d name kind h =
@@ -99,8 +102,8 @@ put : {A : Type 0} (P : A → Type 0) (xs : List A) (x : A) → AllByRecursion P
 put P [] x h p = (p, tt)
 put P (y ∷ ys) x h p = (h.0, put P ys x h.1 p)
 
-pub view_fits : (s : Schema) (params : List Parameter) (views : List View) (v : View) → All (λ it. QueryFits s (kinds_of params) [] it.query) views → IsQuery s (kinds_of params) [] v.query → All (λ it. QueryFits s (kinds_of params) [] it.query) (views ++ v ∷ [])
-view_fits s params views v h q = All-from_recursion (Fits s (kinds_of params)) (views ++ v ∷ []) (put (Fits s (kinds_of params)) views v (recursion_from_All (Fits s (kinds_of params)) views h) q.fits)
+pub view_fits : (s : Schema) (params : List Parameter) (views : List View) (v : View) → All (λ it. IsQuery s (kinds_of params) [] it.query) views → IsQuery s (kinds_of params) [] v.query → All (λ it. IsQuery s (kinds_of params) [] it.query) (views ++ v ∷ [])
+view_fits s params views v h q = All-from_recursion (Fits s (kinds_of params)) (views ++ v ∷ []) (put (Fits s (kinds_of params)) views v (recursion_from_All (Fits s (kinds_of params)) views h) q)
 
 pub param_given : (s : Schema) (d : Draft) (name : List ℕ) (kind : Kind) (r : Result Draft PolicyError) → Gives r (param_added d name kind) → DraftFits s d → IfOk r (DraftFits s)
 param_given s d name kind (Ok e) h fits = added_param_fits s d e name kind h fits

@@ -2,7 +2,7 @@
 use Rattle.std.proofs.Common.{◌≡◌, ℕ, ◌+◌, ◌<◌, ◌≤◌, List, [], ◌∷◌, length, drop, get_or, map, Result, Ok, sym, ap, ◌∙◌}
 use Rattle.std.proofs.lemmas.List.{drop_all, drop_more}
 use Rattle.std.proofs.lemmas.List.Elements.{All-nil}
-use Rattle.ba_model.specs.Fit.{QueryFits, kinds_of}
+use Rattle.ba_model.specs.Fit.{IsQuery, kinds_of}
 use Rattle.ba_model.specs.declared.schema.Schema.{Schema}
 use Rattle.ba_policy.specs.Faults.{◌>>=◌, Fails}
 use Rattle.ba_policy.specs.Meaning.{DraftFits, added, all_added, nothing}
@@ -18,7 +18,7 @@ pub record Adding (schema : Schema) (d : Draft) (statements : List Statement) (i
   pub fits : DraftFits schema d
 
 pub adding_start : (schema : Schema) (d : Draft) (statements : List Statement) → d ≡ nothing → Adding schema d statements 0
-adding_start schema d statements e = record { so_far = ap (λ (x : Draft). all_added schema x (map seen statements)) e; fits = rw e (record { views = All-nil (λ it. QueryFits schema (kinds_of []) [] it.query) }) }
+adding_start schema d statements e = record { so_far = ap (λ (x : Draft). all_added schema x (map seen statements)) e; fits = rw e (record { views = All-nil (λ it. IsQuery schema (kinds_of []) [] it.query) }) }
 
 split : (schema : Schema) (d : Draft) (statements : List Statement) (i : ℕ) (s : Statement) → i < length statements → s ≡ get_or statements i s
     → all_added schema d (map seen (drop i statements)) ≡ (added schema d (seen s) >>= λ e. all_added schema e (map seen (drop (i + 1) statements)))

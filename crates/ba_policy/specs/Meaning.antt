@@ -3,7 +3,7 @@ use Rattle.std.specs.Prelude.{ℕ, Bool, nat_eq, nat_lt, List, [], ◌∷◌, �
 use Rattle.std.specs.Cmp.Lexicographic.{pointwise}
 use Rattle.std.specs.List.{list_any}
 use Rattle.ba_lex.specs.declared.token.Lexeme.{Lexeme}
-use Rattle.ba_model.specs.Fit.{QueryFits, kinds_of}
+use Rattle.ba_model.specs.Fit.{IsQuery, kinds_of}
 use Rattle.ba_model.specs.declared.policy.Parameter.{Parameter}
 use Rattle.ba_model.specs.declared.policy.Policy.{Policy}
 use Rattle.ba_model.specs.declared.query.Query.{Query}
@@ -60,6 +60,10 @@ finished schema d =
     else (if nat_lt 16 (length d.params) then Err (TooMany Params 16)
     else Ok (record { schema = schema; params = d.params; views = d.views }))
 
--- the queries so far fit the schema and the parameters so far
+-- the queries so far fit the schema and the parameters so far, and are within the limits
 pub record DraftFits (schema : Schema) (d : Draft) : Type 0 where
-  pub views : All (λ it. QueryFits schema (kinds_of d.params) [] it.query) d.views
+  pub views : All (λ it. IsQuery schema (kinds_of d.params) [] it.query) d.views
+
+-- each view fits the policy's schema and parameters, has no variables, and is within the limits
+abbrev pub ViewsAreQueries : Policy → Type 0
+ViewsAreQueries policy = All (λ view. IsQuery policy.schema (kinds_of policy.params) [] view.query) policy.views

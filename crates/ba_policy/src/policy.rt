@@ -3,7 +3,7 @@ ghost use Rattle.std.specs.Prelude.{◌≡◌, ◌≤◌, IfOk, length};
 ghost use Rattle.ba_lex.specs.Tokens.{file_tokens_of};
 ghost use Rattle.ba_model.specs.Fit.{PolicyFits};
 ghost use Rattle.ba_policy.specs.Faults.{Gives};
-ghost use Rattle.ba_policy.specs.Meaning.{all_added, finished, nothing};
+ghost use Rattle.ba_policy.specs.Meaning.{ViewsAreQueries, all_added, finished, nothing};
 ghost use Rattle.ba_policy.specs.Reading.{policy_of, policy_of_statements, words_of};
 
 use crate::draft::{draft_of, finish};
@@ -44,6 +44,7 @@ fn words_of(alloc: Global, bytes: &[u8]) -> Result<List<Lexeme>, PolicyError>
 pub fn read_policy(alloc: Global, schema: &Schema, bytes: &[u8]) -> Result<Policy, PolicyError>
     ensures exact { Gives result (policy_of schema.now bytes.now) }
     ensures same { IfOk result (λ policy. policy.schema ≡ schema.now) }
+    ensures queries { IfOk result ViewsAreQueries }
     ensures fits { IfOk result PolicyFits }
     ensures views { IfOk result (λ policy. length policy.views ≤ 128) }
     ensures params { IfOk result (λ policy. length policy.params ≤ 16) }
