@@ -1,11 +1,13 @@
 //! A turn over numbered versions, between threads.
 mod calls;
+mod methods;
 mod threads;
 mod versions;
 mod waiting;
 
 use ba_turn::Turn;
 use calls::call;
+use methods::publish_next;
 use std::thread;
 use threads::by_two;
 use versions::Versions;
@@ -53,4 +55,15 @@ fn four_threads(rt: HostRuntime) {
     let (versions, numbers) = turn.close(first);
     assert!(rt; pinned == 6 && versions.count == 6);
     assert!(rt; versions.history.len() == 9 && numbers.last() == Some(&0));
+}
+
+#[test]
+fn calls_by_a_method(rt: HostRuntime) {
+    let opened = Turn::new(rt.alloc(), Versions::new(rt.alloc()), 2);
+    let (turn, mut first) = opened.expect(&rt, "memory");
+    let one = publish_next(&rt, &turn, &mut first);
+    let two = publish_next(&rt, &turn, &mut first);
+    let (versions, numbers) = turn.close(first);
+    assert!(rt; one == 1 && two == 2 && versions.count == 2);
+    assert_eq!(rt; numbers.as_slice(), [0, 0].as_slice());
 }
