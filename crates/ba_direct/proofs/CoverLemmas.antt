@@ -8,7 +8,7 @@ use Rattle.ba_comply.specs.Comply.{AnswerWithin, Within}
 use Rattle.ba_model.proofs.ElementLemmas.{Contains-cases, Contains-nil, Contains-head, Contains-later}
 use Rattle.ba_model.proofs.FitLemmas.{has_value}
 use Rattle.ba_model.specs.Conform.{Conforms}
-use Rattle.ba_model.specs.Fit.{PolicyFits, ContextFits, PartFits, QueryFits, kind_of, kinds_of}
+use Rattle.ba_model.specs.Fit.{PolicyFits, IsQuery, ContextFits, PartFits, QueryFits, kind_of, kinds_of}
 use Rattle.ba_model.specs.Meaning.{Compares, Gives, Holds, InPart, IsChoice, value_of}
 use Rattle.ba_model.specs.declared.policy.Context.{Context}
 use Rattle.ba_model.specs.declared.policy.Policy.{Policy}
@@ -188,7 +188,7 @@ part_by_cover : (policy : Policy) (c : Context) (part : Part) (cover : PartCover
 part_by_cover policy c part cover fits context covers d e conforms within =
     let view = covers.view in
     let listed : Contains policy.views view = Contains-from_slice_get policy.views cover.view view covers.view_is in
-    let fit : QueryFits policy.schema (kinds_of policy.params) [] view.query = All-contains (λ view. QueryFits policy.schema (kinds_of policy.params) [] view.query) policy.views view fits listed in
+    let fit : QueryFits policy.schema (kinds_of policy.params) [] view.query = (All-contains (λ view. IsQuery policy.schema (kinds_of policy.params) [] view.query) policy.views view fits.views listed).fits in
     let there : Contains view.query.parts covers.part = subst (λ ps. Contains ps covers.part) (sym covers.part_is) (Contains-head covers.part []) in
     let part_fits : PartFits policy.schema (kinds_of policy.params) [] fit.kinds covers.part = All-contains (PartFits policy.schema (kinds_of policy.params) [] fit.kinds) view.query.parts covers.part fit.parts there in
     let rows : AnswerWithin view.query c d e = All-contains (λ view. AnswerWithin view.query c d e) policy.views view within.views listed in

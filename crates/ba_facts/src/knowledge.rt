@@ -2,7 +2,7 @@ ghost use Rattle.std.specs.Prelude.{◌≡◌, ◌∷◌, ◌++◌, ◌↔◌, �
 ghost use Rattle.ba_facts.specs.Known.{Chain, DifferentLiterals, OneClass, ShownGap, ShownNotNull, ShownNull, seen};
 ghost use Rattle.ba_facts.specs.Knowing.{IsThere, LessonIsThere, IsClashing, IsRising, sort_of};
 
-use crate::shared::Shared;
+use ba_model::shared::Shared;
 use crate::term::{Lesson, Sort, TermRef};
 use crate::web::Web;
 use ba_model::same::Duplicate;

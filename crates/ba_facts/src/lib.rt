@@ -17,7 +17,6 @@ mod matches;
 mod names;
 mod rises;
 mod same;
-pub mod shared;
 mod shared_order;
 mod shown;
 pub mod term;

@@ -215,7 +215,7 @@ question_is_problem policy c trace q h =
     record {
       links = checked_links_fit policy.schema h.tables;
       rules = h.rules;
-      views = h.views;
+      policy = h.policy_fits;
       goal = h.asked;
       entries = records_fit policy c trace q trace h.trace_fits;
       assumed = params_fit policy.schema (kinds_of policy.params) (kinds_of policy.params) c.values 0

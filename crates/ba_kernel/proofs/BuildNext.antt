@@ -156,7 +156,7 @@ module _ (p : Problem) (b : Branch) (fits : ProblemFits p) (tidy : IsTidy p b) w
       (passes : ViewPasses p b view part facts) where
     view_fits : QueryFits p.policy.schema (kinds_of p.policy.params) [] it.query
     view_fits =
-        (All-at (λ (v : View). IsQuery p.policy.schema (kinds_of p.policy.params) [] v.query) p.policy.views view it fits.views at_view).fits
+        (All-at (λ (v : View). IsQuery p.policy.schema (kinds_of p.policy.params) [] v.query) p.policy.views view it (fits.policy).views at_view).fits
 
     part_fits : PartFits p.policy.schema (kinds_of p.policy.params) [] view_fits.kinds of
     part_fits = All-at (PartFits p.policy.schema (kinds_of p.policy.params) [] view_fits.kinds) it.query.parts part of view_fits.parts at_part

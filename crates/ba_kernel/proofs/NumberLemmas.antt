@@ -30,7 +30,7 @@ leads_few p fits b (steps.Rule branch rule part facts) cases leads =
     let same = zip_length (IsCase p.policy.schema b leads.side (1 + round_of b facts) leads.row) leads.it.right.parts cases leads.cases_are in
     omega (arith, few, same)
 leads_few p fits b (steps.View branch view part facts) cases leads =
-    let it = All-at (λ (v : View). IsQuery p.policy.schema (kinds_of p.policy.params) [] v.query) p.policy.views view leads.it fits.views leads.view_is in
+    let it = All-at (λ (v : View). IsQuery p.policy.schema (kinds_of p.policy.params) [] v.query) p.policy.views view leads.it (fits.policy).views leads.view_is in
     let few : length leads.it.query.parts ≤ 32 = it.few_parts in
     let same = zip_length (IsCase p.policy.schema b Two (1 + round_of b facts) leads.row) leads.it.query.parts cases leads.cases_are in
     omega (arith, few, same)

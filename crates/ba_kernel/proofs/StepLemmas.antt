@@ -95,7 +95,7 @@ module _ (keeps : CaseKeepsFit) (p : Problem) (i : Instance) (trace : List Trace
       let s = p.policy.schema in
       let params = kinds_of p.policy.params in
       let parts = leads.it.query.parts in
-      let query = (All-at (λ view. IsQuery s params [] view.query) p.policy.views view leads.it problem.views leads.view_is).fits in
+      let query = (All-at (λ view. IsQuery s params [] view.query) p.policy.views view leads.it (problem.policy).views leads.view_is).fits in
       let fits = All-at (PartFits s params [] query.kinds) parts part leads.of query.parts leads.part_is in
       let given = yields_true p i b One query.kinds leads.of facts leads.row d e r values instance fit
       (part_stays s params [] params p.vars (extends_itself params) (extends_nothing p.vars) query.kinds leads.of fits) leads.yields in

@@ -172,7 +172,7 @@ module _ (p : Problem) where
         let it = All-at (RuleFits s) s.rules rule leads.it fits.rules leads.rule_is in
         cases_tidy leads.side (1 + round_of b facts) b leads.row leads.it.right.parts cases (tables_of [] [] leads.it.right it.right.fits) h leads.cases_are
     leads_tidy b (steps.View branch view part facts) cases h leads =
-        let it = All-at (λ (v : View). IsQuery s (kinds_of p.policy.params) [] v.query) p.policy.views view leads.it fits.views leads.view_is in
+        let it = All-at (λ (v : View). IsQuery s (kinds_of p.policy.params) [] v.query) p.policy.views view leads.it (fits.policy).views leads.view_is in
         cases_tidy Two (1 + round_of b facts) b leads.row leads.it.query.parts cases (tables_of (kinds_of p.policy.params) [] leads.it.query it.fits) h leads.cases_are
     leads_tidy b (steps.Split branch atom) cases h leads =
         subst (All (IsTidy p)) (sym leads.cases_are)

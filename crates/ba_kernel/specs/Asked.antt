@@ -2,7 +2,7 @@
 use Rattle.std.specs.Prelude.{◌≡◌, ◌⊎◌, List, [], All}
 use Rattle.std.specs.List.{AllZip}
 use Rattle.ba_model.specs.Conform.{Conforms, IsOfKind}
-use Rattle.ba_model.specs.Fit.{ContextFits, IsQuery, kinds_of}
+use Rattle.ba_model.specs.Fit.{ContextFits, IsQuery, PolicyFits, kinds_of}
 use Rattle.ba_model.specs.Meaning.{InAnswer}
 use Rattle.ba_model.specs.SchemaFaults.{AreTables}
 use Rattle.ba_model.specs.declared.policy.Context.{Context}
@@ -14,7 +14,7 @@ use Rattle.ba_model.specs.declared.value.RowSet.{RowSet}
 use Rattle.ba_model.specs.declared.value.Value.{Value}
 use Rattle.ba_model.specs.declared.value.Value.TheVariants.{Null}
 use Rattle.ba_comply.specs.declared.trace.TraceEntry.{TraceEntry}
-use Rattle.ba_kernel.specs.Courses.{LinksFit, ProblemFits, RuleFits, ViewsFit}
+use Rattle.ba_kernel.specs.Courses.{LinksFit, ProblemFits, RuleFits}
 use Rattle.ba_kernel.specs.Problems.{problem_of}
 
 -- the value is of the kind, or NULL
@@ -30,7 +30,7 @@ pub record RecordFits (policy : Policy) (it : TraceEntry) : Type 0 where
 pub record QuestionFits (policy : Policy) (c : Context) (trace : List TraceEntry) (q : Query) : Type 0 where
   pub tables : AreTables policy.schema.tables
   pub rules : All (RuleFits policy.schema) policy.schema.rules
-  pub views : ViewsFit policy
+  pub policy_fits : PolicyFits policy
   pub context : ContextFits (kinds_of policy.params) c
   pub trace_fits : All (RecordFits policy) trace
   pub asked : IsQuery policy.schema (kinds_of policy.params) [] q

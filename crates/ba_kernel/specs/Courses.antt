@@ -1,10 +1,9 @@
 -- The course of a search: its branches from the start, step by step, and that what breaks compliance fits one of them.
 use Rattle.std.specs.Prelude.{◌≡◌, ◌≢◌, ℕ, ◌⊎◌, List, [], ◌∷◌, ◌++◌, All, map, length, Option, Some, None, slice_get, slice_set}
 use Rattle.std.specs.List.{AllZip, range_with_len}
-use Rattle.ba_model.specs.Fit.{AtomFits, IsQuery, kind_of, kinds_of}
+use Rattle.ba_model.specs.Fit.{AtomFits, IsQuery, PolicyFits, kind_of, kinds_of}
 use Rattle.ba_model.specs.declared.query.Operand.{Operand}
 use Rattle.ba_model.specs.declared.query.Operand.TheVariants.{Val}
-use Rattle.ba_model.specs.declared.policy.Policy.{Policy}
 use Rattle.ba_model.specs.declared.query.Part.{Part}
 use Rattle.ba_model.specs.declared.schema.Kind.{Kind}
 use Rattle.ba_model.specs.declared.schema.Link.{Link}
@@ -125,16 +124,12 @@ pub record LinkFits (s : Schema) (link : Link) : Type 0 where
 abbrev pub LinksFit : Schema → Type 0
 LinksFit s = All (λ (table : Table). All (LinkFits s) table.links) s.tables
 
--- each view fits the policy's schema and parameters, has no variables, and is within the limits
-abbrev pub ViewsFit : Policy → Type 0
-ViewsFit policy = All (λ view. IsQuery policy.schema (kinds_of policy.params) [] view.query) policy.views
-
 -- the links, the rules, the views, the goal, the entries and the assumed atoms fit the schema, the parameters and the variables,
 -- and the queries are within the limits
 pub record ProblemFits (p : Problem) : Type 0 where
   pub links : LinksFit p.policy.schema
   pub rules : All (RuleFits p.policy.schema) p.policy.schema.rules
-  pub views : ViewsFit p.policy
+  pub policy : PolicyFits p.policy
   pub goal : IsQuery p.policy.schema (kinds_of p.policy.params) p.vars p.goal
   pub entries : All (EntryFits p) p.entries
   pub assumed : All (AtomFits p.policy.schema (kinds_of p.policy.params) p.vars []) p.assumed

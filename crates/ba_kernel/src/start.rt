@@ -9,7 +9,7 @@ use crate::cases::build::{add_facts, assume_all, numbers_from};
 use crate::cases::terms::operand_row;
 use crate::problem::Problem;
 use ba_facts::branch::Branch;
-use ba_facts::shared::Shared;
+use ba_model::shared::Shared;
 use ba_facts::term::Side;
 use ba_model::list::List;
 use ba_model::policy::Parameter;

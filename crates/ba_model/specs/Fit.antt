@@ -1,8 +1,9 @@
 -- When a query, a policy and a context fit a schema and parameters.
-use Rattle.std.specs.Prelude.{◌≡◌, ◌≢◌, ℕ, ◌≤◌, length, List, [], All, Option, Some, None, map, slice_get, option_and_then, option_map}
+use Rattle.std.specs.Prelude.{◌≡◌, ◌≢◌, ℕ, ◌≤◌, ◌++◌, length, List, [], All, Option, Some, None, map, slice_get, option_and_then, option_map}
 use Rattle.std.specs.List.{AllZip}
 use Rattle.ba_model.specs.Conform.{IsOfKind}
 use Rattle.ba_model.specs.declared.limits.TheConstants.{MAX_ATOMS, MAX_HEAD, MAX_PARTS, MAX_PART_TABLES}
+use Rattle.ba_model.specs.declared.policy.CacheKey.{CacheKey}
 use Rattle.ba_model.specs.declared.policy.Context.{Context}
 use Rattle.ba_model.specs.declared.policy.Parameter.{Parameter}
 use Rattle.ba_model.specs.declared.policy.Policy.{Policy}
@@ -75,10 +76,6 @@ pub record QueryFits (s : Schema) (params vars : List Kind) (q : Query) : Type 0
 abbrev pub ContextFits : List Kind → Context → Type 0
 ContextFits params c = AllZip IsOfKind params c.values
 
--- each view fits the policy's schema and parameters, and has no variables
-abbrev pub PolicyFits : Policy → Type 0
-PolicyFits policy = All (λ view. QueryFits policy.schema (kinds_of policy.params) [] view.query) policy.views
-
 -- the part's counts are within the limits
 pub record PartWithin (part : Part) : Type 0 where
   pub tables : length part.from ≤ MAX_PART_TABLES
@@ -90,3 +87,12 @@ pub record IsQuery (s : Schema) (params vars : List Kind) (q : Query) : Type 0 w
   pub fits : QueryFits s params vars q
   pub few_parts : length q.parts ≤ MAX_PARTS
   pub within : All PartWithin q.parts
+
+-- the queries behind a cache key are queries for the policy's schema and its parameters followed by the key's arguments, without variables
+pub record KeyFits (policy : Policy) (key : CacheKey) : Type 0 where
+  pub queries : All (IsQuery policy.schema (kinds_of (policy.params ++ key.arguments)) []) key.queries
+
+-- each view is a query for the policy's schema and parameters, without variables; and so are the queries behind each cache key
+pub record PolicyFits (policy : Policy) : Type 0 where
+  pub views : All (λ view. IsQuery policy.schema (kinds_of policy.params) [] view.query) policy.views
+  pub keys : All (KeyFits policy) policy.keys

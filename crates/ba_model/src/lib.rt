@@ -12,5 +12,6 @@ pub mod policy;
 pub mod query;
 pub mod same;
 pub mod schema;
+pub mod shared;
 pub mod text;
 pub mod value;

@@ -19,12 +19,22 @@ pub struct View {
     pub query: Query,
 }
 
+/// A key of the application's own cache, with its arguments and the queries whose answers lie behind it. The queries may name the
+/// policy's parameters, and behind them the arguments.
+#[derive(Debug, Drop)]
+pub struct CacheKey {
+    pub name: Str,
+    pub arguments: List<Parameter>,
+    pub queries: List<Query>,
+}
+
 /// What a user may see: the rows of the views, under the values of the parameters.
 #[derive(Debug, Drop)]
 pub struct Policy {
     pub schema: Schema,
     pub params: List<Parameter>,
     pub views: List<View>,
+    pub keys: List<CacheKey>,
 }
 
 /// A request's value for each parameter of the policy.

@@ -2,7 +2,7 @@
 ghost use Rattle.std.specs.Prelude.{◌≡◌, ℕ, ◌↔◌, IsTrue, IfOk};
 
 use crate::list::List;
-use crate::policy::{Context, Parameter, Policy, View};
+use crate::policy::{CacheKey, Context, Parameter, Policy, View};
 use crate::query::{Atom, Op, Operand, Part, Query};
 use crate::schema::{Column, Kind, Link, Rule, Schema, Table};
 use crate::text::Str;
@@ -295,12 +295,31 @@ impl Same for View {
     }
 }
 
+impl Duplicate for CacheKey {
+    fn copy(&self, alloc: Global) -> Result<CacheKey, AllocError> {
+        Ok(CacheKey {
+            name: self.name.copy(alloc)?,
+            arguments: self.arguments.copy(alloc)?,
+            queries: self.queries.copy(alloc)?,
+        })
+    }
+}
+
+impl Same for CacheKey {
+    fn same(&self, other: &CacheKey) -> bool {
+        self.name.same(&other.name)
+            && self.arguments.same(&other.arguments)
+            && self.queries.same(&other.queries)
+    }
+}
+
 impl Duplicate for Policy {
     fn copy(&self, alloc: Global) -> Result<Policy, AllocError> {
         Ok(Policy {
             schema: self.schema.copy(alloc)?,
             params: self.params.copy(alloc)?,
             views: self.views.copy(alloc)?,
+            keys: self.keys.copy(alloc)?,
         })
     }
 }
@@ -310,6 +329,7 @@ impl Same for Policy {
         self.schema.same(&other.schema)
             && self.params.same(&other.params)
             && self.views.same(&other.views)
+            && self.keys.same(&other.keys)
     }
 }
 

@@ -1,5 +1,5 @@
 -- A file, by the function and as a relation.
-use Rattle.std.proofs.Common.{◌≡◌, ℕ, ◌<◌, ◌≤◌, Bool, true, false, nat_lt, List, ◌∷◌, ◌++◌, length, Result, Ok, Err, refl, sym, ap, subst, ◌∙◌, arith}
+use Rattle.std.proofs.Common.{◌≡◌, ℕ, ◌<◌, ◌≤◌, Bool, true, false, nat_lt, List, [], ◌∷◌, ◌++◌, length, Result, Ok, Err, refl, sym, ap, subst, ◌∙◌, arith}
 use Rattle.std.proofs.lemmas.Bool.{ltb-false, ltb-true, lt-ltb}
 use Rattle.ba_grammar.specs.declared.error.Syntax.{Syntax as OfGrammar}
 use Rattle.ba_lex.specs.Tokens.{file_tokens_of, lexemes_of}
@@ -23,7 +23,7 @@ use Rattle.ba_policy.proofs.StatementLemmas.{statements_complete, statements_sou
 -- ---- counts
 
 abbrev policy : Schema → Draft → Policy
-policy schema d = record { schema = schema; params = d.params; views = d.views }
+policy schema d = record { schema = schema; params = d.params; views = d.views; keys = [] }
 
 data Finish (schema : Schema) (d : Draft) : Type 0 where
   fine : length d.views ≤ 128 → length d.params ≤ 16 → finished schema d ≡ Ok (policy schema d) → Finish schema d
@@ -131,14 +131,15 @@ policy_sound schema bytes p e = of (outcome schema bytes)
     of (many ss d what limit w h x g) = let wrong = sym g ∙ e in cc
     of (right ss d w h vs ps g) =
         subst (ReadsPolicy schema bytes) (policies (policy schema d) p (sym g ∙ e))
-        (record { statements = ss; written = written_sound bytes ss w; same = refl; declared = declare_sound schema ss d h; few_views = vs; few_params = ps })
+        (record { statements = ss; written = written_sound bytes ss w; same = refl; no_keys = refl; declared = declare_sound schema ss d h; few_views = vs; few_params = ps })
 
 pub policy_complete : (schema : Schema) (bytes : List ℕ) (p : Policy) → ReadsPolicy schema bytes p → policy_of schema bytes ≡ Ok p
 policy_complete schema bytes p h =
     let d : Draft = draft p.params p.views in
     let same = h.same in
+    let no_keys = h.no_keys in
     gives_finished schema bytes h.statements d (written_complete bytes h.statements h.written) (declare_complete schema h.statements p.params p.views h.declared) ∙ within schema d h.few_views h.few_params
-    ∙ (λ i. Ok (record { schema = sym same i; params = p.params; views = p.views }))
+    ∙ (λ i. Ok (record { schema = sym same i; params = p.params; views = p.views; keys = sym no_keys i }))
 
 pub one_policy : (schema : Schema) (bytes : List ℕ) (p q : Policy) → ReadsPolicy schema bytes p → ReadsPolicy schema bytes q → p ≡ q
 one_policy schema bytes p q a b = policies p q (sym (policy_complete schema bytes p a) ∙ policy_complete schema bytes q b)

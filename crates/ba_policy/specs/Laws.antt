@@ -61,6 +61,7 @@ pub record ReadsPolicy (schema : Schema) (bytes : List ℕ) (policy : Policy) : 
   pub statements : List StatementText
   pub written : IsWrittenPolicy bytes statements
   pub same : policy.schema ≡ schema
+  pub no_keys : policy.keys ≡ []
   pub declared : Declare schema statements policy.params policy.views
   pub few_views : length policy.views ≤ 128
   pub few_params : length policy.params ≤ 16

@@ -58,12 +58,8 @@ abbrev pub finished : Schema → Draft → Result Policy PolicyFault
 finished schema d =
     if nat_lt 128 (length d.views) then Err (TooMany Views 128)
     else (if nat_lt 16 (length d.params) then Err (TooMany Params 16)
-    else Ok (record { schema = schema; params = d.params; views = d.views }))
+    else Ok (record { schema = schema; params = d.params; views = d.views; keys = [] }))
 
 -- the queries so far fit the schema and the parameters so far, and are within the limits
 pub record DraftFits (schema : Schema) (d : Draft) : Type 0 where
   pub views : All (λ it. IsQuery schema (kinds_of d.params) [] it.query) d.views
-
--- each view fits the policy's schema and parameters, has no variables, and is within the limits
-abbrev pub ViewsAreQueries : Policy → Type 0
-ViewsAreQueries policy = All (λ view. IsQuery policy.schema (kinds_of policy.params) [] view.query) policy.views

@@ -1,7 +1,8 @@
 //! What statements declare, in order.
 ghost use Rattle.std.specs.Prelude.{◌≡◌, ◌≤◌, [], IfOk, length, map};
+ghost use Rattle.ba_model.specs.Fit.{PolicyFits};
 ghost use Rattle.ba_policy.specs.Faults.{Gives};
-ghost use Rattle.ba_policy.specs.Meaning.{DraftFits, ViewsAreQueries, added, all_added, finished, nothing, param_added, view_added};
+ghost use Rattle.ba_policy.specs.Meaning.{DraftFits, added, all_added, finished, nothing, param_added, view_added};
 ghost use Rattle.ba_policy.specs.Statements.{seen};
 
 use crate::error::{Kept, PolicyError, PolicyFault};
@@ -120,7 +121,7 @@ pub fn draft_of(
 pub fn finish(alloc: Global, schema: &Schema, draft: Draft) -> Result<Policy, PolicyError>
     requires { DraftFits schema.now draft }
     ensures exact { Gives result (finished schema.now draft) }
-    ensures queries { IfOk result ViewsAreQueries }
+    ensures fits { IfOk result PolicyFits }
     ensures views { IfOk result (λ policy. length policy.views ≤ 128) }
     ensures params { IfOk result (λ policy. length policy.params ≤ 16) }
 {
@@ -141,5 +142,6 @@ pub fn finish(alloc: Global, schema: &Schema, draft: Draft) -> Result<Policy, Po
         schema,
         params: draft.params,
         views: draft.views,
+        keys: List::new(alloc),
     })
 }

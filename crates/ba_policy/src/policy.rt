@@ -3,7 +3,7 @@ ghost use Rattle.std.specs.Prelude.{◌≡◌, ◌≤◌, IfOk, length};
 ghost use Rattle.ba_lex.specs.Tokens.{file_tokens_of};
 ghost use Rattle.ba_model.specs.Fit.{PolicyFits};
 ghost use Rattle.ba_policy.specs.Faults.{Gives};
-ghost use Rattle.ba_policy.specs.Meaning.{ViewsAreQueries, all_added, finished, nothing};
+ghost use Rattle.ba_policy.specs.Meaning.{all_added, finished, nothing};
 ghost use Rattle.ba_policy.specs.Reading.{policy_of, policy_of_statements, words_of};
 
 use crate::draft::{draft_of, finish};
@@ -30,7 +30,7 @@ fn words_of(alloc: Global, bytes: &[u8]) -> Result<List<Lexeme>, PolicyError>
 ///
 /// A policy is a set of views with parameters of the request's context, as in the OSDI 2022 paper on Blockaid. Names are any unquoted words,
 /// keywords too. A view's words are those up to the next `;`, read as `ba_sql_query::read_words` reads them, with the parameters that are declared
-/// before the view. The policy has a copy of the schema.
+/// before the view. The policy has a copy of the schema, and no cache key.
 ///
 /// The file has at most 1,048,576 bytes and may be empty. The first of these faults is told:
 /// - `Lex`: the file is too long, isn't UTF-8, or has no tokens.
@@ -44,7 +44,6 @@ fn words_of(alloc: Global, bytes: &[u8]) -> Result<List<Lexeme>, PolicyError>
 pub fn read_policy(alloc: Global, schema: &Schema, bytes: &[u8]) -> Result<Policy, PolicyError>
     ensures exact { Gives result (policy_of schema.now bytes.now) }
     ensures same { IfOk result (λ policy. policy.schema ≡ schema.now) }
-    ensures queries { IfOk result ViewsAreQueries }
     ensures fits { IfOk result PolicyFits }
     ensures views { IfOk result (λ policy. length policy.views ≤ 128) }
     ensures params { IfOk result (λ policy. length policy.params ≤ 16) }

@@ -19,7 +19,9 @@ use Rattle.ba_tables.specs.TableSet.{RowsFit}
 use Rattle.ba_tables.specs.declared.broken.TablesFault.TheVariants.{KeyBroken, LinkBroken}
 use Rattle.ba_tables.proofs.AgreeLemmas.{agrees_decides, both, no_null_along, no_null_test}
 use Rattle.ba_tables.proofs.PositionLemmas.{position-none}
-use Rattle.ba_tables.proofs.UnkeyedLemmas.{none}
+
+none : {X : Type 0} (P : X → Type 0) (xs : List X) → xs ≡ [] → All P xs
+none P xs e = subst (All P) (sym e) (All-nil P)
 
 pub or_none : {X : Type 0} (a b : Option X) → option_or a b ≡ None → (a ≡ None) × (b ≡ None)
 or_none None b e = (refl, e)

@@ -14,4 +14,3 @@ pub mod PositionLemmas
 pub mod RecordLemmas
 pub mod RowsLemmas
 pub mod SpellLemmas
-pub mod UnkeyedLemmas

@@ -1,5 +1,5 @@
 -- A schema and rows of its tables.
-use Rattle.std.specs.Prelude.{◌≡◌, [], All}
+use Rattle.std.specs.Prelude.{All}
 use Rattle.std.specs.List.{AllZip}
 use Rattle.ba_model.specs.Conform.{RowFits}
 use Rattle.ba_model.specs.declared.schema.Schema.{Schema}
@@ -10,15 +10,6 @@ use Rattle.ba_model.specs.declared.value.RowSet.{RowSet}
 pub record TableSet : Type 0 where
   pub schema : Schema
   pub rows : RowSet
-
-pub record HasNoKeys (table : Table) : Type 0 where
-  pub keys : table.keys ≡ []
-  pub links : table.links ≡ []
-
--- no table has a key or a link, and there are no rules
-pub record IsUnkeyed (schema : Schema) : Type 0 where
-  pub tables : All HasNoKeys schema.tables
-  pub rules : schema.rules ≡ []
 
 -- for each table of the schema there is one list, of rows that fit the table
 pub record RowsFit (schema : Schema) (rows : RowSet) : Type 0 where

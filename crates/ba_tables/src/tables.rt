@@ -2,7 +2,7 @@
 ghost use Rattle.std.specs.Prelude.{◌≡◌, []};
 ghost use Rattle.ba_model.specs.Conform.{Conforms};
 ghost use Rattle.ba_tables.specs.Broken.{Gives, checked};
-ghost use Rattle.ba_tables.specs.TableSet.{IsUnkeyed, RowsFit};
+ghost use Rattle.ba_tables.specs.TableSet.{RowsFit};
 
 use crate::broken::{TablesError, broken_table};
 use ba_model::same::Duplicate;
@@ -30,16 +30,6 @@ impl Model for Tables {
 }
 
 impl Tables {
-    /// Rows of a schema that has no keys, no links and no rules, so that rows of the columns' kinds are all that it asks.
-    pub fn unkeyed(schema: Schema, rows: RowSet) -> Tables
-        requires unkeyed { IsUnkeyed schema }
-        requires fit { RowsFit schema rows }
-        ensures schema { result.schema ≡ schema }
-        ensures rows { result.rows ≡ rows }
-    {
-        Tables { schema, rows }
-    }
-
     /// Rows of the schema's tables where no key and no link is broken, else the first that is.
     ///
     /// A key is a UNIQUE constraint and a link a FOREIGN KEY with MATCH SIMPLE of the SQL standard: NULL on a key's columns breaks

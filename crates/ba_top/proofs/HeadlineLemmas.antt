@@ -1,12 +1,11 @@
 -- A legal journal has the headline.
-use Rattle.std.proofs.Common.{◌≡◌, ◌∙◌, sym, ap, subst, ℕ, List, [], ◌∷◌, ◌++◌, Option, Some, None, IfSome, append_assoc, append-nil}
-use Rattle.ba_comply.specs.declared.trace.TraceEntry.{TraceEntry}
+use Rattle.std.proofs.Common.{◌≡◌, sym, ap, subst, ℕ, List, [], ◌∷◌, ◌++◌, Option, Some, None, IfSome, append_assoc, append-nil}
 use Rattle.ba_model.specs.declared.policy.Context.{Context}
 use Rattle.ba_model.specs.declared.query.Query.{Query}
 use Rattle.ba_model.specs.declared.value.Value.{Value}
 use Rattle.ba_outside.specs.Seen.{FilesSeen, SinkSeen}
 use Rattle.ba_top.specs.Headline.{Headline, IsAnswerEverywhere, IsNotCovered}
-use Rattle.ba_top.specs.Legal.{AreEntries, HasContext, IsAsk, IsEntry, Legal, Replies, trace_of}
+use Rattle.ba_top.specs.Legal.{AreEntries, HasContext, IsEntry, Legal, Replies, trace_of}
 use Rattle.ba_top.specs.Ran.{Ran, Served}
 use Rattle.ba_top.specs.declared.report.By.{By}
 use Rattle.ba_top.specs.declared.report.By.TheVariants.{Cover}

@@ -1,5 +1,5 @@
 -- The lines of a run, one by one.
-use Rattle.std.proofs.Common.{◌≡◌, ◌∙◌, sym, ap, subst, ℕ, ◌+◌, ◌<◌, ◌≤◌, suc, List, [], ◌∷◌, ◌++◌, length, drop, Some, slice_get, ap₂, Result, Err}
+use Rattle.std.proofs.Common.{◌≡◌, sym, subst, ℕ, ◌+◌, ◌≤◌, List, [], ◌∷◌, ◌++◌, length, drop, Some, slice_get, ap₂, Result, Err}
 use Rattle.std.proofs.lemmas.List.{drop_all}
 use Rattle.ba_outside.specs.Seen.{SinkSeen}
 use Rattle.ba_outside.specs.declared.sink.WriteFail.{WriteFail}

@@ -3,7 +3,7 @@ use Rattle.std.proofs.Common.{◌≡◌, ◌∙◌, refl, sym, ap, subst, ℕ, s
 use Rattle.std.proofs.lemmas.Bool.{eqb-true}
 use Rattle.std.proofs.lemmas.List.{drop_all, take_more, take-append-drop}
 use Rattle.std.proofs.lemmas.List.Elements.{All-append, All-cons, recursion_from_All}
-use Rattle.std.specs.List.{All, AllByRecursion, flat_map}
+use Rattle.std.specs.List.{AllByRecursion, flat_map}
 use Rattle.std.specs.Prelude.{IfSome, MatchOption, Option, Some, slice_get}
 use Rattle.ba_comply.specs.Comply.{AnswerEverywhere, Records}
 use Rattle.ba_comply.specs.declared.trace.TraceEntry.{TraceEntry}
@@ -20,7 +20,7 @@ use Rattle.ba_top.specs.Legal.{Answered, AreEntries, HasContext, IsAsk, IsEntry,
 use Rattle.ba_top.specs.Serving.{IsContextOf, IsKnown, IsRecorded}
 use Rattle.ba_top.specs.declared.report.By.TheVariants.{Cover}
 use Rattle.ba_top.specs.declared.report.Entry.{Entry}
-use Rattle.ba_top.specs.declared.report.Entry.TheVariants.{Begin, Ask, End}
+use Rattle.ba_top.specs.declared.report.Entry.TheVariants.{Ask}
 use Rattle.ba_top.specs.declared.report.Input.{Input}
 use Rattle.ba_top.specs.declared.report.Reply.{Reply}
 use Rattle.ba_top.specs.declared.report.Reply.TheVariants.{Answer, Blocked, Unread, NoMemory}

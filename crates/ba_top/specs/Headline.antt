@@ -1,6 +1,5 @@
 -- What each answer and each block of a run means.
 use Rattle.std.specs.Prelude.{◌≡◌, ℕ, List, ◌∷◌, ◌++◌}
-use Rattle.ba_comply.specs.declared.trace.TraceEntry.{TraceEntry}
 use Rattle.ba_direct.specs.Cover.{Covered}
 use Rattle.ba_model.specs.Meaning.{IsAnswer}
 use Rattle.ba_model.specs.declared.policy.Context.{Context}

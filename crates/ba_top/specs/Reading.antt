@@ -1,5 +1,5 @@
 -- How the input that the words name is read.
-use Rattle.std.specs.Prelude.{ℕ, List, [], ◌∷◌, ◌++◌, Option, Some, None, Result, Ok, Err}
+use Rattle.std.specs.Prelude.{ℕ, List, [], ◌∷◌, ◌++◌, Option, Some, None}
 use Rattle.ba_command.specs.Words.{command_of}
 use Rattle.ba_command.specs.declared.command.Command.{Command}
 use Rattle.ba_command.specs.declared.command.Command.TheVariants.{Run}

@@ -25,7 +25,6 @@ use Rattle.ba_top.specs.declared.report.Refusal.{Refusal}
 use Rattle.ba_top.specs.declared.report.Refusal.TheVariants.{Input, Limit}
 use Rattle.ba_wire.specs.declared.entry.ScriptFault.{ScriptFault}
 use Rattle.ba_wire.specs.declared.entry.ScriptFault.TheVariants.{BadLine, TooMany}
-use Rattle.ba_wire.specs.declared.fault.Reason.{Reason}
 use Rattle.ba_wire.specs.declared.fault.Reason.TheVariants as reason
 use Rattle.ba_wire.specs.declared.fault.What.{What}
 use Rattle.ba_wire.specs.declared.fault.What.TheVariants as what

@@ -39,6 +39,7 @@ pub fn policy_of(rt: &impl Handle, query: Query) -> Policy {
         schema: schema(rt, SCHEMA),
         params: List::new(rt.alloc()),
         views: one(rt, View { name, query }),
+        keys: List::new(rt.alloc()),
     }
 }
 

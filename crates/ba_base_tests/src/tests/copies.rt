@@ -2,7 +2,7 @@
 
 use super::written::{Handle, atom, numbers, one, operands, text, value};
 use ba_model::list::List;
-use ba_model::policy::{Context, Parameter, Policy, View};
+use ba_model::policy::{CacheKey, Context, Parameter, Policy, View};
 use ba_model::query::{Part, Query};
 use ba_model::same::{Duplicate, Same};
 use ba_model::schema::{Column, Kind, Link, Rule, Schema, Table};
@@ -61,10 +61,16 @@ fn policy(rt: &impl Handle) -> Policy {
         name: text(rt, "V"),
         query: query(rt),
     };
+    let key = CacheKey {
+        name: text(rt, "K"),
+        arguments: List::new(rt.alloc()),
+        queries: one(rt, query(rt)),
+    };
     Policy {
         schema: schema(rt),
         params: one(rt, parameter),
         views: one(rt, view),
+        keys: one(rt, key),
     }
 }
 

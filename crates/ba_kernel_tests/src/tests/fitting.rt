@@ -1,12 +1,12 @@
 //! Whether a problem fits, so that a search may start from it.
 ghost use Rattle.std.specs.Prelude.{◌≡◌, ◌≢◌, ◌↔◌, ◌++◌, List, [], All, IfOk, IsTrue, OnOk, None, Some, map, slice_get};
 ghost use Rattle.std.specs.List.{AllZip};
-ghost use Rattle.ba_model.specs.Fit.{AtomFits, IsQuery, OpFits, kind_of, kinds_of};
+ghost use Rattle.ba_model.specs.Fit.{AtomFits, IsQuery, OpFits, PolicyFits, kind_of, kinds_of};
 ghost use Rattle.ba_model.specs.declared.schema.Kind.{Kind};
 ghost use Rattle.ba_model.specs.declared.schema.Table.{Table};
 ghost use Rattle.ba_model.specs.declared.query.Operand.TheVariants.{Val};
 ghost use Rattle.ba_model.specs.declared.value.Value.TheVariants.{Null};
-ghost use Rattle.ba_kernel.specs.Courses.{EntryFits, LinkFits, LinksFit, ProblemFits, RowOperandFits, RuleFits, ViewsFit};
+ghost use Rattle.ba_kernel.specs.Courses.{EntryFits, LinkFits, LinksFit, ProblemFits, RowOperandFits, RuleFits};
 
 use ba_kernel::problem::{Problem, ProblemEntry};
 use ba_model::check_query::{QueryDraft, operand_kind};
@@ -26,7 +26,7 @@ pub(super) fn fit(alloc: Global, problem: &Problem) -> Result<(), AllocError>
         return Err(AllocError);
     }
     rules_fit(alloc, &problem.policy.schema)?;
-    views_fit(alloc, &problem.policy)?;
+    policy_fits(alloc, &problem.policy)?;
     query_fits(
         alloc,
         &problem.policy.schema,
@@ -113,12 +113,22 @@ fn view_fits(alloc: Global, policy: &Policy, view: &View) -> Result<(), AllocErr
 }
 
 fn views_fit(alloc: Global, policy: &Policy) -> Result<(), AllocError>
-    ensures { OnOk result (ViewsFit policy.now) }
+    ensures { OnOk result (All (λ view. IsQuery policy.now.schema (kinds_of policy.now.params) [] view.query) policy.now.views) }
 {
     for view in policy.views.as_slice() {
         view_fits(alloc, policy, view)?;
     }
     Ok(())
+}
+
+/// A policy with a cache key is told as want of memory.
+fn policy_fits(alloc: Global, policy: &Policy) -> Result<(), AllocError>
+    ensures { OnOk result (PolicyFits policy.now) }
+{
+    if policy.keys.len() != 0 {
+        return Err(AllocError);
+    }
+    views_fit(alloc, policy)
 }
 
 // ---- rules

@@ -197,6 +197,7 @@ pub(super) fn empty_policy(alloc: Global) -> Policy {
         schema: empty_schema(alloc),
         params: List::new(alloc),
         views: List::new(alloc),
+        keys: List::new(alloc),
     }
 }
 

@@ -5,9 +5,9 @@
 //! what was learned `~` stands between terms that are the same, maybe NULL.
 
 use ba_facts::branch::Branch;
-use ba_facts::shared::Shared;
 use ba_facts::term::{Fact, Lesson, Mapping, Side, Term, TermAtom, TermRef};
 use ba_model::query::Op;
+use ba_model::shared::Shared;
 use ba_model::value::Value;
 use std::alloc::AllocError;
 use std::fmt::Write;

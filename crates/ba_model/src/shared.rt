@@ -1,16 +1,16 @@
 //! Values that are held in common.
-ghost use Rattle.std.specs.Prelude.{◌≡◌, IfOk, IfSome};
+ghost use Rattle.std.specs.Prelude.{◌≡◌, ◌↔◌, IfOk, IfSome, IsTrue};
 ghost use Rattle.std.specs.Borrow.{LendsIf, sem};
-ghost use Rattle.ba_facts.specs.contracts.shared.Shared.{the_row};
+ghost use Rattle.ba_model.specs.contracts.shared.Shared.{the_row};
 
-use ba_model::same::Duplicate;
+use crate::same::{Duplicate, Same};
 use std::alloc::{AllocError, Global};
 use std::marker::Model;
 use std::ops::Deref;
 use std::sync::Arc;
 
-/// A value that several lists may hold. A contract sees the value alone.
-#[derive(Drop)]
+/// A value that several owners may hold. A contract sees the value alone.
+#[derive(Debug, Drop)]
 pub struct Shared<T> {
     cell: Arc<T>,
 }
@@ -64,5 +64,11 @@ impl<T: Drop> Duplicate for Shared<T> {
         Ok(Shared {
             cell: self.cell.clone()?,
         })
+    }
+}
+
+impl<T: Same> Same for Shared<T> {
+    fn same(&self, other: &Shared<T>) -> bool {
+        self.cell.same(&other.cell)
     }
 }
