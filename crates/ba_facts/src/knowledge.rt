@@ -2,11 +2,11 @@ ghost use Rattle.std.specs.Prelude.{◌≡◌, ◌∷◌, ◌++◌, ◌↔◌, �
 ghost use Rattle.ba_facts.specs.Known.{Chain, DifferentLiterals, OneClass, ShownGap, ShownNotNull, ShownNull, seen};
 ghost use Rattle.ba_facts.specs.Knowing.{IsThere, LessonIsThere, IsClashing, IsRising, sort_of};
 
-use ba_model::shared::Shared;
 use crate::term::{Lesson, Sort, TermRef};
 use crate::web::Web;
 use ba_model::same::Duplicate;
 use ba_model::schema::Column;
+use ba_model::shared::Shared;
 use ba_model::value::Value;
 use std::alloc::{AllocError, Global};
 use std::marker::Model;

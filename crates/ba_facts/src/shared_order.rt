@@ -1,9 +1,9 @@
 //! The order of a web, which copies of the web share.
 ghost use Rattle.std.specs.Prelude.{◌≡◌, pos, neg_ℤ, ◌≤ℤ◌, ◌^◌, ◌++◌, ◌∷◌, [], IfOk, OnOk, OnErr};
 
-use ba_model::shared::Shared;
 use ba_classes::order::Order;
 use ba_model::same::Duplicate;
+use ba_model::shared::Shared;
 use std::alloc::{AllocError, Global};
 use std::marker::Model;
 
