@@ -4,7 +4,7 @@ ghost use Rattle.clap.specs.Words.{app_of, first_value, found_of, kind_of, rule_
 ghost use Rattle.ba_command.specs.Words.{Answers, bare, command_from, needed, number_or, number_rule, option_rule, run_app, run_of};
 
 use crate::command::{Command, WordsError};
-use ba_model::text::Str;
+use ba_model::Str;
 use clap::builder::ValueParser;
 use clap::error::ErrorKind;
 use clap::{Arg, ArgAction, ArgMatches, Command as Form, Error};

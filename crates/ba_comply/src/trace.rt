@@ -1,16 +1,14 @@
 ghost use Rattle.std.specs.Prelude.{◌≡◌, [], ◌∷◌, ◌++◌, ◌<◌, OnOk, OnErr, length, slice_get, Some};
 
-use ba_model::list::List;
-use ba_model::query::Query;
-use ba_model::value::Row;
+use ba_model::{List, Query, Row, Shared};
 use std::alloc::{AllocError, Global};
 use std::marker::Model;
 
-/// An answered query with its rows.
+/// An answered query with its rows, both held in common with whoever answered it.
 #[derive(Debug, Drop)]
 pub struct TraceEntry {
-    pub query: Query,
-    pub rows: List<Row>,
+    pub query: Shared<Query>,
+    pub rows: Shared<List<Row>>,
 }
 
 /// What one request has been told so far: its answered queries in order, each with its rows. A contract sees the list of entries.

@@ -1,7 +1,6 @@
 ghost use Rattle.std.specs.Prelude.{◌≡◌, IfOk};
 
-use ba_model::list::List;
-use ba_model::same::Duplicate;
+use ba_model::{Duplicate, List};
 use std::alloc::{AllocError, Global};
 
 /// A view of one part that covers a part of a query, and the pairing: for each table of the view's part its place among

@@ -5,8 +5,7 @@ ghost use Rattle.ba_direct.specs.Cover.{PairsTables, CoversBy};
 ghost use Rattle.ba_direct.specs.Search.{NoneFrom, IsFirstFrom};
 
 use crate::test::{all_may_have_images, operands_covered};
-use ba_model::policy::Context;
-use ba_model::query::Part;
+use ba_model::{Context, Part};
 use std::alloc::AllocError;
 
 /// How often the place is paired.

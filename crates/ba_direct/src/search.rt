@@ -6,9 +6,7 @@ ghost use Rattle.ba_direct.specs.Search.{IsFirstBy, NoneBy, only_of};
 
 use crate::cover::{Cover, PartCover};
 use crate::pairing::{covers_by, pair};
-use ba_model::list::List;
-use ba_model::policy::{Context, Policy};
-use ba_model::query::{Part, Query};
+use ba_model::{Context, List, Part, Policy, Query};
 use std::alloc::{AllocError, Global};
 
 /// The part of a query that has one.

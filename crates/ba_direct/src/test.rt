@@ -5,9 +5,7 @@ ghost use Rattle.std.specs.List.{list_all, list_any};
 ghost use Rattle.ba_direct.specs.Cover.{constant_of};
 ghost use Rattle.ba_direct.specs.Test.{same_op as same_op_test, is_equation as is_equation_test, same_value, is_number, maps as maps_test, maps_atom as maps_atom_test, outputs as outputs_test, is_known as is_known_test, has_image as has_image_test, is_covered_atom as is_covered_atom_test, operands_covered as operands_covered_test, is_reached as is_reached_test, may_have_image as may_have_image_test};
 
-use ba_model::policy::Context;
-use ba_model::query::{Atom, Op, Operand, Part};
-use ba_model::value::Value;
+use ba_model::{Atom, Context, Op, Operand, Part, Value};
 
 /// The value of a constant, or of a parameter.
 fn constant<'a>(ctx: &'a Context, operand: &'a Operand) -> Option<&'a Value>

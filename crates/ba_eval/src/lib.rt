@@ -8,10 +8,7 @@ ghost use Rattle.ba_model.specs.Meaning.{InAnswer, IsAnswer};
 ghost use Rattle.ba_eval.specs.Search.{Adds, IsRisingListOf};
 
 use crate::part::Search;
-use ba_model::list::List;
-use ba_model::policy::Context;
-use ba_model::query::Query;
-use ba_model::value::{Row, RowSet};
+use ba_model::{Context, List, Query, Row, RowSet};
 use std::alloc::{AllocError, Global};
 
 /// The query's answer: the strictly rising list of exactly its rows.

@@ -3,11 +3,7 @@ ghost use Rattle.std.specs.Prelude.{◌≡◌, ◌↔◌, IsTrue, IfOk, OnOk, Al
 ghost use Rattle.ba_model.specs.Meaning.{value_of, rows_of, Holds, Gives};
 ghost use Rattle.ba_eval.specs.Search.{Adds, Fails, GivesFrom, IsHead};
 
-use ba_model::list::List;
-use ba_model::policy::Context;
-use ba_model::query::{Atom, Operand, Part};
-use ba_model::same::{Duplicate, Same};
-use ba_model::value::{Row, RowSet, Value};
+use ba_model::{Atom, Context, Duplicate, List, Operand, Part, Row, RowSet, Same, Value};
 use std::alloc::{AllocError, Global};
 
 /// A part to be searched for in a database, under a context.

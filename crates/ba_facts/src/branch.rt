@@ -6,10 +6,7 @@ ghost use Rattle.ba_facts.specs.Shown.{Absurd, Refutes, Shows, TheSame};
 
 use crate::knowledge::Knowledge;
 use crate::term::{Fact, Lesson, Side, Term, TermAtom};
-use ba_model::list::List;
-use ba_model::same::Duplicate;
-use ba_model::schema::{Column, Kind};
-use ba_model::shared::Shared;
+use ba_model::{Column, Duplicate, Kind, List, Shared};
 use std::alloc::{AllocError, Global};
 use std::mem;
 

@@ -6,8 +6,7 @@ ghost use Rattle.ba_facts.specs.Marks.{HasOneLiteral};
 ghost use Rattle.ba_facts.specs.declared.term.Term.{Term};
 
 use crate::term::TermRef;
-use ba_model::same::Same;
-use ba_model::value::Value;
+use ba_model::{Same, Value};
 
 /// The literals of a class, by value: none, one alone, or several.
 #[derive(Clone, Copy)]

@@ -4,10 +4,7 @@ ghost use Rattle.ba_facts.specs.Knowing.{IsThere, LessonIsThere, IsClashing, IsR
 
 use crate::term::{Lesson, Sort, TermRef};
 use crate::web::Web;
-use ba_model::same::Duplicate;
-use ba_model::schema::Column;
-use ba_model::shared::Shared;
-use ba_model::value::Value;
+use ba_model::{Column, Duplicate, Shared, Value};
 use std::alloc::{AllocError, Global};
 use std::marker::Model;
 

@@ -4,7 +4,7 @@ ghost use Rattle.ba_facts.specs.Known.{seen};
 ghost use Rattle.ba_facts.specs.Marks.{both_literals, both_marks, both_places, is_several, own_literals, own_mark, own_not_null, own_place, two_literals};
 
 use crate::term::{Sort, TermRef};
-use ba_model::value::Value;
+use ba_model::Value;
 
 /// A place in the order: so much above a node.
 #[derive(Clone, Copy)]

@@ -11,8 +11,7 @@ use crate::matches::rounds::GivenAtom;
 use crate::matches::search::{GivenRow, Search, Wanted};
 use crate::term::{Mapping, Side, Term, TermAtom, TermRef};
 use arrayvec::ArrayVec;
-use ba_model::list::List;
-use ba_model::query::{Atom, Op, Operand, Part};
+use ba_model::{Atom, List, Op, Operand, Part};
 use std::alloc::{AllocError, Global};
 
 impl Branch {

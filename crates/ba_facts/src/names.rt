@@ -7,8 +7,7 @@ ghost use Rattle.ba_model.specs.declared.value.Value.{Value};
 ghost use Rattle.std.specs.Option.{option_copied};
 
 use crate::term::{Term, TermRef};
-use ba_model::same::{Duplicate, Same};
-use ba_model::value::Value;
+use ba_model::{Duplicate, Same, Value};
 use std::alloc::{AllocError, Global};
 use std::collections::BTreeMap;
 use std::marker::Model;

@@ -1,8 +1,7 @@
 //! Copies that equal their originals, and the test of equal content.
 
 use crate::term::{Fact, Lesson, Side, Sort, Term, TermAtom};
-use ba_model::query::Op;
-use ba_model::same::{Duplicate, Same};
+use ba_model::{Duplicate, Op, Same};
 use std::alloc::{AllocError, Global};
 
 impl Duplicate for Term {

@@ -2,8 +2,7 @@
 ghost use Rattle.std.specs.Prelude.{◌≡◌, pos, neg_ℤ, ◌≤ℤ◌, ◌^◌, ◌++◌, ◌∷◌, [], IfOk, OnOk, OnErr};
 
 use ba_classes::order::Order;
-use ba_model::same::Duplicate;
-use ba_model::shared::Shared;
+use ba_model::{Duplicate, Shared};
 use std::alloc::{AllocError, Global};
 use std::marker::Model;
 

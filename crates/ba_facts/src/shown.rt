@@ -5,8 +5,7 @@ ghost use Rattle.ba_facts.specs.Shown.{Absurd, AreTheTwo, EitherNull, HasEqualAp
 
 use crate::knowledge::Knowledge;
 use crate::term::{Lesson, TermRef};
-use ba_model::query::Op;
-use ba_model::same::Same;
+use ba_model::{Op, Same};
 
 impl Knowledge {
     /// Whether the two are the same: of one class, or each shown to be at most the other.

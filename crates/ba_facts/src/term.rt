@@ -2,10 +2,7 @@
 ghost use Rattle.std.specs.Prelude.{◌≡◌};
 ghost use Rattle.ba_facts.specs.Known.{seen};
 
-use ba_model::list::List;
-use ba_model::query::Op;
-use ba_model::schema::Kind;
-use ba_model::value::Value;
+use ba_model::{Kind, List, Op, Value};
 
 /// One of two databases: the one that is given, and one that shows the same to the user.
 #[derive(Clone, Copy, Debug, PartialEq, Eq)]

@@ -20,8 +20,7 @@ use crate::names::Names;
 use crate::rises::{agreed, raise, replace, rises};
 use crate::shared_order::SharedOrder;
 use crate::term::{Lesson, Sort, TermAtom, TermRef};
-use ba_model::query::Op;
-use ba_model::value::Value;
+use ba_model::{Op, Value};
 use std::alloc::{AllocError, Global};
 
 /// The terms that something was learned of, by number, with their classes, the marks of these by

@@ -6,7 +6,7 @@ ghost use Rattle.ba_grammar.specs.Front.{all, listed};
 use crate::error::ReadError;
 use crate::word::begins_with_sign;
 use ba_lex::{Lexeme, Sign};
-use ba_model::list::List;
+use ba_model::List;
 use std::alloc::Global;
 
 /// What a grammar reads at the front of words.

@@ -8,8 +8,7 @@ ghost use Rattle.ba_grammar.specs.Front.{any_at, begins, is_keyword, is_sign, na
 
 use crate::error::ReadError;
 use ba_lex::{Lexeme, Sign, is_word};
-use ba_model::same::Duplicate;
-use ba_model::text::Str;
+use ba_model::{Duplicate, Str};
 use std::alloc::Global;
 
 fn is_any(word: &Str, keywords: &[&str]) -> bool

@@ -3,7 +3,7 @@ ghost use Rattle.std.specs.Prelude.{◌≡◌, IfOk};
 ghost use Rattle.ba_lex.specs.Tokens.{lexemes_of};
 
 use ba_lex::{Lexeme, Token};
-use ba_model::list::List;
+use ba_model::List;
 use std::alloc::{AllocError, Global};
 
 /// What the tokens say, in order.

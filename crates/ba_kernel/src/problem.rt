@@ -7,18 +7,13 @@ ghost use Rattle.ba_kernel.specs.Courses.{ProblemFits};
 ghost use Rattle.ba_kernel.specs.Problems.{entries_of, param_is, problem_of};
 
 use ba_comply::trace::{Trace, TraceEntry};
-use ba_model::list::List;
-use ba_model::policy::{Context, Policy};
-use ba_model::query::{Atom, Op, Operand, Query};
-use ba_model::same::Duplicate;
-use ba_model::schema::Kind;
-use ba_model::value::Value;
+use ba_model::{Atom, Context, Duplicate, Kind, List, Op, Operand, Policy, Query, Shared, Value};
 use std::alloc::{AllocError, Global};
 
 /// A row that was shown before, and the query whose answer it was in.
 #[derive(Debug, Drop)]
 pub struct ProblemEntry {
-    pub query: Query,
+    pub query: Shared<Query>,
     pub row: List<Operand>,
 }
 
@@ -26,24 +21,25 @@ pub struct ProblemEntry {
 /// aren't fixed; `assumed` is known of them and of the parameters.
 #[derive(Debug, Drop)]
 pub struct Problem {
-    pub policy: Policy,
+    pub policy: Shared<Policy>,
     pub vars: List<Kind>,
     pub assumed: List<Atom>,
     pub entries: List<ProblemEntry>,
-    pub goal: Query,
+    pub goal: Shared<Query>,
 }
 
 impl Problem {
     /// The problem of a question under a policy after a trace: no variables, each parameter has its
     /// value in the context, and there is one entry for each recorded row, in order. It fits where
     /// the schema's links and rules, the views, the context, the recorded rows and the query fit.
+    /// The policy and the queries are held in common: no copy of them is made, whatever their size.
     /// A context of more than 2^32 values is told as want of memory.
     pub fn of(
         alloc: Global,
-        policy: &Policy,
+        policy: &Shared<Policy>,
         ctx: &Context,
         trace: &Trace,
-        query: &Query,
+        query: &Shared<Query>,
     ) -> Result<Problem, AllocError>
         ensures is { IfOk result (λ it. it ≡ problem_of policy.now ctx.now trace.now query.now) }
         ensures fits { QuestionFits policy.now ctx.now trace.now query.now → IfOk result ProblemFits }
@@ -54,10 +50,10 @@ impl Problem {
 
 fn of_question(
     alloc: Global,
-    policy: &Policy,
+    policy: &Shared<Policy>,
     ctx: &Context,
     trace: &Trace,
-    query: &Query,
+    query: &Shared<Query>,
 ) -> Result<Problem, AllocError>
     ensures { IfOk result (λ it. it ≡ problem_of policy.now ctx.now trace.now query.now) }
 {
@@ -116,7 +112,11 @@ fn add_entries(
     Ok(())
 }
 
-fn row_entry(alloc: Global, query: &Query, row: &[Value]) -> Result<ProblemEntry, AllocError>
+fn row_entry(
+    alloc: Global,
+    query: &Shared<Query>,
+    row: &[Value],
+) -> Result<ProblemEntry, AllocError>
     ensures { IfOk result (λ entry. entry ≡ record { query = query.now; row = map Val row.now }) }
 {
     Ok(ProblemEntry {

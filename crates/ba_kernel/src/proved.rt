@@ -7,7 +7,7 @@ use crate::laws::closed_is_strong;
 use crate::problem::Problem;
 use crate::step::Step;
 use ba_facts::branch::Branch;
-use ba_model::list::List;
+use ba_model::List;
 use std::marker::Model;
 
 /// A problem and steps that prove it.

@@ -8,7 +8,7 @@ use crate::problem::Problem;
 use crate::proved::Proved;
 use crate::search::Search;
 use crate::step::{Step, StepError, StepFault};
-use ba_model::list::List;
+use ba_model::List;
 use std::alloc::{AllocError, Global};
 use thiserror::Error;
 

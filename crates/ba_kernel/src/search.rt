@@ -13,7 +13,7 @@ use crate::proved::Proved;
 use crate::start::start_branches;
 use crate::step::{Step, StepError, StepFault};
 use ba_facts::branch::Branch;
-use ba_model::list::List;
+use ba_model::List;
 use std::alloc::{AllocError, Global};
 use std::marker::Model;
 

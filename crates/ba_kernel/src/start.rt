@@ -10,11 +10,7 @@ use crate::cases::terms::operand_row;
 use crate::problem::Problem;
 use ba_facts::branch::Branch;
 use ba_facts::term::Side;
-use ba_model::list::List;
-use ba_model::policy::Parameter;
-use ba_model::query::Part;
-use ba_model::schema::Kind;
-use ba_model::shared::Shared;
+use ba_model::{Kind, List, Parameter, Part, Shared};
 use std::alloc::{AllocError, Global};
 
 /// For each part of the goal a branch, in which the part gives the goal row and what is assumed is

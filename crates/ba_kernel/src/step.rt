@@ -5,7 +5,7 @@ ghost use Rattle.ba_kernel.specs.Courses.{branch_of};
 ghost use Rattle.ba_kernel.specs.declared.step.StepError.TheVariants.{NoMemory};
 
 use ba_facts::term::TermAtom;
-use ba_model::list::List;
+use ba_model::List;
 use std::alloc::{AllocError, AllocFailed};
 use thiserror::Error;
 

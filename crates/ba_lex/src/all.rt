@@ -6,7 +6,7 @@ ghost use Rattle.ba_lex.specs.Tokens.{Gives, file_tokens_of, tokens_from, tokens
 use crate::decode::lexeme;
 use crate::front::{Piece, front};
 use crate::token::{LexError, LexFault, Token};
-use ba_model::list::List;
+use ba_model::List;
 use std::alloc::Global;
 
 fn tokens_from(alloc: Global, text: &str) -> Result<List<Token>, LexError>

@@ -5,7 +5,7 @@ ghost use Rattle.ba_lex.specs.Tokens.{Gives, HasNoQuote, IsOfShape, after_quote,
 
 use crate::front::Shape;
 use crate::token::{LexError, LexFault, Lexeme};
-use ba_model::text::Str;
+use ba_model::Str;
 use std::alloc::{AllocError, Global};
 
 fn as_text(bytes: &[u8]) -> &str

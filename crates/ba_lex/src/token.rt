@@ -2,7 +2,7 @@
 ghost use Rattle.std.specs.Prelude.{◌≡◌};
 ghost use Rattle.ba_lex.specs.declared.token.LexError.TheVariants.{NoMemory};
 
-use ba_model::text::Str;
+use ba_model::Str;
 use std::alloc::{AllocError, AllocFailed};
 use thiserror::Error;
 

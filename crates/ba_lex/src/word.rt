@@ -2,7 +2,7 @@
 ghost use Rattle.std.specs.Prelude.{◌≡◌};
 ghost use Rattle.ba_lex.specs.Word.{is_word};
 
-use ba_model::text::Str;
+use ba_model::Str;
 
 /// Whether a word is this keyword: the same up to the case of ASCII letters.
 #[tactic(auto, unfolding(crate::specs::Word::is_word))]

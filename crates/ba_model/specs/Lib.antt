@@ -1,3 +1,4 @@
+pub mod Readings
 pub mod Order
 pub mod OrderLaws
 pub mod Meaning

@@ -5,8 +5,6 @@ use Rattle.std.specs.List.{IsDistinct, list_all}
 use Rattle.ba_model.specs.QueryFaults.{agree, is_empty}
 use Rattle.ba_model.specs.declared.check_schema.Counted.{Counted}
 use Rattle.ba_model.specs.declared.check_schema.Counted.TheVariants.{Tables, Columns, Keys, Links}
-use Rattle.ba_model.specs.declared.check_schema.SchemaError.{SchemaError}
-use Rattle.ba_model.specs.declared.check_schema.SchemaError.TheVariants.{NoMemory, Fault}
 use Rattle.ba_model.specs.declared.check_schema.SchemaFault.{SchemaFault}
 use Rattle.ba_model.specs.declared.check_schema.SchemaFault.TheVariants.{DuplicateTable, DuplicateColumn, UnknownTable, UnknownColumn, WidthDiffers, KindDiffers, EmptyKey, TooMany}
 use Rattle.ba_model.specs.declared.limits.TheConstants.{MAX_COLUMNS, MAX_KEYS, MAX_LINKS, MAX_TABLES}
@@ -148,8 +146,3 @@ pub record IsFirstFault (f : SchemaFault) (tables : List Table) : Type 0 where
 -- well formed and within the limits: none of the faults
 pub record AreTables (tables : List Table) : Type 0 where
   pub lacks : (f : SchemaFault) → Lacks f tables
-
--- an error that isn't want of memory
-abbrev pub OfFault : SchemaError → (SchemaFault → Type 0) → Type 0
-OfFault NoMemory P = Unit {0}
-OfFault (Fault f) P = P f

@@ -11,7 +11,6 @@ use crate::policy::Parameter;
 use crate::query::{Atom, Op, Operand, Part, Query};
 use crate::schema::{Kind, Schema};
 use crate::value::Value;
-use thiserror::Error;
 
 /// A query that isn't checked yet.
 #[derive(Debug, Drop)]
@@ -20,21 +19,14 @@ pub struct QueryDraft {
 }
 
 /// Why a draft is no query for a schema, parameters and variables. Of several faults the first of this order is told.
-#[derive(Clone, Copy, Debug, PartialEq, Eq, Error)]
+#[derive(Clone, Copy, Debug, PartialEq, Eq)]
 pub enum QueryFault {
-    #[error("a part has no table, or one that isn't there")]
     BadTable,
-    #[error("a column isn't there")]
     BadColumn,
-    #[error("the sides of an atom have different kinds, or a literal is NULL")]
     KindDiffers,
-    #[error("an order on texts")]
     OrderOnText,
-    #[error("two heads differ in length or kinds, or there is none")]
     HeadDiffers,
-    #[error("a parameter or variable isn't there")]
     UnknownParam,
-    #[error("a count is above its limit")]
     TooMany,
 }
 

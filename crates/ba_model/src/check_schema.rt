@@ -2,20 +2,20 @@
 ghost use Rattle.std.specs.Prelude.{◌≡◌, ◌↔◌, ◌==◌, [], IfOk, IfErr, IsTrue, is_some, length, map, nat_eq, not, slice_get, All};
 ghost use Rattle.std.specs.List.{IsDistinct, list_all};
 ghost use Rattle.ba_model.specs.QueryFaults.{agree, is_empty};
+ghost use Rattle.ba_model.specs.Readings.{OfFault};
 ghost use Rattle.ba_model.specs.SchemaFaults as faults;
 ghost use Rattle.ba_model.specs.SchemaFaults.{AreTables, IsFirstFault};
-ghost use Rattle.ba_model.specs.declared.check_schema.SchemaError.TheVariants.{NoMemory, Fault};
 
 use crate::check_query::agree;
+use crate::failure::Failure;
 use crate::limits::{MAX_COLUMNS, MAX_KEYS, MAX_LINKS, MAX_TABLES};
 use crate::list::List;
 use crate::same::Duplicate;
 use crate::schema::{Column, Kind, Link, Schema, Table};
 use crate::text::Str;
 use indexmap::IndexSet;
-use std::alloc::{AllocError, AllocFailed, Global};
+use std::alloc::{AllocError, Global};
 use std::hash::Hash;
-use thiserror::Error;
 
 /// A schema that isn't checked yet.
 #[derive(Debug, Drop)]
@@ -33,48 +33,16 @@ pub enum Counted {
 }
 
 /// Why a draft is no schema. Of several faults the first of this order is told.
-#[derive(Clone, Copy, Debug, PartialEq, Eq, Error)]
+#[derive(Clone, Copy, Debug, PartialEq, Eq)]
 pub enum SchemaFault {
-    #[error("two tables have one name")]
     DuplicateTable,
-    #[error("two columns of a table have one name, or a key repeats a column")]
     DuplicateColumn,
-    #[error("the target of a link isn't there")]
     UnknownTable,
-    #[error("a column of a key or link isn't there")]
     UnknownColumn,
-    #[error("a link has more or fewer target columns than columns")]
     WidthDiffers,
-    #[error("a column of a link and its target column have different kinds")]
     KindDiffers,
-    #[error("a key or link has no column")]
     EmptyKey,
-    #[error("more than {limit} {what:?}")]
     TooMany { what: Counted, limit: u64 },
-}
-
-#[derive(Debug, Drop, Error)]
-pub enum SchemaError {
-    #[error("out of memory")]
-    NoMemory,
-    #[error("{0}")]
-    Fault(SchemaFault),
-}
-
-impl From<AllocError> for SchemaError {
-    ghost from_gives = { λ _ e. e ≡ NoMemory };
-
-    fn from(_: AllocError) -> SchemaError {
-        SchemaError::NoMemory
-    }
-}
-
-impl From<SchemaFault> for SchemaError {
-    ghost from_gives = { λ fault e. e ≡ Fault fault };
-
-    fn from(fault: SchemaFault) -> SchemaError {
-        SchemaError::Fault(fault)
-    }
 }
 
 // Whether no two of the items are equal.
@@ -402,23 +370,24 @@ fn later_fault(tables: &[Table]) -> Result<(), SchemaFault>
 impl Schema {
     /// The draft as a schema without rules, or its first fault.
     ///
-    /// It is one exactly where names of tables and of a table's columns are distinct, keys and links have columns that are there (a key
-    /// each once), a link has as many target columns, of the same kinds, and all counts are within the limits. A draft with a fault is dropped.
-    pub fn check(alloc: Global, draft: SchemaDraft) -> Result<Schema, SchemaError>
+    /// It is one exactly where names of tables and of a table's columns are distinct, keys and links
+    /// have columns that are there (a key each once), a link has as many target columns, of the same
+    /// kinds, and all counts are within the limits. A draft with a fault is dropped.
+    pub fn check(alloc: Global, draft: SchemaDraft) -> Result<Schema, Failure<SchemaFault>>
         ensures content { IfOk result (λ schema. (schema.tables ≡ draft.tables) × (schema.rules ≡ [])) }
         ensures ok { IfOk result (λ schema. AreTables schema.tables) }
-        ensures fault { IfErr result (λ e. faults.OfFault e (λ fault. IsFirstFault fault draft.tables)) }
+        ensures fault { IfErr result (λ e. OfFault e (λ fault. IsFirstFault fault draft.tables)) }
     {
         let tables = draft.tables.as_slice();
         let names = tables_distinct(alloc, tables)?;
         if !names {
-            return Err(SchemaError::Fault(SchemaFault::DuplicateTable));
+            return Err(Failure::Fault(SchemaFault::DuplicateTable));
         }
         let columns = all_columns_distinct(alloc, tables)?;
         if !columns {
-            return Err(SchemaError::Fault(SchemaFault::DuplicateColumn));
+            return Err(Failure::Fault(SchemaFault::DuplicateColumn));
         }
-        later_fault(tables)?;
+        later_fault(tables).map_err(Failure::Fault)?;
         Ok(Schema {
             tables: draft.tables,
             rules: List::new(alloc),

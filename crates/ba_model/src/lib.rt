@@ -1,17 +1,36 @@
 //! Values, schemas, queries and policies, and what they mean over a database.
 #![tactic(auto)]
 
-pub mod check_query;
-pub mod check_schema;
-pub mod holds;
+mod check_query;
+mod check_schema;
+mod failure;
+mod holds;
 pub mod laws;
-pub mod limits;
-pub mod list;
-pub mod order;
-pub mod policy;
-pub mod query;
-pub mod same;
-pub mod schema;
-pub mod shared;
-pub mod text;
-pub mod value;
+mod limits;
+mod list;
+mod order;
+mod policy;
+mod query;
+mod same;
+mod schema;
+mod shared;
+mod text;
+mod value;
+
+pub use check_query::{QueryDraft, QueryFault, column_kind, operand_kind};
+pub use check_schema::{Counted, SchemaDraft, SchemaFault};
+pub use failure::Failure;
+pub use limits::{
+    BUDGET, MAX_ASKS, MAX_ATOMS, MAX_BUDGET, MAX_COLUMNS, MAX_FILE_BYTES, MAX_HEAD, MAX_KEYS,
+    MAX_LINES, MAX_LINKS, MAX_PARAMS, MAX_PART_TABLES, MAX_PARTS, MAX_QUERY_BYTES, MAX_REQUESTS,
+    MAX_ROWS, MAX_RULES, MAX_TABLES, MAX_TEXT_BYTES, MAX_VIEWS, MAX_WORKERS, MIN_BUDGET,
+    MIN_WORKERS, WORKERS,
+};
+pub use list::List;
+pub use policy::{CacheKey, Context, Parameter, Policy, View};
+pub use query::{Atom, Op, Operand, Part, Query};
+pub use same::{Duplicate, Same};
+pub use schema::{Column, Kind, Link, Rule, Schema, Table};
+pub use shared::Shared;
+pub use text::Str;
+pub use value::{Row, RowSet, Value};

@@ -3,6 +3,7 @@
 use crate::list::List;
 use crate::query::Query;
 use crate::schema::{Kind, Schema};
+use crate::shared::Shared;
 use crate::text::Str;
 use crate::value::Value;
 
@@ -28,10 +29,10 @@ pub struct CacheKey {
     pub queries: List<Query>,
 }
 
-/// What a user may see: the rows of the views, under the values of the parameters.
+/// What a user may see: the rows of the views, under the values of the parameters. The schema is held in common with table sets.
 #[derive(Debug, Drop)]
 pub struct Policy {
-    pub schema: Schema,
+    pub schema: Shared<Schema>,
     pub params: List<Parameter>,
     pub views: List<View>,
     pub keys: List<CacheKey>,

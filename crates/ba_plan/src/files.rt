@@ -2,8 +2,7 @@
 ghost use Rattle.ba_plan.specs.Follows.{Calls};
 
 use crate::Stop;
-use ba_model::list::List;
-use ba_model::text::Str;
+use ba_model::{List, Str};
 use ba_outside::{Files, ReadFail};
 use std::alloc::Global;
 

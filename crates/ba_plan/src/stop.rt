@@ -1,5 +1,5 @@
 // Why a plan gave no answer.
-use ba_model::text::Str;
+use ba_model::Str;
 use std::alloc::AllocError;
 
 /// Why a plan gave no answer.

@@ -9,11 +9,7 @@ use crate::error::{Kept, PolicyError, PolicyFault};
 use crate::names::Names;
 use crate::statement::Statement;
 use ba_lex::Lexeme;
-use ba_model::list::List;
-use ba_model::policy::{Parameter, Policy, View};
-use ba_model::same::Duplicate;
-use ba_model::schema::{Kind, Schema};
-use ba_model::text::Str;
+use ba_model::{Duplicate, Kind, List, Parameter, Policy, Schema, Shared, Str, View};
 use ba_sql_query::{ReadQueryError, read_words};
 use std::alloc::Global;
 
@@ -118,7 +114,7 @@ pub fn draft_of(
 }
 
 /// The policy, if its counts are within the limits.
-pub fn finish(alloc: Global, schema: &Schema, draft: Draft) -> Result<Policy, PolicyError>
+pub fn finish(alloc: Global, schema: &Shared<Schema>, draft: Draft) -> Result<Policy, PolicyError>
     requires { DraftFits schema.now draft }
     ensures exact { Gives result (finished schema.now draft) }
     ensures fits { IfOk result PolicyFits }

@@ -5,7 +5,7 @@ ghost use Rattle.ba_policy.specs.declared.error.PolicyError.TheVariants.{NoMemor
 
 use ba_grammar::ReadError;
 use ba_lex::{LexError, LexFault};
-use ba_model::text::Str;
+use ba_model::Str;
 use ba_sql_query::ReadQueryFault;
 use std::alloc::{AllocError, AllocFailed};
 use thiserror::Error;

@@ -4,8 +4,7 @@ ghost use Rattle.std.specs.List.{list_any};
 ghost use Rattle.indexmap.specs.IndexSet.{insert_key};
 ghost use Rattle.ba_policy.specs.Meaning.{same_name};
 
-use ba_model::same::Duplicate;
-use ba_model::text::Str;
+use ba_model::{Duplicate, Str};
 use indexmap::IndexSet;
 use std::alloc::{AllocError, Global};
 use std::marker::Model;

@@ -11,9 +11,7 @@ use crate::error::PolicyError;
 use crate::statement::statements;
 use ba_grammar::lexemes;
 use ba_lex::{Lexeme, tokens_of_bytes};
-use ba_model::list::List;
-use ba_model::policy::Policy;
-use ba_model::schema::Schema;
+use ba_model::{List, Policy, Schema, Shared};
 use std::alloc::Global;
 
 /// How many bytes a policy may have.
@@ -30,7 +28,7 @@ fn words_of(alloc: Global, bytes: &[u8]) -> Result<List<Lexeme>, PolicyError>
 ///
 /// A policy is a set of views with parameters of the request's context, as in the OSDI 2022 paper on Blockaid. Names are any unquoted words,
 /// keywords too. A view's words are those up to the next `;`, read as `ba_sql_query::read_words` reads them, with the parameters that are declared
-/// before the view. The policy has a copy of the schema, and no cache key.
+/// before the view. The policy holds the schema in common with the caller, and has no cache key.
 ///
 /// The file has at most 1,048,576 bytes and may be empty. The first of these faults is told:
 /// - `Lex`: the file is too long, isn't UTF-8, or has no tokens.
@@ -41,7 +39,11 @@ fn words_of(alloc: Global, bytes: &[u8]) -> Result<List<Lexeme>, PolicyError>
 ///
 /// `NoMemory` leaves nothing behind.
 #[tactic(auto, unfolding(crate::specs::Reading::policy_of, crate::specs::Reading::policy_of_statements))]
-pub fn read_policy(alloc: Global, schema: &Schema, bytes: &[u8]) -> Result<Policy, PolicyError>
+pub fn read_policy(
+    alloc: Global,
+    schema: &Shared<Schema>,
+    bytes: &[u8],
+) -> Result<Policy, PolicyError>
     ensures exact { Gives result (policy_of schema.now bytes.now) }
     ensures same { IfOk result (λ policy. policy.schema ≡ schema.now) }
     ensures fits { IfOk result PolicyFits }

@@ -7,9 +7,7 @@ ghost use Rattle.ba_policy.specs.Statements.{seen};
 
 use ba_grammar::{ReadError, begins_with_keyword, is_keyword, is_sign, past_keyword, past_sign};
 use ba_lex::{Lexeme, Sign};
-use ba_model::list::List;
-use ba_model::schema::Kind;
-use ba_model::text::Str;
+use ba_model::{Kind, List, Str};
 use std::alloc::Global;
 
 /// A statement of a policy.

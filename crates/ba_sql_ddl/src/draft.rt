@@ -7,9 +7,7 @@ ghost use Rattle.ba_sql_ddl.specs.Numbers.{number, number_in, once, same_name};
 
 use crate::names::{Names, key_numbers, numbers, numbers_in};
 use crate::written::{ColumnRule, ColumnText, Name, TableItem, TableRule, TableText, TypeWord};
-use ba_model::list::List;
-use ba_model::same::Duplicate;
-use ba_model::schema::{Column, Kind, Link, Table};
+use ba_model::{Column, Duplicate, Kind, Link, List, Table};
 use std::alloc::{AllocError, Global};
 
 fn one<T: Drop>(alloc: Global, item: T) -> Result<List<T>, AllocError>

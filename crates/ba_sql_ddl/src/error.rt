@@ -5,8 +5,7 @@ ghost use Rattle.ba_sql_ddl.specs.declared.error.DdlError.TheVariants.{NoMemory}
 
 use ba_grammar::ReadError;
 use ba_lex::{LexError, LexFault};
-use ba_model::check_schema::{SchemaError, SchemaFault};
-use ba_model::text::Str;
+use ba_model::{SchemaError, SchemaFault, Str};
 use std::alloc::{AllocError, AllocFailed};
 use thiserror::Error;
 

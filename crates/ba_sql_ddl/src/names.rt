@@ -4,9 +4,7 @@ ghost use Rattle.indexmap.specs.IndexSet.{insert_all, insert_key};
 ghost use Rattle.ba_sql_ddl.specs.Numbers.{capped, key_number, number, number_in, once, place, same_name};
 
 use crate::written::Name;
-use ba_model::list::List;
-use ba_model::same::Duplicate;
-use ba_model::text::Str;
+use ba_model::{Duplicate, List, Str};
 use indexmap::IndexSet;
 use std::alloc::{AllocError, Global};
 use std::marker::Model;

@@ -12,7 +12,7 @@ use ba_grammar::{
     number, past_keyword, past_sign,
 };
 use ba_lex::{Lexeme, Sign};
-use ba_model::list::List;
+use ba_model::List;
 use std::alloc::Global;
 
 /// The words that a name may not be unless it is quoted.

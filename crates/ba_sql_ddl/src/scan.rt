@@ -3,7 +3,7 @@ ghost use Rattle.std.specs.Prelude.{◌≡◌, Option, Some, None, map, option_m
 ghost use Rattle.ba_sql_ddl.specs.Scan.{first_unsupported, keyword_of, unsupported_keyword, unsupported_of};
 
 use ba_lex::{Lexeme, is_word};
-use ba_model::text::Str;
+use ba_model::Str;
 
 /// The words that a schema may not have, in any case.
 const UNSUPPORTED: [&str; 13] = [

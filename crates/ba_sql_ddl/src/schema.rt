@@ -14,11 +14,7 @@ use crate::scan::first_unsupported;
 use crate::written::TableText;
 use ba_grammar::lexemes;
 use ba_lex::{Lexeme, tokens_of_bytes};
-use ba_model::check_schema::SchemaDraft;
-use ba_model::list::List;
-use ba_model::same::Duplicate;
-use ba_model::schema::{Column, Schema, Table};
-use ba_model::text::Str;
+use ba_model::{Column, Duplicate, List, Schema, SchemaDraft, Str, Table};
 use std::alloc::Global;
 
 /// How many bytes a schema may have.

@@ -1,7 +1,6 @@
 //! A schema as it is written, before its names are looked up.
 
-use ba_model::list::List;
-use ba_model::text::Str;
+use ba_model::{List, Str};
 use std::marker::Model;
 
 /// A name, quoted or not.

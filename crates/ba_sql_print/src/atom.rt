@@ -3,9 +3,7 @@ ghost use Rattle.std.specs.Prelude.{◌≡◌, IfOk, string_bytes};
 ghost use Rattle.ba_sql_print.specs.Printed.{atom_text, compared_text};
 
 use crate::operand::operand;
-use ba_model::policy::Parameter;
-use ba_model::query::{Atom, Op};
-use ba_model::schema::Schema;
+use ba_model::{Atom, Op, Parameter, Schema};
 use std::alloc::{AllocError, Global};
 
 #[tactic(auto, unfolding(crate::specs::Printed::compared_text))]

@@ -3,9 +3,7 @@ ghost use Rattle.std.specs.Prelude.{◌≡◌, IfOk, string_bytes};
 ghost use Rattle.ba_sql_print.specs.Printed.{column_name, operand_text, param_name};
 
 use crate::value::value;
-use ba_model::policy::Parameter;
-use ba_model::query::Operand;
-use ba_model::schema::Schema;
+use ba_model::{Operand, Parameter, Schema};
 use std::alloc::{AllocError, Global};
 
 /// The name of a column of the source at a place; empty where it isn't there.

@@ -4,9 +4,7 @@ ghost use Rattle.ba_sql_print.specs.Printed.{atom_text, conditions_text, from_te
 
 use crate::atom::atom;
 use crate::operand::operand;
-use ba_model::policy::Parameter;
-use ba_model::query::{Atom, Operand, Part};
-use ba_model::schema::Schema;
+use ba_model::{Atom, Operand, Parameter, Part, Schema};
 use std::alloc::{AllocError, Global};
 
 #[tactic(auto, unfolding(crate::specs::Printed::heads_text))]

@@ -4,10 +4,7 @@ ghost use Rattle.ba_model.specs.Fit.{IsQuery, kinds_of};
 ghost use Rattle.ba_sql_print.specs.Printed.{query_text};
 
 use crate::part::part;
-use ba_model::list::List;
-use ba_model::policy::Parameter;
-use ba_model::query::Query;
-use ba_model::schema::Schema;
+use ba_model::{List, Parameter, Query, Schema};
 use std::alloc::{AllocError, Global};
 
 /// The text of a query for a schema and parameters, in SQL.

@@ -4,7 +4,7 @@ ghost use Rattle.ba_lex.specs.Spelling.{doubled};
 ghost use Rattle.ba_lex.specs.Tokens.{HasNoQuote};
 ghost use Rattle.ba_sql_print.specs.Printed.{value_text};
 
-use ba_model::value::Value;
+use ba_model::Value;
 use std::alloc::{AllocError, Global};
 
 fn split_at_quote(text: &str) -> Option<(&str, &str)>

@@ -5,8 +5,7 @@ ghost use Rattle.std.specs.Str.{bytes_eq};
 ghost use Rattle.ba_model.specs.SchemaFaults.{columns_of};
 ghost use Rattle.ba_sql_query.specs.Names.{column_place, has_column};
 
-use ba_model::schema::{Column, Schema};
-use ba_model::text::Str;
+use ba_model::{Column, Schema, Str};
 
 /// The columns of the table of this number, none if it isn't there.
 pub fn columns_of(schema: &Schema, table: u32) -> &[Column]

@@ -5,7 +5,7 @@ ghost use Rattle.ba_model.specs.QueryFaults as faults;
 ghost use Rattle.ba_sql_query.specs.Parts.{count_after, count_both, count_either, count_join, count_of, count_run, count_sum, count_top, fits_by, measure, members, parts_of};
 
 use crate::resolved::{ResolvedNode, ResolvedSelect, ResolvedTest};
-use ba_model::limits::{MAX_ATOMS, MAX_HEAD, MAX_PART_TABLES, MAX_PARTS};
+use ba_model::{MAX_ATOMS, MAX_HEAD, MAX_PARTS, MAX_PART_TABLES};
 use std::alloc::{AllocError, Global};
 
 /// More parts than a query may have: counts are held here.

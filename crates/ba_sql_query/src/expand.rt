@@ -3,9 +3,7 @@ ghost use Rattle.std.specs.Prelude.{◌≡◌, ◌++◌, [], ◌∷◌, IfOk, On
 ghost use Rattle.ba_sql_query.specs.Parts.{after, alternatives, both_top, equation, join_top, members, part_of, parts_of, product, select_parts};
 
 use crate::resolved::{ResolvedNode, ResolvedSelect, ResolvedTest};
-use ba_model::list::List;
-use ba_model::query::{Atom, Op, Operand, Part};
-use ba_model::same::Duplicate;
+use ba_model::{Atom, Duplicate, List, Op, Operand, Part};
 use std::alloc::{AllocError, Global};
 
 /// The members of a disjunctive form, each a list of atoms.

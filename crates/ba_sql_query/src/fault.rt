@@ -4,7 +4,7 @@ ghost use Rattle.ba_sql_query.specs.Errors.{lex_error, rank, syntax_error};
 ghost use Rattle.ba_sql_query.specs.declared.fault.ReadQueryError.TheVariants.{NoMemory, Fault};
 
 use ba_lex::{LexError, LexFault};
-use ba_model::text::Str;
+use ba_model::Str;
 use ba_sql_syntax::fault::{SyntaxError, SyntaxFault};
 use std::alloc::{AllocError, AllocFailed};
 use thiserror::Error;

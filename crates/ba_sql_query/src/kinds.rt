@@ -7,10 +7,7 @@ ghost use Rattle.ba_sql_query.specs.Meaning.{atom_kinds, heads_agree, kind_in, k
 ghost use Rattle.ba_sql_query.specs.Parts.{equation, node_atoms, test_atoms, written_part};
 
 use crate::resolved::{ResolvedNode, ResolvedSelect, ResolvedTest};
-use ba_model::check_query::operand_kind;
-use ba_model::policy::Parameter;
-use ba_model::query::{Atom, Op, Operand};
-use ba_model::schema::{Kind, Schema};
+use ba_model::{Atom, Kind, Op, Operand, Parameter, Schema, operand_kind};
 
 fn is_null(operand: &Operand) -> bool
     ensures { result ≡ faults.is_null operand.now }

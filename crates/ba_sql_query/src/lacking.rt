@@ -8,8 +8,7 @@ use crate::fault::{ReadQueryError, ReadQueryFault};
 use crate::names::{column_of, param_of};
 use crate::resolve::tables_of;
 use crate::scope::Scope;
-use ba_model::policy::Parameter;
-use ba_model::schema::Schema;
+use ba_model::{Parameter, Schema};
 use ba_sql_syntax::written::{Constant, Heads, Item, Node, Select, Side, Test};
 use std::alloc::{AllocError, Global};
 

@@ -9,11 +9,7 @@ use crate::columns::column_place;
 use crate::fault::{ReadQueryError, ReadQueryFault};
 use crate::scope::Scope;
 use crate::spot::numbered;
-use ba_model::policy::Parameter;
-use ba_model::query::Operand;
-use ba_model::same::Duplicate;
-use ba_model::schema::{Schema, Table};
-use ba_model::text::Str;
+use ba_model::{Duplicate, Operand, Parameter, Schema, Str, Table};
 use ba_sql_syntax::written::{Constant, Named, Side};
 use std::alloc::Global;
 

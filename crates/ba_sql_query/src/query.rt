@@ -13,11 +13,7 @@ use crate::fault::{ReadQueryError, ReadQueryFault};
 use crate::kinds::{heads_agree, kinds_agree, orders_numbers};
 use crate::resolve::names_of;
 use crate::resolved::ResolvedSelect;
-use ba_model::check_query::QueryDraft;
-use ba_model::list::List;
-use ba_model::policy::Parameter;
-use ba_model::query::Query;
-use ba_model::schema::Schema;
+use ba_model::{List, Parameter, Query, QueryDraft, Schema};
 use ba_sql_syntax::written::QueryText;
 use std::alloc::{AllocError, Global};
 

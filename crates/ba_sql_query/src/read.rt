@@ -9,10 +9,7 @@ use crate::fault::ReadQueryError;
 use crate::query::query_of_written;
 use ba_grammar::lexemes;
 use ba_lex::{Lexeme, tokens};
-use ba_model::list::List;
-use ba_model::policy::Parameter;
-use ba_model::query::Query;
-use ba_model::schema::Schema;
+use ba_model::{List, Parameter, Query, Schema};
 use ba_sql_syntax::read_written;
 use std::alloc::Global;
 

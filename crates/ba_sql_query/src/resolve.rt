@@ -11,10 +11,7 @@ use crate::lacking::first_of_names;
 use crate::names::{constant_of, operand_of, table_of};
 use crate::resolved::{ResolvedNode, ResolvedSelect, ResolvedTest};
 use crate::scope::Scope;
-use ba_model::list::List;
-use ba_model::policy::Parameter;
-use ba_model::query::{Atom, Operand};
-use ba_model::schema::{Column, Schema};
+use ba_model::{Atom, Column, List, Operand, Parameter, Schema};
 use ba_sql_syntax::written::{Constant, Heads, Item, Node, QueryText, Select, Source, Test};
 use std::alloc::{AllocError, Global};
 

@@ -1,7 +1,6 @@
 //! Selects whose names are numbers.
 
-use ba_model::list::List;
-use ba_model::query::{Atom, Operand};
+use ba_model::{Atom, List, Operand};
 
 /// A condition without AND and OR.
 #[derive(Debug, Drop)]

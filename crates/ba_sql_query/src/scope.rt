@@ -3,7 +3,7 @@ ghost use Rattle.std.specs.Prelude.{◌≡◌, IfOk};
 
 use crate::sources::Sources;
 use crate::tables::Tables;
-use ba_model::schema::Schema;
+use ba_model::Schema;
 use ba_sql_syntax::written::Source;
 use std::alloc::{AllocError, Global};
 

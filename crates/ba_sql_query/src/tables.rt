@@ -7,8 +7,7 @@ ghost use Rattle.ba_sql_query.specs.Spots.{Keeps, spot_kept};
 use crate::columns::has_column;
 use crate::fault::ReadQueryFault;
 use crate::spot::{Spot, only_at};
-use ba_model::schema::Schema;
-use ba_model::text::Str;
+use ba_model::{Schema, Str};
 use std::alloc::{AllocError, Global};
 use std::marker::Model;
 

@@ -11,7 +11,7 @@ use crate::word::{Key, begins_with, constant, past, past_sign};
 use crate::written::{Constant, Side, Test};
 use ba_grammar::ReadError;
 use ba_lex::{Lexeme, Sign};
-use ba_model::query::Op;
+use ba_model::Op;
 use std::alloc::Global;
 
 /// What a sign compares by, and whether its sides are turned round.

@@ -10,7 +10,7 @@ use crate::word::{Key, begins_with, begins_with_sign, past, past_sign};
 use crate::written::Node;
 use ba_grammar::ReadError;
 use ba_lex::{Lexeme, Sign};
-use ba_model::list::List;
+use ba_model::List;
 use std::alloc::{AllocError, Global};
 
 /// Which operators wait for their right sides before a bracket that is open, or at the start.

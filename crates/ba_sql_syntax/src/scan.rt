@@ -6,7 +6,7 @@ ghost use Rattle.ba_sql_syntax.specs.Scan.{begins_bracket, scan, sign_unsupporte
 use crate::word::{has_meaning, is_unsupported};
 use ba_grammar::{begins_with_sign, is_sign};
 use ba_lex::{Lexeme, Sign, is_word};
-use ba_model::text::Str;
+use ba_model::Str;
 use std::alloc::{AllocError, Global};
 
 /// The name of a word that isn't supported behind or before a bracket.

@@ -11,7 +11,7 @@ use crate::word::{Key, begins_with, begins_with_sign, is_sign, name, past, past_
 use crate::written::{Heads, Item, Node, Select, Source};
 use ba_grammar::ReadError;
 use ba_lex::{Lexeme, Sign};
-use ba_model::list::List;
+use ba_model::List;
 use std::alloc::{AllocError, Global};
 
 /// A condition AND one more; the first may be empty.

@@ -7,7 +7,7 @@ ghost use Rattle.ba_sql_syntax.specs.Terminals.{terminals};
 use crate::word::{begins_with_sign, past_sign};
 use ba_grammar::ReadError;
 use ba_lex::{Lexeme, Sign};
-use ba_model::list::List;
+use ba_model::List;
 use std::alloc::Global;
 
 /// What the grammar reads at the front of words.

@@ -10,7 +10,7 @@ use crate::word::{
 use crate::written::{Named, Side};
 use ba_grammar::ReadError;
 use ba_lex::{Lexeme, Sign};
-use ba_model::text::Str;
+use ba_model::Str;
 use std::alloc::Global;
 
 /// A name, which AS may stand before, or nothing.

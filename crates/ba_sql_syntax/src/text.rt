@@ -12,7 +12,7 @@ use crate::word::{Key, begins_with, past, skip, skip_sign};
 use crate::written::{QueryText, Select};
 use ba_grammar::ReadError;
 use ba_lex::{Lexeme, Sign};
-use ba_model::list::List;
+use ba_model::List;
 use std::alloc::Global;
 
 /// One more select, behind UNION.

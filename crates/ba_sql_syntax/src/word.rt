@@ -7,9 +7,7 @@ ghost use Rattle.ba_sql_syntax.specs.Terminals.{has_meaning, is_key, is_sign, is
 use crate::written::Constant;
 use ba_grammar::{ReadError, is_among};
 use ba_lex::{Lexeme, Sign, is_word};
-use ba_model::same::Duplicate;
-use ba_model::text::Str;
-use ba_model::value::Value;
+use ba_model::{Duplicate, Str, Value};
 use std::alloc::Global;
 
 /// The words that mean something where they stand.

@@ -1,9 +1,6 @@
 //! A query as it is written, before its names mean anything.
 
-use ba_model::list::List;
-use ba_model::query::Op;
-use ba_model::text::Str;
-use ba_model::value::Value;
+use ba_model::{List, Op, Str, Value};
 
 /// A column's name, and the name of a source before it.
 #[derive(Debug, Drop)]

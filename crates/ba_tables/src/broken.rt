@@ -7,10 +7,7 @@ ghost use Rattle.ba_tables.specs.Broken.{broken_key, broken_link, broken_table, 
 ghost use Rattle.ba_tables.specs.Index.{IsIndex, key_values};
 ghost use Rattle.ba_tables.specs.declared.broken.TablesError.TheVariants.{NoMemory};
 
-use ba_model::list::List;
-use ba_model::same::Duplicate;
-use ba_model::schema::{Link, Table};
-use ba_model::value::{Row, RowSet, Value};
+use ba_model::{Duplicate, Link, List, Row, RowSet, Table, Value};
 use std::alloc::{AllocError, AllocFailed, Global};
 use std::collections::{BTreeMap, BTreeSet};
 use thiserror::Error;

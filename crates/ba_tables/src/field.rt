@@ -3,9 +3,7 @@ ghost use Rattle.std.specs.Prelude.{◌≡◌, IsErrOf};
 ghost use Rattle.ba_tables.specs.TableFile.{Gives, number_of, value_at};
 
 use crate::fault::{TableError, TableFault};
-use ba_model::schema::Kind;
-use ba_model::text::Str;
-use ba_model::value::Value;
+use ba_model::{Kind, Str, Value};
 use std::alloc::Global;
 
 const PLUS: u8 = b'+';

@@ -7,9 +7,7 @@ use crate::ROW_LIMIT;
 use crate::fault::{TableError, TableFault};
 use crate::line::{is_header, row_at};
 use crate::lines::Lines;
-use ba_model::list::List;
-use ba_model::schema::{Column, Schema, Table};
-use ba_model::value::Row;
+use ba_model::{Column, List, Row, Schema, Table};
 use csv::ByteRecord;
 use std::alloc::Global;
 

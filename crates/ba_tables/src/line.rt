@@ -7,9 +7,7 @@ ghost use Rattle.ba_tables.specs.TableFile.{Gives, is_header, row_at, values_fro
 
 use crate::fault::{TableError, TableFault};
 use crate::field::value_at;
-use ba_model::list::List;
-use ba_model::schema::Column;
-use ba_model::value::Row;
+use ba_model::{Column, List, Row};
 use csv::ByteRecord;
 use std::alloc::Global;
 

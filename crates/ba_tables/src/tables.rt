@@ -5,16 +5,14 @@ ghost use Rattle.ba_tables.specs.Broken.{Gives, checked};
 ghost use Rattle.ba_tables.specs.TableSet.{RowsFit};
 
 use crate::broken::{TablesError, broken_table};
-use ba_model::same::Duplicate;
-use ba_model::schema::Schema;
-use ba_model::value::RowSet;
+use ba_model::{Duplicate, RowSet, Schema, Shared};
 use std::alloc::Global;
 use std::marker::Model;
 
-/// A schema and a database that conforms to it.
+/// A schema, held in common with the policy, and a database that conforms to it.
 #[derive(Debug, Drop)]
 pub struct Tables {
-    schema: Schema,
+    schema: Shared<Schema>,
     rows: RowSet,
 }
 
@@ -34,7 +32,11 @@ impl Tables {
     ///
     /// A key is a UNIQUE constraint and a link a FOREIGN KEY with MATCH SIMPLE of the SQL standard: NULL on a key's columns breaks
     /// nothing, and NULL in a link's columns needs no target. Two equal rows break a key. The rows are dropped with an error.
-    pub fn check(alloc: Global, schema: &Schema, rows: RowSet) -> Result<Tables, TablesError>
+    pub fn check(
+        alloc: Global,
+        schema: &Shared<Schema>,
+        rows: RowSet,
+    ) -> Result<Tables, TablesError>
         requires fit { RowsFit schema.now rows }
         requires rules { schema.now.rules ≡ [] }
         ensures { Gives result (checked schema.now rows) }

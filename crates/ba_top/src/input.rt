@@ -18,11 +18,7 @@ use crate::refusal::{
 };
 use crate::report::{Input, Refusal};
 use ba_command::{Command, WordsError, read_words};
-use ba_model::list::List;
-use ba_model::policy::{Parameter, Policy};
-use ba_model::schema::{Schema, Table};
-use ba_model::text::Str;
-use ba_model::value::{Row, RowSet};
+use ba_model::{List, Parameter, Policy, Row, RowSet, Schema, Shared, Str, Table};
 use ba_outside::Files;
 use ba_plan::{Stop, read_file};
 use ba_policy::{PolicyError, read_policy};
@@ -47,12 +43,16 @@ struct Named<'a> {
     script: &'a str,
 }
 
-fn schema_at(alloc: Global, file: &str, bytes: &List<u8>) -> Result<Schema, Stop<Refusal>>
+fn schema_at(
+    alloc: Global,
+    file: &str,
+    bytes: &List<u8>,
+) -> Result<Shared<Schema>, Stop<Refusal>>
     ensures reads { Gives result (or_refused (ddl_refusal file.now) (schema_of bytes.now)) }
     ensures rules { IfOk result (λ schema. schema.rules ≡ []) }
 {
     match read_schema(alloc, bytes.as_slice()) {
-        Ok(schema) => Ok(schema),
+        Ok(schema) => Ok(Shared::new(alloc, schema)?),
         Err(DdlError::Fault(fault)) => {
             let file = Str::new(alloc, file)?;
             Err(Stop::Refused(ddl_refusal(file, fault)))
@@ -64,7 +64,7 @@ fn schema_at(alloc: Global, file: &str, bytes: &List<u8>) -> Result<Schema, Stop
 fn policy_at(
     alloc: Global,
     file: &str,
-    schema: &Schema,
+    schema: &Shared<Schema>,
     bytes: &List<u8>,
 ) -> Result<Policy, Stop<Refusal>>
     ensures reads { Gives result (or_refused (policy_refusal file.now) (policy_of schema.now bytes.now)) }
@@ -123,7 +123,7 @@ fn script_at(
 fn checked_at(
     alloc: Global,
     set: &str,
-    schema: &Schema,
+    schema: &Shared<Schema>,
     rows: RowSet,
 ) -> Result<Tables, Stop<Refusal>>
     requires fit { RowsOfTables schema.now.tables rows.tables }
@@ -177,7 +177,7 @@ fn read_tables<F: Files>(
     alloc: Global,
     files: &mut F,
     set: &str,
-    schema: &Schema,
+    schema: &Shared<Schema>,
 ) -> Result<Tables, Stop<Refusal>>
     requires rules { schema.now.rules ≡ [] }
     ensures follows { Follows (tables_plan set.now schema.now) (F.seen files.old) (F.seen files.new) result }

@@ -6,7 +6,7 @@ ghost use Rattle.ba_top.specs.Text.{entry_bytes, entry_line, lines_of, name_in, 
 
 use crate::report::{By, Entry, Journal, Reply, Why};
 use crate::summary::summary;
-use ba_model::text::Str;
+use ba_model::Str;
 use ba_outside::{Sink, WriteFail};
 use ba_plan::send;
 use ba_wire::entry::{Script, ScriptEntry};

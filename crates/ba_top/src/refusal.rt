@@ -6,9 +6,7 @@ ghost use Rattle.ba_top.specs.Refusals.{broken_refusal, counted_as, ddl_refusal,
 
 use crate::report::Refusal;
 use ba_lex::LexFault;
-use ba_model::check_schema::{Counted, SchemaFault};
-use ba_model::schema::Schema;
-use ba_model::text::Str;
+use ba_model::{Counted, Schema, SchemaFault, Str};
 use ba_policy::{Kept, PolicyFault};
 use ba_sql_ddl::DdlFault;
 use ba_sql_query::ReadQueryFault;

@@ -1,11 +1,7 @@
 //! What a run reads, does and answers.
 
 use ba_direct::cover::Cover;
-use ba_model::list::List;
-use ba_model::policy::Policy;
-use ba_model::query::Query;
-use ba_model::text::Str;
-use ba_model::value::Row;
+use ba_model::{List, Policy, Query, Row, Str};
 use ba_sql_query::ReadQueryFault;
 use ba_tables::tables::Tables;
 use ba_wire::entry::Script;

@@ -5,12 +5,7 @@ ghost use Rattle.std.specs.Option.{option_copied};
 ghost use Rattle.ba_wire.specs.Contexts.{are_declared, context_of, given_for, is_called, is_declared, is_named, of_kind, value_for, values_for};
 
 use crate::script::{Given, Member};
-use ba_model::list::List;
-use ba_model::policy::{Context, Parameter};
-use ba_model::same::Duplicate;
-use ba_model::schema::Kind;
-use ba_model::text::Str;
-use ba_model::value::Value;
+use ba_model::{Context, Duplicate, Kind, List, Parameter, Str, Value};
 use std::alloc::{AllocError, Global};
 
 fn is_named(name: &Str, param: &Parameter) -> bool

@@ -3,9 +3,7 @@ ghost use Rattle.std.specs.Prelude.{◌≡◌};
 ghost use Rattle.ba_wire.specs.declared.entry.ScriptError.TheVariants.{NoMemory};
 
 use crate::fault::{LineFault, What};
-use ba_model::list::List;
-use ba_model::policy::Context;
-use ba_model::text::Str;
+use ba_model::{Context, List, Str};
 use std::alloc::{AllocError, AllocFailed};
 use thiserror::Error;
 

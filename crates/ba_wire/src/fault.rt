@@ -9,7 +9,7 @@ ghost use Rattle.ba_wire.specs.Printed.{ReadsBack, line_name, reason_text, what_
 
 use crate::names::fault_words;
 use crate::object::Object;
-use ba_model::text::Str;
+use ba_model::Str;
 use ba_sql_query::ReadQueryFault;
 use std::alloc::{AllocError, Global};
 

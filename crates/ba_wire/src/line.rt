@@ -8,9 +8,7 @@ ghost use Rattle.ba_wire.specs.Printed.{ReadsBack, by_name, block_name, unsuppor
 
 use crate::names::fault_name;
 use crate::object::Object;
-use ba_model::list::List;
-use ba_model::text::Str;
-use ba_model::value::{Row, Value};
+use ba_model::{List, Row, Str, Value};
 use ba_sql_query::ReadQueryFault;
 use serde_json::Value as Json;
 use std::alloc::{AllocError, Global};

@@ -11,8 +11,7 @@ use crate::fault::{LineFault, What};
 use crate::lines::{Lines, count_lines, script_lines};
 use crate::requests::Requests;
 use crate::script::{LineError, LineReason, ScriptLine, read_line};
-use ba_model::list::List;
-use ba_model::policy::Parameter;
+use ba_model::{List, Parameter};
 use std::alloc::Global;
 
 fn line_at(alloc: Global, line: u64, bytes: &[u8]) -> Result<ScriptLine, ScriptError>

@@ -11,10 +11,7 @@ use crate::context::context_of;
 use crate::entry::{MAX_ASKS, MAX_REQUESTS, ScriptEntry, ScriptError, ScriptFault};
 use crate::fault::{LineFault, What};
 use crate::script::Member;
-use ba_model::list::List;
-use ba_model::policy::{Context, Parameter};
-use ba_model::same::Duplicate;
-use ba_model::text::Str;
+use ba_model::{Context, Duplicate, List, Parameter, Str};
 use std::alloc::Global;
 use std::collections::BTreeMap;
 

@@ -4,8 +4,7 @@ ghost use Rattle.serde_json.specs.View.{view, members_view};
 ghost use Rattle.ba_wire.specs.declared.script.LineError.TheVariants.{NoMemory};
 ghost use Rattle.ba_wire.specs.Script.{Gives, context_at, given_members, given_of, line_at, name_at, one_at, script_line_of, text_at, two_at};
 
-use ba_model::list::List;
-use ba_model::text::Str;
+use ba_model::{List, Str};
 use serde_json::{Map, Value};
 use std::alloc::{AllocError, Global};
 use thiserror::Error;

@@ -2,9 +2,7 @@
 
 use super::written::{Handle, context, field, null_query, one, policy, query, rows};
 use ba_eval::{answer, contains};
-use ba_model::list::List;
-use ba_model::query::{Op, Query};
-use ba_model::value::{Row, RowSet, Value};
+use ba_model::{List, Op, Query, Row, RowSet, Value};
 
 /// The rows of Users, Attendances, T and U.
 const TABLES: &str = "1 ann; 2 bob; 3 cy;

@@ -3,9 +3,7 @@
 use super::written::{Handle, context, field, null_query, policy, policy_of, query};
 use ba_direct::cover::Cover;
 use ba_direct::search::{cover, is_cover};
-use ba_model::policy::Policy;
-use ba_model::query::{Op, Query};
-use ba_model::same::Duplicate;
+use ba_model::{Duplicate, Op, Policy, Query};
 use std::alloc::AllocError;
 
 /// For each part the number of its view and the places of that view's tables, or `none`.

@@ -1,11 +1,6 @@
 //! What is asked: a schema, a policy, a context and queries. The parameter N is 5.
 
-use ba_model::list::List;
-use ba_model::policy::{Context, Policy, View};
-use ba_model::query::{Atom, Op, Operand, Part, Query};
-use ba_model::schema::Schema;
-use ba_model::text::Str;
-use ba_model::value::{Row, Value};
+use ba_model::{Atom, Context, List, Op, Operand, Part, Policy, Query, Row, Schema, Shared, Str, Value, View};
 use ba_policy::read_policy;
 use ba_sql_ddl::read_schema;
 use ba_sql_query::read_query;
@@ -21,8 +16,9 @@ CREATE TABLE Attendances (UId INT NOT NULL, EId INT NOT NULL, PRIMARY KEY (UId, 
 CREATE TABLE T (Hidden INT NOT NULL, Shown INT NOT NULL);
 CREATE TABLE U (Hidden INT NOT NULL, Shown INT NOT NULL);";
 
-fn schema(rt: &impl Handle, text: &str) -> Schema {
-    read_schema(rt.alloc(), text.as_bytes()).expect(rt, "a schema")
+fn schema(rt: &impl Handle, text: &str) -> Shared<Schema> {
+    let schema = read_schema(rt.alloc(), text.as_bytes()).expect(rt, "a schema");
+    Shared::new(rt.alloc(), schema).expect(rt, "memory")
 }
 
 /// The policy of the view V; its text may go on with further views.

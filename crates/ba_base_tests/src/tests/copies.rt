@@ -1,12 +1,7 @@
 //! Copies of whole values. Those of their parts are made on the way.
 
 use super::written::{Handle, atom, numbers, one, operands, text, value};
-use ba_model::list::List;
-use ba_model::policy::{CacheKey, Context, Parameter, Policy, View};
-use ba_model::query::{Part, Query};
-use ba_model::same::{Duplicate, Same};
-use ba_model::schema::{Column, Kind, Link, Rule, Schema, Table};
-use ba_model::value::{Row, RowSet};
+use ba_model::{CacheKey, Column, Context, Duplicate, Kind, Link, List, Parameter, Part, Policy, Query, Row, RowSet, Rule, Same, Schema, Shared, Table, View};
 
 /// A query with an operand and a value of each form.
 fn query(rt: &impl Handle) -> Query {
@@ -67,7 +62,7 @@ fn policy(rt: &impl Handle) -> Policy {
         queries: one(rt, query(rt)),
     };
     Policy {
-        schema: schema(rt),
+        schema: Shared::new(rt.alloc(), schema(rt)).expect(rt, "memory"),
         params: one(rt, parameter),
         views: one(rt, view),
         keys: one(rt, key),

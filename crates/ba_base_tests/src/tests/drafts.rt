@@ -1,11 +1,7 @@
 //! Drafts of schemas and queries, with each kind of fault and without.
 
 use super::written::{Handle, atom, field, number, numbers, one, operands, text};
-use ba_model::check_query::{QueryDraft, QueryFault};
-use ba_model::check_schema::{Counted, SchemaDraft, SchemaError, SchemaFault};
-use ba_model::list::List;
-use ba_model::query::{Part, Query};
-use ba_model::schema::{Column, Kind, Link, Schema, Table};
+use ba_model::{Column, Counted, Kind, Link, List, Part, Query, QueryDraft, QueryFault, Schema, SchemaDraft, SchemaError, SchemaFault, Table};
 
 fn column(rt: &impl Handle, name: &str, kind: Kind) -> Column {
     Column {

@@ -2,7 +2,7 @@
 
 use super::files::held;
 use super::written::Handle;
-use ba_model::list::List;
+use ba_model::List;
 use ba_outside::{MemFiles, MemSink, WriteFail};
 use ba_plan::{Stop, read_file, send};
 

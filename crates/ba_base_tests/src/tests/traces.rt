@@ -2,15 +2,17 @@
 
 use super::written::{Handle, one, value};
 use ba_comply::trace::{Trace, TraceEntry};
-use ba_model::list::List;
-use ba_model::query::Query;
+use ba_model::{List, Query, Shared};
 
 fn entry(rt: &impl Handle, word: &str) -> TraceEntry {
     let query = Query {
         parts: List::new(rt.alloc()),
     };
     let rows = one(rt, one(rt, value(rt, word)));
-    TraceEntry { query, rows }
+    TraceEntry {
+        query: Shared::new(rt.alloc(), query).expect(rt, "memory"),
+        rows: Shared::new(rt.alloc(), rows).expect(rt, "memory"),
+    }
 }
 
 #[test]
@@ -22,6 +24,6 @@ fn entries_in_order(rt: HostRuntime) {
     assert_eq!(rt; trace.len(), 2);
     for (i, word) in [(0, "5"), (1, "7")] {
         let rows = one(&rt, one(&rt, value(&rt, word)));
-        assert!(rt; trace.entry(i).rows == rows, "entry {i}");
+        assert!(rt; *trace.entry(i).rows == rows, "entry {i}");
     }
 }

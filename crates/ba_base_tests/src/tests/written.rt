@@ -1,9 +1,6 @@
 //! Values and operands that are written as words.
 
-use ba_model::list::List;
-use ba_model::query::{Atom, Op, Operand};
-use ba_model::text::Str;
-use ba_model::value::Value;
+use ba_model::{Atom, List, Op, Operand, Str, Value};
 use std::process::Abort;
 
 /// What a test has: memory, and an end of the process where there is none.

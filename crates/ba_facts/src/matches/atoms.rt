@@ -6,7 +6,7 @@ ghost use Rattle.ba_facts.specs.Matches.{Under, term_of, terms_at};
 
 use crate::matches::search::{Search, Wanted};
 use crate::term::TermRef;
-use ba_model::query::{Atom, Op, Operand};
+use ba_model::{Atom, Op, Operand};
 
 impl<'a> Search<'a> {
     /// What the operand stands for, if the chosen facts have it.

@@ -9,9 +9,7 @@ ghost use Rattle.ba_facts.specs.Searching.{HasAtom, HasAtomFrom, lesser};
 use crate::matches::search::Search;
 use crate::term::{Term, TermAtom, TermRef};
 use arrayvec::ArrayVec;
-use ba_model::list::List;
-use ba_model::query::{Atom, Operand};
-use ba_model::same::Same;
+use ba_model::{Atom, List, Operand, Same};
 
 /// An atom, and a row that the head has to be the same as, if there is one.
 #[derive(Clone, Copy)]

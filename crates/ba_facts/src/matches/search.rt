@@ -8,8 +8,7 @@ ghost use Rattle.ba_facts.specs.Searching.{AddsThose, Completes, IsAnsweredFrom}
 use crate::branch::Branch;
 use crate::term::{Mapping, Side};
 use arrayvec::ArrayVec;
-use ba_model::list::List;
-use ba_model::query::{Operand, Part};
+use ba_model::{List, Operand, Part};
 use std::alloc::{AllocError, Global};
 
 /// What an atom has to be: `Live`, an `=` that is shown or another that isn't refuted, or `Shown`.

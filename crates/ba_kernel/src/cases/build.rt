@@ -8,9 +8,7 @@ ghost use Rattle.ba_kernel.specs.Tidy.{FactsAreThere, HasTerm, HasTerms, IsPartF
 use crate::cases::terms::operand_term;
 use ba_facts::branch::Branch;
 use ba_facts::term::{Side, Term, TermAtom};
-use ba_model::query::{Atom, Operand, Part};
-use ba_model::same::Duplicate;
-use ba_model::schema::{Column, Schema};
+use ba_model::{Atom, Column, Duplicate, Operand, Part, Schema};
 use std::alloc::{AllocError, Global};
 
 /// For each of the parts the case where it gives the row.

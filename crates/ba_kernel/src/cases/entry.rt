@@ -12,8 +12,7 @@ use crate::fact::fact_at;
 use crate::problem::Problem;
 use ba_facts::branch::Branch;
 use ba_facts::term::Side;
-use ba_model::query::Part;
-use ba_model::schema::Schema;
+use ba_model::{Part, Schema};
 use std::alloc::{AllocError, Global};
 
 /// For each part of the entry's query the case where it gives the entry's row on side One.

@@ -12,8 +12,7 @@ use crate::fact::fact_at;
 use crate::problem::Problem;
 use ba_facts::branch::Branch;
 use ba_facts::term::{Term, TermAtom};
-use ba_model::query::Op;
-use ba_model::same::Duplicate;
+use ba_model::{Duplicate, Op};
 use std::alloc::{AllocError, Global};
 
 /// The one case of a key: the two facts' terms are the same, column by column.

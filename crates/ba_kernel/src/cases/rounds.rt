@@ -7,9 +7,7 @@ ghost use Rattle.ba_kernel.specs.Tidy.{HasLiteral, IsLiteral, IsLiteralOfSome};
 
 use crate::problem::Problem;
 use ba_facts::branch::Branch;
-use ba_model::query::{Atom, Operand, Part, Query};
-use ba_model::same::Same;
-use ba_model::value::Value;
+use ba_model::{Atom, Operand, Part, Query, Same, Value};
 use std::alloc::AllocError;
 
 /// One more than the greatest round of the facts. A round past 32 bits is told as want of memory.

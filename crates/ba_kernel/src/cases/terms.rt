@@ -7,8 +7,7 @@ ghost use Rattle.ba_kernel.specs.Tidy.{HasTerm};
 
 use ba_facts::branch::Branch;
 use ba_facts::term::{Term, TermRef};
-use ba_model::query::Operand;
-use ba_model::same::Duplicate;
+use ba_model::{Duplicate, Operand};
 use std::alloc::{AllocError, Global};
 
 /// A copy of the term.

@@ -9,7 +9,7 @@ use crate::passes::mapping::side_of;
 use crate::problem::Problem;
 use ba_facts::branch::Branch;
 use ba_facts::term::Side;
-use ba_model::query::{Operand, Part};
+use ba_model::{Operand, Part};
 
 /// Whether the entry's row is given on side One.
 pub fn entry_is_met(problem: &Problem, branch: &Branch, entry: u64) -> bool

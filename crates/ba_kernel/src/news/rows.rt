@@ -9,8 +9,7 @@ use crate::passes::row::link_of;
 use crate::problem::Problem;
 use ba_facts::branch::Branch;
 use ba_facts::term::{Fact, Term};
-use ba_model::query::Op;
-use ba_model::schema::Link;
+use ba_model::{Link, Op};
 
 /// Whether the two facts' terms are the same, column by column.
 pub fn key_is_met(branch: &Branch, left: u32, right: u32) -> bool

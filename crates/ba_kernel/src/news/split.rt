@@ -11,10 +11,7 @@ use crate::passes::split::neither_null;
 use crate::problem::Problem;
 use ba_facts::branch::Branch;
 use ba_facts::term::{Side, Term, TermAtom};
-use ba_model::list::List;
-use ba_model::policy::View;
-use ba_model::query::{Op, Part};
-use ba_model::schema::Rule;
+use ba_model::{List, Op, Part, Rule, View};
 
 /// The round of a split by the atom, if it tells the branch what it doesn't have: the atom may tell
 /// it, and is one of a live mapping.

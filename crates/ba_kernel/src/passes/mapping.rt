@@ -8,7 +8,7 @@ ghost use Rattle.ba_kernel.specs.Tests.{FactsPass, FirstWithout, Tested};
 use crate::step::StepFault;
 use ba_facts::branch::Branch;
 use ba_facts::term::Side;
-use ba_model::query::Part;
+use ba_model::Part;
 
 /// Whether the facts are the part's on the side and show each of its atoms.
 pub fn test_facts(branch: &Branch, side: Side, part: &Part, facts: &[u32]) -> Result<(), StepFault>

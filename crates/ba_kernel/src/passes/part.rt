@@ -9,7 +9,7 @@ use crate::problem::Problem;
 use crate::step::StepFault;
 use ba_facts::branch::Branch;
 use ba_facts::term::Side;
-use ba_model::query::Part;
+use ba_model::Part;
 
 /// Whether the facts are those of a part of the rule's left query, on one side, and show its atoms.
 pub fn test_rule(

@@ -9,9 +9,7 @@ use crate::problem::Problem;
 use crate::step::StepFault;
 use ba_facts::branch::Branch;
 use ba_facts::term::{Fact, Term};
-use ba_model::list::List;
-use ba_model::query::Op;
-use ba_model::schema::Link;
+use ba_model::{Link, List, Op};
 
 /// Whether the two facts are of one side and table and are shown equal on the table's key.
 pub fn test_key(

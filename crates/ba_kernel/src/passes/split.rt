@@ -10,10 +10,7 @@ ghost use Rattle.ba_kernel.specs.Tests.{AreOfKind, SomeKind, Tested};
 use crate::step::StepFault;
 use ba_facts::branch::Branch;
 use ba_facts::term::{Term, TermAtom};
-use ba_model::query::Op;
-use ba_model::same::Same;
-use ba_model::schema::Kind;
-use ba_model::value::Value;
+use ba_model::{Kind, Op, Same, Value};
 
 /// Whether the atom may be split.
 pub fn test_split(branch: &Branch, atom: &TermAtom) -> Result<(), StepFault>

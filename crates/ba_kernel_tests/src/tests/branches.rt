@@ -10,8 +10,7 @@ use super::words::{number, term_atom};
 use ba_facts::branch::Branch;
 use ba_facts::knowledge::Knowledge;
 use ba_facts::term::{Side, Term};
-use ba_model::list::List;
-use ba_model::schema::Kind;
+use ba_model::{Kind, List};
 use std::alloc::{AllocError, Global};
 
 fn kinds(alloc: Global) -> Result<List<Kind>, AllocError> {

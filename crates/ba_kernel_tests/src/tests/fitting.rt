@@ -9,13 +9,7 @@ ghost use Rattle.ba_model.specs.declared.value.Value.TheVariants.{Null};
 ghost use Rattle.ba_kernel.specs.Courses.{EntryFits, LinkFits, LinksFit, ProblemFits, RowOperandFits, RuleFits};
 
 use ba_kernel::problem::{Problem, ProblemEntry};
-use ba_model::check_query::{QueryDraft, operand_kind};
-use ba_model::list::List;
-use ba_model::policy::{Parameter, Policy, View};
-use ba_model::query::{Atom, Op, Operand, Part, Query};
-use ba_model::same::{Duplicate, Same};
-use ba_model::schema::{Column, Kind, Link, Rule, Schema, Table};
-use ba_model::value::Value;
+use ba_model::{Atom, Column, Duplicate, Kind, Link, List, Op, Operand, Parameter, Part, Policy, Query, QueryDraft, Rule, Same, Schema, Table, Value, View, operand_kind};
 use std::alloc::{AllocError, Global};
 
 /// A problem that doesn't fit is told as want of memory.

@@ -8,11 +8,7 @@
 
 use super::words::{add_atoms, add_numbers, add_operands, bar, number, numbers};
 use ba_kernel::problem::{Problem, ProblemEntry};
-use ba_model::list::List;
-use ba_model::policy::{Parameter, Policy, View};
-use ba_model::query::{Part, Query};
-use ba_model::schema::{Column, Kind, Link, Rule, Schema, Table};
-use ba_model::text::Str;
+use ba_model::{Column, Kind, Link, List, Parameter, Part, Policy, Query, Rule, Schema, Shared, Str, Table, View};
 use std::alloc::{AllocError, Global};
 
 fn no_name(alloc: Global) -> Str {
@@ -164,9 +160,21 @@ fn add_view(alloc: Global, views: &mut List<View>, text: &str) -> Result<(), All
     views.push(view)
 }
 
+/// Adds parts to a query that nothing else holds.
+fn add_parts_to(
+    alloc: Global,
+    query: &mut Shared<Query>,
+    text: &str,
+) -> Result<(), AllocError> {
+    match query.get_mut() {
+        Some(query) => add_parts(alloc, query, text),
+        None => Err(AllocError),
+    }
+}
+
 fn fill_entry(alloc: Global, entry: &mut ProblemEntry, text: &str) -> Result<(), AllocError> {
     let (asked, told) = text.split_once("gives").unwrap_or((text, ""));
-    add_parts(alloc, &mut entry.query, asked)?;
+    add_parts_to(alloc, &mut entry.query, asked)?;
     add_operands(alloc, &mut entry.row, told)
 }
 
@@ -176,7 +184,7 @@ fn add_entry(
     text: &str,
 ) -> Result<(), AllocError> {
     let mut entry = ProblemEntry {
-        query: empty_query(alloc),
+        query: Shared::new(alloc, empty_query(alloc))?,
         row: List::new(alloc),
     };
     fill_entry(alloc, &mut entry, text)?;
@@ -192,23 +200,33 @@ fn empty_schema(alloc: Global) -> Schema {
     }
 }
 
-pub(super) fn empty_policy(alloc: Global) -> Policy {
+fn policy_of(alloc: Global, schema: Shared<Schema>) -> Policy {
     Policy {
-        schema: empty_schema(alloc),
+        schema,
         params: List::new(alloc),
         views: List::new(alloc),
         keys: List::new(alloc),
     }
 }
 
-pub(super) fn empty_problem(alloc: Global) -> Problem {
+pub(super) fn empty_policy(alloc: Global) -> Result<Shared<Policy>, AllocError> {
+    let schema = Shared::new(alloc, empty_schema(alloc))?;
+    Shared::new(alloc, policy_of(alloc, schema))
+}
+
+fn problem_of(alloc: Global, policy: Shared<Policy>, goal: Shared<Query>) -> Problem {
     Problem {
-        policy: empty_policy(alloc),
+        policy,
         vars: List::new(alloc),
         assumed: List::new(alloc),
         entries: List::new(alloc),
-        goal: empty_query(alloc),
+        goal,
     }
+}
+
+pub(super) fn empty_problem(alloc: Global) -> Result<Problem, AllocError> {
+    let goal = Shared::new(alloc, empty_query(alloc))?;
+    Ok(problem_of(alloc, empty_policy(alloc)?, goal))
 }
 
 fn add_parameter(alloc: Global, params: &mut List<Parameter>) -> Result<(), AllocError> {
@@ -218,6 +236,19 @@ fn add_parameter(alloc: Global, params: &mut List<Parameter>) -> Result<(), Allo
     })
 }
 
+fn add_to_schema(
+    alloc: Global,
+    schema: &mut Schema,
+    name: &str,
+    text: &str,
+) -> Result<(), AllocError> {
+    match name {
+        "table" => add_table(alloc, &mut schema.tables, text),
+        "rule" => add_rule(alloc, &mut schema.rules, text),
+        _ => Err(AllocError),
+    }
+}
+
 fn add_to_policy(
     alloc: Global,
     policy: &mut Policy,
@@ -225,11 +256,12 @@ fn add_to_policy(
     text: &str,
 ) -> Result<(), AllocError> {
     match name {
-        "table" => add_table(alloc, &mut policy.schema.tables, text),
-        "rule" => add_rule(alloc, &mut policy.schema.rules, text),
         "parameter" => add_parameter(alloc, &mut policy.params),
         "view" => add_view(alloc, &mut policy.views, text),
-        _ => Err(AllocError),
+        _ => match policy.schema.get_mut() {
+            Some(schema) => add_to_schema(alloc, schema, name, text),
+            None => Err(AllocError),
+        },
     }
 }
 
@@ -241,8 +273,11 @@ fn add(alloc: Global, problem: &mut Problem, line: &str) -> Result<(), AllocErro
         "told" => add_entry(alloc, &mut problem.entries, text),
         "assumed" => add_atoms(alloc, &mut problem.assumed, text),
         "variable" => problem.vars.push(kind('i')),
-        "goal" => add_parts(alloc, &mut problem.goal, text),
-        _ => add_to_policy(alloc, &mut problem.policy, name, text),
+        "goal" => add_parts_to(alloc, &mut problem.goal, text),
+        _ => match problem.policy.get_mut() {
+            Some(policy) => add_to_policy(alloc, policy, name, text),
+            None => Err(AllocError),
+        },
     }
 }
 

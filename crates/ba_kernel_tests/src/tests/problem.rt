@@ -4,11 +4,7 @@ use super::given::empty_policy;
 use super::words::{add_atoms, add_operands};
 use ba_comply::trace::{Trace, TraceEntry};
 use ba_kernel::problem::Problem;
-use ba_model::list::List;
-use ba_model::policy::Context;
-use ba_model::query::{Atom, Operand, Query};
-use ba_model::same::Same;
-use ba_model::value::{Row, Value};
+use ba_model::{Atom, Context, List, Operand, Query, Row, Same, Shared, Value};
 use std::alloc::{AllocError, Global};
 use std::test::Fail;
 
@@ -19,18 +15,16 @@ fn numbers(alloc: Global, first: i64, second: i64) -> Result<Row, AllocError> {
     Ok(row)
 }
 
-fn nothing(alloc: Global) -> Query {
-    Query {
-        parts: List::new(alloc),
-    }
+fn nothing(alloc: Global) -> Result<Shared<Query>, AllocError> {
+    let parts = List::new(alloc);
+    Shared::new(alloc, Query { parts })
 }
 
 /// A recorded query with these rows.
 fn add_entry(alloc: Global, trace: &mut Trace, rows: List<Row>) -> Result<(), AllocError> {
-    trace.push(TraceEntry {
-        query: nothing(alloc),
-        rows,
-    })
+    let query = nothing(alloc)?;
+    let rows = Shared::new(alloc, rows)?;
+    trace.push(TraceEntry { query, rows })
 }
 
 /// Records one query without rows, and one with two.
@@ -47,7 +41,9 @@ fn question(alloc: Global, trace: &mut Trace) -> Result<Problem, AllocError> {
     let ctx = Context {
         values: numbers(alloc, 7, 8)?,
     };
-    Problem::of(alloc, &empty_policy(alloc), &ctx, trace, &nothing(alloc))
+    let policy = empty_policy(alloc)?;
+    let query = nothing(alloc)?;
+    Problem::of(alloc, &policy, &ctx, trace, &query)
 }
 
 fn are_atoms(alloc: Global, atoms: &List<Atom>, text: &str) -> Result<bool, AllocError> {

@@ -44,7 +44,7 @@ fn fill(alloc: Global, problem: &mut Problem, views: &str, given: &str) -> Resul
 }
 
 fn start(alloc: Global, views: &str, given: &str) -> Result<Search, AllocError> {
-    let mut problem = empty_problem(alloc);
+    let mut problem = empty_problem(alloc)?;
     fill(alloc, &mut problem, views, given)?;
     Search::start(alloc, problem)
 }

@@ -6,9 +6,7 @@
 
 use ba_facts::branch::Branch;
 use ba_facts::term::{Fact, Lesson, Mapping, Side, Term, TermAtom, TermRef};
-use ba_model::query::Op;
-use ba_model::shared::Shared;
-use ba_model::value::Value;
+use ba_model::{Op, Shared, Value};
 use std::alloc::AllocError;
 use std::fmt::Write;
 

@@ -3,7 +3,7 @@
 
 use super::words::{number, numbers, term_atom};
 use ba_kernel::step::Step;
-use ba_model::list::List;
+use ba_model::List;
 use std::alloc::{AllocError, Global};
 
 fn at(numbers: &[u32], place: usize) -> u32 {

@@ -7,10 +7,7 @@
 //! commas, and between the columns of a line bars.
 
 use ba_facts::term::{Term, TermAtom};
-use ba_model::list::List;
-use ba_model::query::{Atom, Op, Operand};
-use ba_model::text::Str;
-use ba_model::value::Value;
+use ba_model::{Atom, List, Op, Operand, Str, Value};
 use std::alloc::{AllocError, Global};
 
 /// What stands between bars, from 0 on.

@@ -3,7 +3,7 @@
 //! A line is a text, ` => ` and what the text reads as. In it `~` stands for a line feed, and
 //! `[[3 x#,]]` for `x0,x1,x2,`: the piece so often, with its number for `#`.
 
-use ba_model::value::Value;
+use ba_model::Value;
 use std::alloc::{AllocError, Global};
 use std::fmt::Write;
 use std::process::Abort;

@@ -2,8 +2,7 @@
 
 use super::cases::{Reading, Told, all_are_so};
 use ba_lex::LexFault;
-use ba_model::check_schema::{Counted, SchemaFault};
-use ba_model::text::Str;
+use ba_model::{Counted, SchemaFault, Str};
 use ba_policy::{Kept, PolicyFault};
 use ba_sql_ddl::DdlFault;
 use ba_sql_query::ReadQueryFault;

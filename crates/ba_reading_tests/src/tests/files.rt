@@ -5,8 +5,7 @@
 use super::cases::{Reading, Told, all_are_so, bytes_of, write_value};
 use super::faults::write_table_fault;
 use super::standard::schema_of;
-use ba_model::list::List;
-use ba_model::value::Row;
+use ba_model::{List, Row};
 use ba_tables::fault::TableError;
 use ba_tables::file::{read_table, rows_of_file};
 use std::alloc::{AllocError, Global};

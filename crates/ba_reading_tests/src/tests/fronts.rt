@@ -3,7 +3,7 @@
 use super::cases::{Reading, Told, all_are_so};
 use ba_grammar::{Element, ReadError, all, any_word, lexemes, listed, name, number};
 use ba_lex::{Lexeme, tokens};
-use ba_model::list::List;
+use ba_model::List;
 use std::alloc::{AllocError, Global};
 use std::fmt::Write;
 use std::test::Fail;

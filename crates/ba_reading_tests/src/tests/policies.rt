@@ -5,8 +5,7 @@
 use super::cases::{Reading, Told, all_are_so};
 use super::faults::write_policy_fault;
 use super::standard::{kind_word, policy, schema};
-use ba_model::policy::{Parameter, Policy, View};
-use ba_model::same::Same;
+use ba_model::{Parameter, Policy, Same, View};
 use ba_policy::{PolicyError, read_policy};
 use ba_sql_query::read_query;
 use std::alloc::{AllocError, Global};

@@ -2,9 +2,7 @@
 
 use super::cases::Told;
 use ba_lex::LexFault;
-use ba_model::list::List;
-use ba_model::text::Str;
-use ba_model::value::{Row, Value};
+use ba_model::{List, Row, Str, Value};
 use ba_sql_query::ReadQueryFault;
 use ba_wire::line::{Block, By, Line, line_text};
 use ba_wire::summary::{Summary, summary_text};

@@ -5,8 +5,7 @@
 use super::cases::{Reading, Told, all_are_so};
 use super::faults::write_ddl_fault;
 use super::standard::kind_word;
-use ba_model::list::List;
-use ba_model::schema::{Column, Link, Schema, Table};
+use ba_model::{Column, Link, List, Schema, Table};
 use ba_sql_ddl::{DdlError, read_schema};
 use std::alloc::{AllocError, Global};
 use std::fmt::Write;

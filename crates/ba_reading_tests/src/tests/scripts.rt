@@ -3,7 +3,7 @@
 use super::cases::{Reading, Told, all_are_so, bytes_of, write_value};
 use super::faults::write_script_fault;
 use super::standard::policy_of;
-use ba_model::policy::Context;
+use ba_model::Context;
 use ba_wire::entry::{ScriptEntry, ScriptError};
 use ba_wire::read::read_script;
 use ba_wire::script::{Given, LineError, LineReason, Member, ScriptLine, read_line};

@@ -1,7 +1,6 @@
 //! The schema and the policy of most cases.
 
-use ba_model::policy::Policy;
-use ba_model::schema::{Kind, Schema};
+use ba_model::{Kind, Policy, Schema, Shared};
 use ba_policy::read_policy;
 use ba_sql_ddl::read_schema;
 use std::alloc::{AllocError, Global};
@@ -20,9 +19,9 @@ CREATE VIEW V2 AS SELECT UId, EId, At FROM Attendances WHERE UId = ?MyUId;
 CREATE VIEW V3 AS SELECT e.EId, e.Title, e.Duration FROM Events e
   JOIN Attendances a ON a.EId = e.EId WHERE a.UId = ?MyUId OR At IN (1, 2);";
 
-pub(super) fn schema_of(alloc: Global, text: &str) -> Result<Schema, AllocError> {
+pub(super) fn schema_of(alloc: Global, text: &str) -> Result<Shared<Schema>, AllocError> {
     match read_schema(alloc, text.as_bytes()) {
-        Ok(schema) => Ok(schema),
+        Ok(schema) => Shared::new(alloc, schema),
         Err(_) => Err(AllocError),
     }
 }
@@ -35,7 +34,7 @@ pub(super) fn policy_of(alloc: Global, schema: &str, text: &str) -> Result<Polic
     }
 }
 
-pub(super) fn schema(alloc: Global) -> Result<Schema, AllocError> {
+pub(super) fn schema(alloc: Global) -> Result<Shared<Schema>, AllocError> {
     schema_of(alloc, SCHEMA)
 }
 

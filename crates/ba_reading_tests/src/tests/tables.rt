@@ -3,8 +3,7 @@
 use super::cases::{Reading, Told, all_are_so};
 use super::faults::write_broken;
 use super::standard::schema_of;
-use ba_model::list::List;
-use ba_model::value::{Row, RowSet, Value};
+use ba_model::{List, Row, RowSet, Shared, Value};
 use ba_sql_ddl::read_schema;
 use ba_tables::broken::{TablesError, TablesFault, broken_table};
 use ba_tables::file::read_table;
@@ -31,6 +30,7 @@ fn check(alloc: Global, users: &[u8], tasks: &[u8]) -> Result<Tables, TablesErro
         return Err(TablesError::NoMemory);
     };
     let tables = List::from_vec(vec![in alloc; first, second]?);
+    let schema = Shared::new(alloc, schema)?;
     Tables::check(alloc, &schema, RowSet { tables })
 }
 

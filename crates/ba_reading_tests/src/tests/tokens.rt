@@ -3,8 +3,7 @@
 use super::cases::{Reading, Told, all_are_so, bytes_of};
 use super::faults::write_lex_fault;
 use ba_lex::{LexError, Lexeme, Token, tokens, tokens_of_bytes};
-use ba_model::list::List;
-use ba_model::text::Str;
+use ba_model::{List, Str};
 use std::alloc::{AllocError, Global};
 use std::fmt::Write;
 use std::test::Fail;
