@@ -7,7 +7,8 @@ use Rattle.ba_lex.specs.Faults.{Begins, IsOpenQuote, IsOpenText}
 use Rattle.ba_lex.specs.Reading.{EndsLine, IsLongest, ReadsTo, is_line}
 use Rattle.ba_lex.specs.Reading.ReadsTo.{blank, comment, next, nothing}
 use Rattle.ba_lex.specs.Spelling.{IsToken, doubled, fits, is_blank, is_in_range, is_name_quote}
-use Rattle.ba_lex.specs.Tokens.{◌>>=◌, front, lexeme_of, shape_of, token, tokens_from}
+use Rattle.ba_model.specs.Readings.{◌>>=◌}
+use Rattle.ba_lex.specs.Tokens.{front, lexeme_of, shape_of, token, tokens_from}
 use Rattle.ba_lex.specs.declared.front.Piece.{Piece}
 use Rattle.ba_lex.specs.declared.front.Piece.TheVariants.{Gap, Found, Bad}
 use Rattle.ba_lex.specs.declared.front.Shape.{Shape}

@@ -8,12 +8,13 @@ use Rattle.ba_lex.proofs.ShapeLemmas.{shape_edges}
 use Rattle.ba_lex.specs.declared.front.Piece.{Piece}
 use Rattle.ba_lex.specs.declared.front.Piece.TheVariants.{Gap, Found, Bad}
 use Rattle.ba_lex.specs.declared.front.Shape.{Shape}
-use Rattle.ba_lex.specs.declared.token.LexError.{LexError}
-use Rattle.ba_lex.specs.declared.token.LexError.TheVariants.{NoMemory, Fault}
+use Rattle.ba_model.specs.declared.failure.Failure.{Failure}
+use Rattle.ba_model.specs.declared.failure.Failure.TheVariants.{NoMemory, Fault}
 use Rattle.ba_lex.specs.declared.token.LexFault.{LexFault}
 use Rattle.ba_lex.specs.declared.token.Lexeme.{Lexeme}
 use Rattle.ba_lex.specs.declared.token.Token.{Token}
-use Rattle.ba_lex.specs.Tokens.{◌>>=◌, Fails, IsOfShape, front, lexeme_of, token, tokens_from, with_front}
+use Rattle.ba_model.specs.Readings.{◌>>=◌, Fails}
+use Rattle.ba_lex.specs.Tokens.{IsOfShape, front, lexeme_of, token, tokens_from, with_front}
 
 abbrev pub with_found : List Token → Result (List Token) LexFault → Result (List Token) LexFault
 with_found before read = read >>= λ ts. Ok (before ++ ts)
@@ -75,7 +76,7 @@ found before bytes at n shape x total some t e =
     ∙ sym (regroup before (token x at (at + n)) rest)
     ∙ (rw e at (turn_is before bytes at (Found shape n) total t))
 
-pub unfound : (before : List Token) (bytes : List ℕ) (at n : ℕ) (shape : Shape) (e : LexError) (total : Result (List Token) LexFault) → Turn before bytes at (Found shape n) total
+pub unfound : (before : List Token) (bytes : List ℕ) (at n : ℕ) (shape : Shape) (e : Failure LexFault) (total : Result (List Token) LexFault) → Turn before bytes at (Found shape n) total
     → Fails e (lexeme_of shape (take n (drop at bytes))) → Fails e total
 unfound before bytes at n shape NoMemory total t f = tt
 unfound before bytes at n shape (Fault fault) total t f = sym (rw f at (turn_is before bytes at (Found shape n) total t))

@@ -5,7 +5,8 @@ use Rattle.ba_lex.specs.Faults.{Begins}
 use Rattle.ba_lex.specs.Reading.{IsLongest, Reads, ReadsTo}
 use Rattle.ba_lex.specs.Reading.ReadsTo.{blank, comment, next, nothing}
 use Rattle.ba_lex.specs.Spelling.{IsToken, is_blank, is_in_range}
-use Rattle.ba_lex.specs.Tokens.{◌>>=◌, front, lexeme_of, shape_of, token, tokens_from, with_front}
+use Rattle.ba_model.specs.Readings.{◌>>=◌}
+use Rattle.ba_lex.specs.Tokens.{front, lexeme_of, shape_of, token, tokens_from, with_front}
 use Rattle.ba_lex.specs.declared.front.Piece.{Piece}
 use Rattle.ba_lex.specs.declared.front.Piece.TheVariants.{Gap, Found, Bad}
 use Rattle.ba_lex.specs.declared.front.Shape.{Shape}

@@ -5,8 +5,10 @@ use Rattle.std.proofs.lemmas.List.{drop-drop, drop_at, take_at}
 use Rattle.ba_lex.specs.Reading.{AreSpans, ReadsTo}
 use Rattle.ba_lex.specs.Reading.ReadsTo.{blank, comment, next, nothing}
 use Rattle.ba_lex.specs.Spelling.{IsToken}
-use Rattle.ba_lex.specs.Tokens.{Gives, tokens_from}
-use Rattle.ba_lex.specs.declared.token.LexError.{LexError}
+use Rattle.ba_lex.specs.Tokens.{tokens_from}
+use Rattle.ba_model.specs.Readings.{Gives}
+use Rattle.ba_model.specs.declared.failure.Failure.{Failure}
+use Rattle.ba_lex.specs.declared.token.LexFault.{LexFault}
 use Rattle.ba_lex.specs.declared.token.Token.{Token}
 use Rattle.ba_lex.proofs.ReadingLemmas.{Told, told}
 use Rattle.ba_lex.proofs.ShapeLemmas.{token_edges}
@@ -28,6 +30,6 @@ spans {at} {bytes} source from (next spelling rest x h fits long all more) is le
     let taken : take ((at + n) - at) (drop at source) ≡ spelling = ap (take ((at + n) - at)) split ∙ take_at spelling rest ((at + n) - at) (omega arith) in
     (le, omega arith, omega arith, subst (λ (s : List ℕ). IsToken s x) (sym taken) h, spans source (at + n) more (behind source bytes spelling rest at n is all refl) (omega arith))
 
-pub read_spans : (text : List ℕ) (r : Result (List Token) LexError) → Gives r (tokens_from text 0 0) → IfOk r (AreSpans text 0)
+pub read_spans : (text : List ℕ) (r : Result (List Token) (Failure LexFault)) → Gives r (tokens_from text 0 0) → IfOk r (AreSpans text 0)
 read_spans text (Ok ts) h = spans text 0 (subst (Told 0 text) h (told text)) refl (omega arith)
 read_spans text (Err e) h = tt

@@ -8,8 +8,6 @@ use Rattle.ba_lex.specs.declared.front.Piece.{Piece}
 use Rattle.ba_lex.specs.declared.front.Piece.TheVariants.{Gap, Found, Bad}
 use Rattle.ba_lex.specs.declared.front.Shape.{Shape}
 use Rattle.ba_lex.specs.declared.front.Shape.TheVariants.{Word, Quoted, Number, Text, Param, Sign as SignShape}
-use Rattle.ba_lex.specs.declared.token.LexError.{LexError}
-use Rattle.ba_lex.specs.declared.token.LexError.TheVariants.{NoMemory, Fault}
 use Rattle.ba_lex.specs.declared.token.LexFault.{LexFault}
 use Rattle.ba_lex.specs.declared.token.LexFault.TheVariants.{TooLong, BadByte, OpenQuote, NumberTooLarge}
 use Rattle.ba_lex.specs.declared.token.Lexeme.{Lexeme}
@@ -17,20 +15,7 @@ use Rattle.ba_lex.specs.declared.token.Lexeme.TheVariants as lexemes
 use Rattle.ba_lex.specs.declared.token.Sign.{Sign}
 use Rattle.ba_lex.specs.declared.token.Sign.TheVariants.{LeftParen, RightParen, Comma, Dot, Semicolon, Star, Equal, NotEqual, BangEqual, Less, LessEqual, Greater, GreaterEqual, Plus, Minus, Slash, Percent}
 use Rattle.ba_lex.specs.declared.token.Token.{Token}
-
-infixl 10 ◌>>=◌
-abbrev pub ◌>>=◌ : {A B : Type 0} → Result A LexFault → (A → Result B LexFault) → Result B LexFault
-(Ok x) >>= f = f x
-(Err e) >>= f = Err e
-
--- What was returned is what reading gives, unless memory ran out.
-abbrev pub Fails : {Y : Type 0} → LexError → Result Y LexFault → Type 0
-Fails NoMemory read = Unit {0}
-Fails (Fault f) read = read ≡ Err f
-
-abbrev pub Gives : {Y : Type 0} → Result Y LexError → Result Y LexFault → Type 0
-Gives (Ok x) read = read ≡ Ok x
-Gives (Err e) read = Fails e read
+use Rattle.ba_model.specs.Readings.{◌>>=◌}
 
 -- ---- what stands at the front: white space or a comment, a token of some shape, a fault; each with its length
 

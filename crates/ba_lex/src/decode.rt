@@ -1,11 +1,12 @@
 //! What a spelling says.
 ghost use Rattle.std.specs.Prelude.{◌≡◌, ◌≤◌, false, IfOk, MatchOption, ◌++◌, ◌∷◌, length};
 ghost use Rattle.std.specs.Str.{IsUtf8};
-ghost use Rattle.ba_lex.specs.Tokens.{Gives, HasNoQuote, IsOfShape, after_quote, inside, lexeme_of, undoubled};
+ghost use Rattle.ba_model.specs.Readings.{Gives};
+ghost use Rattle.ba_lex.specs.Tokens.{HasNoQuote, IsOfShape, after_quote, inside, lexeme_of, undoubled};
 
 use crate::front::Shape;
-use crate::token::{LexError, LexFault, Lexeme};
-use ba_model::Str;
+use crate::token::{LexFault, Lexeme};
+use ba_model::{Failure, Str};
 use std::alloc::{AllocError, Global};
 
 fn as_text(bytes: &[u8]) -> &str
@@ -59,19 +60,19 @@ fn undoubled(alloc: Global, text: &str) -> Result<Str, AllocError>
     Ok(Str::from_string(found))
 }
 
-fn number(text: &str) -> Result<Lexeme, LexError>
+fn number(text: &str) -> Result<Lexeme, Failure<LexFault>>
     requires { IsOfShape Shape.Number text.now }
     ensures { Gives result (lexeme_of Shape.Number text.now) }
 {
     match text.parse::<i64>() {
         Ok(n) => Ok(Lexeme::Number(n)),
-        Err(_) => Err(LexError::Fault(LexFault::NumberTooLarge)),
+        Err(_) => Err(Failure::Fault(LexFault::NumberTooLarge)),
     }
 }
 
 /// What a spelling of a shape says.
 #[tactic(auto, unfolding(crate::specs::Tokens::lexeme_of))]
-pub fn lexeme(alloc: Global, shape: Shape, spelling: &[u8]) -> Result<Lexeme, LexError>
+pub fn lexeme(alloc: Global, shape: Shape, spelling: &[u8]) -> Result<Lexeme, Failure<LexFault>>
     requires spelled { IsOfShape shape spelling.now }
     requires utf8 { IsUtf8 spelling.now }
     ensures { Gives result (lexeme_of shape spelling.now) }

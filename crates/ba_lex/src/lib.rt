@@ -10,5 +10,5 @@ mod token;
 mod word;
 
 pub use all::{tokens, tokens_of_bytes};
-pub use token::{LexError, LexFault, Lexeme, Sign, Token};
+pub use token::{LexFault, Lexeme, Sign, Token};
 pub use word::is_word;

@@ -1,10 +1,6 @@
 //! Tokens, and what is wrong with a text.
-ghost use Rattle.std.specs.Prelude.{◌≡◌};
-ghost use Rattle.ba_lex.specs.declared.token.LexError.TheVariants.{NoMemory};
 
 use ba_model::Str;
-use std::alloc::{AllocError, AllocFailed};
-use thiserror::Error;
 
 /// The signs, the longer ones before those that they begin with.
 #[derive(Clone, Copy, Debug, PartialEq, Eq)]
@@ -65,29 +61,4 @@ pub enum LexFault {
     OpenQuote,
     /// A number outside 64 bits.
     NumberTooLarge,
-}
-
-/// Want of memory, or a fault of the text.
-#[derive(Clone, Copy, Debug, Drop, Error, PartialEq, Eq)]
-pub enum LexError {
-    #[error("out of memory")]
-    NoMemory,
-    #[error("not a list of tokens")]
-    Fault(LexFault),
-}
-
-impl From<AllocError> for LexError {
-    ghost from_gives = { λ _ e. e ≡ NoMemory };
-
-    fn from(_e: AllocError) -> LexError {
-        LexError::NoMemory
-    }
-}
-
-impl<T: Drop> From<AllocFailed<T>> for LexError {
-    ghost from_gives = { λ _ e. e ≡ NoMemory };
-
-    fn from(_e: AllocFailed<T>) -> LexError {
-        LexError::NoMemory
-    }
 }

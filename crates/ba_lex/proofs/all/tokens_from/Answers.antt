@@ -1,7 +1,8 @@
 use Rattle.std.proofs.Common.{◌≡◌, ◌∙◌, sym, subst, ap, arith, List, ℕ, ◌+◌, ◌-◌, drop, take}
 use Rattle.std.proofs.lemmas.Result.{err_from_is_err_and}
 use Rattle.ba_lex.specs.declared.front.Piece.TheVariants.{Bad, Found, Gap}
-use Rattle.ba_lex.specs.Tokens.{Fails, lexeme_of, tokens_from}
+use Rattle.ba_model.specs.Readings.{Fails}
+use Rattle.ba_lex.specs.Tokens.{lexeme_of, tokens_from}
 use Rattle.ba_lex.proofs.LoopLemmas.{FoundFits, GapFits, Turn, bad, found, found_fits, found_utf8, gap, gap_fits, over, turn_at, unfound}
 use Rattle.ba_lex.proofs.all.tokens_from.Goals as goal
 use Rattle.ba_lex.proofs.all.tokens_from.Goals.{In-Gap, In-Found}

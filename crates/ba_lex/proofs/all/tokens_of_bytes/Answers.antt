@@ -8,7 +8,8 @@ use Rattle.ba_lex.specs.declared.token.Token.{Token}
 use Rattle.std.specs.Result.{IfOk}
 use Rattle.ba_lex.proofs.SpanLemmas.{read_spans}
 use Rattle.ba_lex.specs.Reading.{AreSpans}
-use Rattle.ba_lex.specs.Tokens.{Gives, file_tokens_of, tokens_from}
+use Rattle.ba_model.specs.Readings.{Gives}
+use Rattle.ba_lex.specs.Tokens.{file_tokens_of, tokens_from}
 use Rattle.ba_lex.proofs.all.tokens_of_bytes.Goals as goal
 
 read : (limit : ℕ) (bytes text : List ℕ) → length bytes ≤ limit → IsUtf8 bytes → text ≡ bytes → tokens_from text 0 0 ≡ file_tokens_of limit bytes
