@@ -1,5 +1,4 @@
 pub mod WordLemmas
 pub mod ListedLemmas
 pub mod SeveralLemmas
-pub mod EachLemmas
 pub mod KeywordLemmas

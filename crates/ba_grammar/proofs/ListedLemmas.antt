@@ -4,7 +4,7 @@ use Rattle.std.specs.List.{AllByRecursion, flat_map}
 use Rattle.std.proofs.lemmas.List.{length-append}
 use Rattle.ba_lex.specs.declared.token.Lexeme.{Lexeme}
 use Rattle.ba_lex.specs.declared.token.Sign.TheVariants.{Comma}
-use Rattle.ba_grammar.specs.Errors.{◌>>=◌}
+use Rattle.ba_model.specs.Readings.{◌>>=◌}
 use Rattle.ba_grammar.specs.Items.{Item, after_commas, with_commas}
 use Rattle.ba_grammar.specs.Front.{Read, all, begins, is_sign, listed, more}
 use Rattle.ba_grammar.specs.declared.error.Syntax.{Syntax}

@@ -3,12 +3,11 @@ use Rattle.std.proofs.Common.{◌≡◌, ℕ, suc, ◌+◌, ◌-◌, ◌<◌, �
 use Rattle.std.proofs.lemmas.List.{append-nil, nil_from_length}
 use Rattle.ba_lex.specs.declared.token.Lexeme.{Lexeme}
 use Rattle.ba_lex.specs.declared.token.Sign.TheVariants.{Comma}
-use Rattle.ba_grammar.specs.Errors.{◌>>=◌, Fails}
-use Rattle.ba_grammar.specs.Front.{Read, all, begins, is_sign, listed, more}
-use Rattle.ba_grammar.specs.declared.error.ReadError.{ReadError}
-use Rattle.ba_grammar.specs.declared.error.ReadError.TheVariants as errors
+use Rattle.ba_model.specs.Readings.{◌>>=◌, Fails}
+use Rattle.ba_grammar.specs.Front.{Read, all, begins, is_sign, listed, more, syntax}
+use Rattle.ba_model.specs.declared.failure.Failure.{Failure}
+use Rattle.ba_model.specs.declared.failure.Failure.TheVariants.{NoMemory, Fault}
 use Rattle.ba_grammar.specs.declared.error.Syntax.{Syntax}
-use Rattle.ba_grammar.specs.declared.error.Syntax.TheVariants.{Syntax as syntax}
 
 -- ---- behind commas
 
@@ -28,11 +27,11 @@ one_read item words behind x found e f =
     let fuel : length words - 0 ≡ length words = omega arith in
     record { so_far = rw (f, fuel, e) refl }
 
-none_read : {X : Type 0} (item : List Lexeme → Read X) (words : List Lexeme) (e : ReadError) → Fails e (item words) → Fails e (listed item words)
-none_read item words errors.NoMemory h = tt
-none_read item words errors.Syntax h = rw h refl
+none_read : {X : Type 0} (item : List Lexeme → Read X) (words : List Lexeme) (e : Failure Syntax) → Fails e (item words) → Fails e (listed item words)
+none_read item words NoMemory h = tt
+none_read item words (Fault f) h = rw h refl
 
-pub first_fails : {X : Type 0} (item : List Lexeme → Read X) (words : List Lexeme) (e : ReadError) → Fails e (item words) → Fails e (listed item words)
+pub first_fails : {X : Type 0} (item : List Lexeme → Read X) (words : List Lexeme) (e : Failure Syntax) → Fails e (item words) → Fails e (listed item words)
 first_fails item words e h = none_read item words e h
 
 split : (most i : ℕ) → i < most → most - i ≡ suc (most - (i + 1))
@@ -48,11 +47,11 @@ unfolding more
 goes_on item most i found found2 rest behind x total at lt e read f =
     record { so_far = rw f (sym (onto_more found x (more item (most - (i + 1)) behind)) ∙ rw (split most i lt, e, read) at at.so_far) }
 
-pub fails : {X : Type 0} (item : List Lexeme → Read X) (most i : ℕ) (found : List X) (rest : List Lexeme) (total : Read (List X)) (err : ReadError) → At item most i found rest total → i < most → begins (is_sign Comma) rest ≡ true
+pub fails : {X : Type 0} (item : List Lexeme → Read X) (most i : ℕ) (found : List X) (rest : List Lexeme) (total : Read (List X)) (err : Failure Syntax) → At item most i found rest total → i < most → begins (is_sign Comma) rest ≡ true
     → Fails err (item (drop 1 rest)) → Fails err total
 unfolding more
-fails item most i found rest total errors.NoMemory at lt e h = tt
-fails item most i found rest total errors.Syntax at lt e h = sym (rw (split most i lt, e, h) at at.so_far)
+fails item most i found rest total NoMemory at lt e h = tt
+fails item most i found rest total (Fault f) at lt e h = sym (rw (split most i lt, e, h) at at.so_far)
 
 pub over : {X : Type 0} (item : List Lexeme → Read X) (most i : ℕ) (found : List X) (rest : List Lexeme) (total : Read (List X)) → At item most i found rest total → most ≤ i → total ≡ Ok (found, rest)
 unfolding more
@@ -92,12 +91,12 @@ all_goes_on item most i found found2 [] behind x total at lt some read f = absur
 all_goes_on item most i found found2 (w ∷ ws) behind x total at lt some read f =
     record { so_far = rw f (sym (onto_all_more found x (all item (most - (i + 1)) behind)) ∙ rw (split most i lt, read) at at.so_far) }
 
-pub all_fails : {X : Type 0} (item : List Lexeme → Read X) (most i : ℕ) (found : List X) (rest : List Lexeme) (total : Result (List X) Syntax) (err : ReadError) → AllAt item most i found rest total → i < most → (length rest ≡ 0 → ⊥)
+pub all_fails : {X : Type 0} (item : List Lexeme → Read X) (most i : ℕ) (found : List X) (rest : List Lexeme) (total : Result (List X) Syntax) (err : Failure Syntax) → AllAt item most i found rest total → i < most → (length rest ≡ 0 → ⊥)
     → Fails err (item rest) → Fails err total
 unfolding all
 all_fails item most i found [] total err at lt some h = absurd (some refl)
-all_fails item most i found (w ∷ ws) total errors.NoMemory at lt some h = tt
-all_fails item most i found (w ∷ ws) total errors.Syntax at lt some h = sym (rw (split most i lt, h) at at.so_far)
+all_fails item most i found (w ∷ ws) total NoMemory at lt some h = tt
+all_fails item most i found (w ∷ ws) total (Fault f) at lt some h = sym (rw (split most i lt, h) at at.so_far)
 
 pub all_over : {X : Type 0} (item : List Lexeme → Read X) (most i : ℕ) (found : List X) (rest : List Lexeme) (total : Result (List X) Syntax) → AllAt item most i found rest total → most ≤ i → (length rest ≡ 0 → ⊥) → total ≡ Err syntax
 unfolding all

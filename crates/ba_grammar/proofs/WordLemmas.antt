@@ -5,12 +5,11 @@ use Rattle.ba_lex.specs.declared.token.Lexeme.{Lexeme}
 use Rattle.ba_lex.specs.declared.token.Lexeme.TheVariants.{Word, Quoted, Number, Text, Param, Sign as SignWord}
 use Rattle.ba_lex.specs.declared.token.Sign.{Sign}
 use Rattle.ba_lex.specs.declared.token.Sign.TheVariants.{LeftParen, RightParen, Comma, Dot, Semicolon, Star, Equal, NotEqual, BangEqual, Less, LessEqual, Greater, GreaterEqual, Plus, Minus, Slash, Percent}
-use Rattle.ba_grammar.specs.Errors.{◌>>=◌}
+use Rattle.ba_model.specs.Readings.{◌>>=◌}
 use Rattle.ba_grammar.specs.Items.{AreSpelled, Item, Spells, is_among, sign_number}
 use Rattle.ba_grammar.specs.Items.Item.{any, keyword, name, number, sign}
-use Rattle.ba_grammar.specs.Front.{any_at, begins, is_keyword, is_sign, name_at, number_at, past}
+use Rattle.ba_grammar.specs.Front.{any_at, begins, is_keyword, is_sign, name_at, number_at, past, syntax}
 use Rattle.ba_grammar.specs.declared.error.Syntax.{Syntax}
-use Rattle.ba_grammar.specs.declared.error.Syntax.TheVariants.{Syntax as syntax}
 
 pub bind_ok : {A B : Type 0} (r : Result A Syntax) (f : A → Result B Syntax) (y : B) → (r >>= f) ≡ Ok y → (x : A) × (r ≡ Ok x) × (f x ≡ Ok y)
 bind_ok (Ok x) f y e = (x, refl, e)

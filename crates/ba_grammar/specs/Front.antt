@@ -1,14 +1,16 @@
 -- Words read from the left: what stands at their front, and the words behind it.
-use Rattle.std.specs.Prelude.{ℕ, zero, suc, ℤ, Bool, false, ◌==◌, List, [], ◌∷◌, drop, length, Option, Some, None, Result, Ok, Err, codes, if◌then◌else◌}
+use Rattle.std.specs.Prelude.{ℕ, zero, suc, ℤ, Bool, false, ◌==◌, List, [], ◌∷◌, drop, length, Option, Some, None, Result, Ok, Err, if◌then◌else◌}
 use Rattle.ba_lex.specs.Word.{is_word}
 use Rattle.ba_lex.specs.declared.token.Lexeme.{Lexeme}
 use Rattle.ba_lex.specs.declared.token.Lexeme.TheVariants.{Word, Quoted, Number, Text, Param, Sign as SignWord}
 use Rattle.ba_lex.specs.declared.token.Sign.{Sign}
-use Rattle.ba_lex.specs.declared.token.Sign.TheVariants.{LeftParen, RightParen, Comma, Semicolon, Equal}
-use Rattle.ba_grammar.specs.Errors.{◌>>=◌}
+use Rattle.ba_lex.specs.declared.token.Sign.TheVariants.{Comma}
+use Rattle.ba_model.specs.Readings.{◌>>=◌}
 use Rattle.ba_grammar.specs.Items.{is_among, sign_number}
 use Rattle.ba_grammar.specs.declared.error.Syntax.{Syntax}
-use Rattle.ba_grammar.specs.declared.error.Syntax.TheVariants.{Syntax as syntax}
+
+abbrev pub syntax : Syntax
+syntax = record {}
 
 -- what was read, and the words behind it
 abbrev pub Read : Type 0 → Type 0

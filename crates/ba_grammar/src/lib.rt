@@ -6,7 +6,7 @@ mod several;
 mod word;
 mod words;
 
-pub use error::{ReadError, Syntax};
+pub use error::Syntax;
 pub use several::{Element, all, listed};
 pub use word::{
     any_word, begins_with_keyword, begins_with_sign, is_among, is_keyword, is_sign, name, number,

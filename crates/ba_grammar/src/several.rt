@@ -1,12 +1,12 @@
 //! Several of one sort, one after the other.
 ghost use Rattle.std.specs.Prelude.{◌≡◌, length};
-ghost use Rattle.ba_grammar.specs.Errors.{Gives, Sees};
+ghost use Rattle.ba_model.specs.Readings.{Gives, Sees};
 ghost use Rattle.ba_grammar.specs.Front.{all, listed};
 
-use crate::error::ReadError;
+use crate::error::Syntax;
 use crate::word::begins_with_sign;
 use ba_lex::{Lexeme, Sign};
-use ba_model::List;
+use ba_model::{Failure, List};
 use std::alloc::Global;
 
 /// What a grammar reads at the front of words.
@@ -17,7 +17,7 @@ pub trait Element: Drop {
 
     ghost read_at: { Sequence Word → Read Self };
 
-    fn read(alloc: Global, words: &[Lexeme]) -> Result<(Self, &[Lexeme]), ReadError>
+    fn read(alloc: Global, words: &[Lexeme]) -> Result<(Self, &[Lexeme]), Failure<Syntax>>
         ensures { Sees (λ x. (x.0, x.1.now)) result (read_at words.now) };
 }
 
@@ -25,7 +25,7 @@ pub trait Element: Drop {
 pub fn listed<T: Element>(
     alloc: Global,
     words: &[Lexeme],
-) -> Result<(List<T>, &[Lexeme]), ReadError>
+) -> Result<(List<T>, &[Lexeme]), Failure<Syntax>>
     ensures { Sees (λ x. (x.0, x.1.now)) result (listed T.read_at words.now) }
 {
     let (first, behind) = T::read(alloc, words)?;
@@ -44,7 +44,7 @@ pub fn listed<T: Element>(
 }
 
 /// All of the words, one after the other; of no words none.
-pub fn all<T: Element>(alloc: Global, words: &[Lexeme]) -> Result<List<T>, ReadError>
+pub fn all<T: Element>(alloc: Global, words: &[Lexeme]) -> Result<List<T>, Failure<Syntax>>
     ensures { Gives result (all T.read_at (length words.now) words.now) }
 {
     let mut found = List::new(alloc);
@@ -58,7 +58,7 @@ pub fn all<T: Element>(alloc: Global, words: &[Lexeme]) -> Result<List<T>, ReadE
         rest = behind;
     }
     if !rest.is_empty() {
-        return Err(ReadError::Syntax);
+        return Err(Failure::Fault(Syntax));
     }
     Ok(found)
 }

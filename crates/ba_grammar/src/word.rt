@@ -2,13 +2,13 @@
 ghost use Rattle.std.specs.Prelude.{◌≡◌, true, map};
 ghost use Rattle.std.specs.List.{list_any};
 ghost use Rattle.ba_lex.specs.Word.{is_word};
-ghost use Rattle.ba_grammar.specs.Errors.{Sees};
+ghost use Rattle.ba_model.specs.Readings.{Sees};
 ghost use Rattle.ba_grammar.specs.Items.{is_among};
 ghost use Rattle.ba_grammar.specs.Front.{any_at, begins, is_keyword, is_sign, name_at, number_at, past};
 
-use crate::error::ReadError;
+use crate::error::Syntax;
 use ba_lex::{Lexeme, Sign, is_word};
-use ba_model::{Duplicate, Str};
+use ba_model::{Duplicate, Failure, Str};
 use std::alloc::Global;
 
 fn is_any(word: &Str, keywords: &[&str]) -> bool
@@ -60,32 +60,32 @@ pub fn begins_with_keyword(words: &[Lexeme], keyword: &str) -> bool
     }
 }
 
-pub fn past_sign(words: &[Lexeme], sign: Sign) -> Result<&[Lexeme], ReadError>
+pub fn past_sign(words: &[Lexeme], sign: Sign) -> Result<&[Lexeme], Failure<Syntax>>
     ensures { Sees (λ rest. rest.now) result (past (is_sign sign) words.now) }
 {
     match words {
         [first, rest @ ..] if is_sign(first, sign) => Ok(rest),
-        _ => Err(ReadError::Syntax),
+        _ => Err(Failure::Fault(Syntax)),
     }
 }
 
-pub fn past_keyword<'a>(words: &'a [Lexeme], keyword: &str) -> Result<&'a [Lexeme], ReadError>
+pub fn past_keyword<'a>(words: &'a [Lexeme], keyword: &str) -> Result<&'a [Lexeme], Failure<Syntax>>
     ensures { Sees (λ rest. rest.now) result (past (is_keyword keyword.now) words.now) }
 {
     match words {
         [first, rest @ ..] if is_keyword(first, keyword) => Ok(rest),
-        _ => Err(ReadError::Syntax),
+        _ => Err(Failure::Fault(Syntax)),
     }
 }
 
 /// Any word.
 #[tactic(auto, unfolding(crate::specs::Front::any_at))]
-pub fn any_word(alloc: Global, words: &[Lexeme]) -> Result<(Str, &[Lexeme]), ReadError>
+pub fn any_word(alloc: Global, words: &[Lexeme]) -> Result<(Str, &[Lexeme]), Failure<Syntax>>
     ensures { Sees (λ x. (x.0, x.1.now)) result (any_at words.now) }
 {
     match words {
         [Lexeme::Word(word), rest @ ..] => Ok((word.copy(alloc)?, rest)),
-        _ => Err(ReadError::Syntax),
+        _ => Err(Failure::Fault(Syntax)),
     }
 }
 
@@ -95,27 +95,27 @@ pub fn name<'a>(
     alloc: Global,
     words: &'a [Lexeme],
     reserved: &[&str],
-) -> Result<(Str, &'a [Lexeme]), ReadError>
+) -> Result<(Str, &'a [Lexeme]), Failure<Syntax>>
     ensures { Sees (λ x. (x.0, x.1.now)) result (name_at (map (λ keyword. keyword.now) reserved.now) words.now) }
 {
     match words {
         [Lexeme::Word(word), rest @ ..] => {
             if is_among(word, reserved) {
-                return Err(ReadError::Syntax);
+                return Err(Failure::Fault(Syntax));
             }
             Ok((word.copy(alloc)?, rest))
         }
         [Lexeme::Quoted(name), rest @ ..] => Ok((name.copy(alloc)?, rest)),
-        _ => Err(ReadError::Syntax),
+        _ => Err(Failure::Fault(Syntax)),
     }
 }
 
 #[tactic(auto, unfolding(crate::specs::Front::number_at))]
-pub fn number(words: &[Lexeme]) -> Result<(i64, &[Lexeme]), ReadError>
+pub fn number(words: &[Lexeme]) -> Result<(i64, &[Lexeme]), Failure<Syntax>>
     ensures { Sees (λ x. (x.0, x.1.now)) result (number_at words.now) }
 {
     match words {
         [Lexeme::Number(n), rest @ ..] => Ok((*n, rest)),
-        _ => Err(ReadError::Syntax),
+        _ => Err(Failure::Fault(Syntax)),
     }
 }
