@@ -1,7 +1,7 @@
 -- What is read at the front is spelled so; steps that are taken.
 use Rattle.std.proofs.Common.{◌≡◌, ℕ, zero, suc, ◌<◌, ◌≤◌, Bool, true, false, cond, List, [], ◌∷◌, ◌++◌, length, Result, Ok, refl, sym, ap, subst, ◌∙◌, append_assoc, arith, length-append}
 use Rattle.std.proofs.lemmas.Bool.{eqb-true}
-use Rattle.ba_grammar.specs.Errors.{◌>>=◌}
+use Rattle.ba_model.specs.Readings.{◌>>=◌}
 use Rattle.ba_grammar.specs.declared.error.Syntax.{Syntax}
 use Rattle.ba_grammar.proofs.WordLemmas.{bind_ok, err_ok, ok_same, sign_spelled}
 use Rattle.ba_lex.specs.declared.token.Lexeme.TheVariants as lexemes

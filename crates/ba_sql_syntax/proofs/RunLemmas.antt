@@ -1,9 +1,9 @@
 -- One step after the other, as the loops take them.
 use Rattle.std.proofs.Common.{◌≡◌, ℕ, suc, ◌+◌, ◌-◌, ◌<◌, ◌≤◌, Bool, true, false, List, length, Result, Ok, refl, sym, arith}
 use Rattle.std.proofs.lemmas.List.{length-map}
-use Rattle.ba_grammar.specs.Errors.{◌>>=◌, Fails}
-use Rattle.ba_grammar.specs.declared.error.ReadError.{ReadError}
-use Rattle.ba_grammar.specs.declared.error.ReadError.TheVariants as errors
+use Rattle.ba_model.specs.Readings.{◌>>=◌, Fails}
+use Rattle.ba_model.specs.declared.failure.Failure.{Failure}
+use Rattle.ba_model.specs.declared.failure.Failure.TheVariants.{NoMemory, Fault}
 use Rattle.ba_grammar.specs.declared.error.Syntax.{Syntax}
 use Rattle.ba_lex.specs.declared.token.Lexeme.{Lexeme}
 use Rattle.ba_sql_syntax.specs.Reader.{run}
@@ -33,12 +33,12 @@ pub goes_on : {S : Type 0} (goes : S → Bool) (step : S → Result S Syntax) (w
 unfolding run
 goes_on goes step words i here next total at lt e read = record { so_far = rw (split words i lt, e, read) at at.so_far }
 
-pub fails : {S : Type 0} (goes : S → Bool) (step : S → Result S Syntax) (words : List Lexeme) (i : ℕ) (here : S) (total : Result S Syntax) (err : ReadError)
+pub fails : {S : Type 0} (goes : S → Bool) (step : S → Result S Syntax) (words : List Lexeme) (i : ℕ) (here : S) (total : Result S Syntax) (err : Failure Syntax)
     → At goes step words i here total → i < length words → goes here ≡ true
     → Fails err (step here) → Fails err total
 unfolding run
-fails goes step words i here total errors.NoMemory at lt e h = tt
-fails goes step words i here total errors.Syntax at lt e h = sym (rw (split words i lt, e, h) at at.so_far)
+fails goes step words i here total NoMemory at lt e h = tt
+fails goes step words i here total (Fault f) at lt e h = sym (rw (split words i lt, e, h) at at.so_far)
 
 pub over : {S : Type 0} (goes : S → Bool) (step : S → Result S Syntax) (words : List Lexeme) (i : ℕ) (here : S) (total : Result S Syntax)
     → At goes step words i here total → length words ≤ i → total ≡ Ok here
@@ -47,6 +47,6 @@ over goes step words i here total at le =
     let fuel : length (terminals words) - i ≡ 0 = omega (arith, length-map words terminal) in
     sym (rw fuel at at.so_far)
 
-pub fails_first : {A B : Type 0} (err : ReadError) (read : Result A Syntax) (f : A → Result B Syntax) → Fails err read → Fails err (read >>= f)
-fails_first errors.NoMemory read f h = tt
-fails_first errors.Syntax read f h = rw h refl
+pub fails_first : {A B : Type 0} (err : Failure Syntax) (read : Result A Syntax) (f : A → Result B Syntax) → Fails err read → Fails err (read >>= f)
+fails_first NoMemory read f h = tt
+fails_first (Fault e) read f h = rw h refl

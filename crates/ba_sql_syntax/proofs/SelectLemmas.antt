@@ -1,6 +1,6 @@
 -- Heads, sources and selects: what is read is spelled so, and what is spelled so is read.
 use Rattle.std.proofs.Common.{◌≡◌, ℕ, suc, ◌<◌, ◌≤◌, Bool, true, false, cond, List, [], ◌∷◌, ◌++◌, length, Option, Some, None, Result, Ok, refl, sym, ap, subst, ◌∙◌, append_assoc, arith, length-append}
-use Rattle.ba_grammar.specs.Errors.{◌>>=◌}
+use Rattle.ba_model.specs.Readings.{◌>>=◌}
 use Rattle.ba_grammar.specs.declared.error.Syntax.{Syntax}
 use Rattle.ba_grammar.proofs.WordLemmas.{bind_ok, ok_same}
 use Rattle.ba_lex.specs.declared.token.Sign.TheVariants.{Comma, Dot, Star}

@@ -1,6 +1,6 @@
 -- Aliases, sides and tests: what is read is spelled so, and what is spelled so is read.
 use Rattle.std.proofs.Common.{◌≡◌, ℕ, ◌<◌, Bool, true, false, cond, List, [], ◌∷◌, ◌++◌, length, Option, Some, None, Ok, refl, sym, ap, subst, ◌∙◌, append_assoc, arith, length-append}
-use Rattle.ba_grammar.specs.Errors.{◌>>=◌}
+use Rattle.ba_model.specs.Readings.{◌>>=◌}
 use Rattle.ba_grammar.proofs.WordLemmas.{bind_ok, err_ok, ok_same}
 use Rattle.ba_lex.specs.declared.token.Sign.{Sign}
 use Rattle.ba_lex.specs.declared.token.Sign.TheVariants.{LeftParen, RightParen, Comma, Dot, Semicolon, Star, Equal, NotEqual, BangEqual, Less, LessEqual, Greater, GreaterEqual, Plus, Minus, Slash, Percent}

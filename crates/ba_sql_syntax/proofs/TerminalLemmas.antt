@@ -5,7 +5,7 @@ use Rattle.std.specs.List.{list_all, list_any}
 use Rattle.std.specs.Str.{bytes_eq}
 use Rattle.std.proofs.lemmas.Slice.Eq.{bytes_eq-Decides}
 use Rattle.ba_grammar.specs.Items.{is_among}
-use Rattle.ba_grammar.specs.declared.error.Syntax.TheVariants.{Syntax as syntax}
+use Rattle.ba_grammar.specs.Front.{syntax}
 use Rattle.ba_lex.specs.Word.{is_word}
 use Rattle.ba_lex.specs.declared.token.Sign.{Sign}
 use Rattle.ba_model.specs.declared.value.Value.TheVariants.{Int}

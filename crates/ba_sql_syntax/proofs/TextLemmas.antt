@@ -4,7 +4,7 @@ use Rattle.std.specs.List.{AllByRecursion}
 use Rattle.std.specs.Prelude.{IfOk}
 use Rattle.std.proofs.lemmas.List.{append-nil}
 use Rattle.std.proofs.lemmas.List.Elements.{All-from_recursion}
-use Rattle.ba_grammar.specs.Errors.{◌>>=◌}
+use Rattle.ba_model.specs.Readings.{◌>>=◌, Gives}
 use Rattle.ba_grammar.specs.declared.error.Syntax.{Syntax}
 use Rattle.ba_grammar.proofs.WordLemmas.{bind_ok, err_ok, ok_same}
 use Rattle.ba_lex.specs.declared.token.Lexeme.{Lexeme}
@@ -16,8 +16,8 @@ use Rattle.ba_sql_syntax.specs.Grammar.IsSelect.{select}
 use Rattle.ba_sql_syntax.specs.Reader.{Read, begins, ended, has_source, past, run, select_at, selects_at, skip, text_of, union_goes, union_step}
 use Rattle.ba_sql_syntax.specs.Scan.{IsFirstUnsupported, IsSupported, scan}
 use Rattle.ba_sql_syntax.specs.Terminals.{Terminal, is_key, is_sign, key, sign, terminals}
-use Rattle.ba_sql_syntax.specs.Written.{Gives, HaveTrees, if_supported, or_syntax, written_of}
-use Rattle.ba_sql_syntax.specs.declared.fault.SyntaxError.{SyntaxError}
+use Rattle.ba_sql_syntax.specs.Written.{HaveTrees, if_supported, or_syntax, written_of}
+use Rattle.ba_model.specs.declared.failure.Failure.{Failure}
 use Rattle.ba_sql_syntax.specs.declared.fault.SyntaxFault.{SyntaxFault}
 use Rattle.ba_sql_syntax.specs.declared.fault.SyntaxFault.TheVariants.{Unsupported, Syntax as syntax}
 use Rattle.ba_sql_syntax.specs.declared.word.Key.TheVariants.{Distinct, Union}
@@ -243,6 +243,6 @@ refused_complete words h = rw (supported_scan words h.0) (at (text_of (terminals
     at (Ok text) e = absurd (h.1 text (text_sound (terminals words) text e))
     at (Err f) e = refl
 
-pub written_trees : (words : List Lexeme) (r : Result QueryText SyntaxError) → Gives r (written_of words) → IfOk r HaveTrees
+pub written_trees : (words : List Lexeme) (r : Result QueryText (Failure SyntaxFault)) → Gives r (written_of words) → IfOk r HaveTrees
 written_trees words (Ok text) h = query_trees (written_sound words text h).1
 written_trees words (Err e) h = tt

@@ -1,9 +1,9 @@
 -- A query read from the left: what stands at the front, and the terminals behind it.
 use Rattle.std.specs.Prelude.{ℕ, zero, suc, Bool, true, false, List, [], ◌∷◌, ◌++◌, length, Option, Some, None, Result, Ok, Err, if◌then◌else◌, ◌&&◌, ◌||◌}
-use Rattle.ba_grammar.specs.Errors.{◌>>=◌}
+use Rattle.ba_grammar.specs.Front.{syntax}
 use Rattle.ba_grammar.specs.declared.error.Syntax.{Syntax}
-use Rattle.ba_grammar.specs.declared.error.Syntax.TheVariants.{Syntax as syntax}
 use Rattle.ba_lex.specs.declared.token.Sign.TheVariants.{LeftParen, RightParen, Comma, Dot, Semicolon, Star}
+use Rattle.ba_model.specs.Readings.{◌>>=◌}
 use Rattle.ba_sql_syntax.specs.Grammar.{comparison, compared}
 use Rattle.ba_sql_syntax.specs.Terminals.{Terminal, key, name, constant, sign, unsupported, is_key, is_sign}
 use Rattle.ba_sql_syntax.specs.declared.compare.Comparison.{Comparison}

@@ -2,28 +2,17 @@
 use Rattle.std.specs.Prelude.{◌≡◌, ◌↔◌, ℕ, false, List, All, Option, Some, None, Result, Ok, Err}
 use Rattle.ba_grammar.specs.declared.error.Syntax.{Syntax}
 use Rattle.ba_lex.specs.declared.token.Lexeme.{Lexeme}
+use Rattle.ba_model.specs.Readings.{widened}
 use Rattle.ba_sql_syntax.specs.Grammar.{HasTree, IsQueryText}
 use Rattle.ba_sql_syntax.specs.Reader.{text_of}
 use Rattle.ba_sql_syntax.specs.Scan.{IsFirstUnsupported, IsSupported, scan}
 use Rattle.ba_sql_syntax.specs.Terminals.{terminals}
-use Rattle.ba_sql_syntax.specs.declared.fault.SyntaxError.{SyntaxError}
-use Rattle.ba_sql_syntax.specs.declared.fault.SyntaxError.TheVariants.{NoMemory, Fault}
 use Rattle.ba_sql_syntax.specs.declared.fault.SyntaxFault.{SyntaxFault}
 use Rattle.ba_sql_syntax.specs.declared.fault.SyntaxFault.TheVariants.{Unsupported, Syntax as syntax}
 use Rattle.ba_sql_syntax.specs.declared.written.QueryText.{QueryText}
 
--- What was returned is what reading gives, unless memory ran out.
-abbrev pub Fails : {Y : Type 0} → SyntaxError → Result Y SyntaxFault → Type 0
-Fails NoMemory read = Unit {0}
-Fails (Fault f) read = read ≡ Err f
-
-abbrev pub Gives : {Y : Type 0} → Result Y SyntaxError → Result Y SyntaxFault → Type 0
-Gives (Ok x) read = read ≡ Ok x
-Gives (Err e) read = Fails e read
-
 abbrev pub or_syntax : Result QueryText Syntax → Result QueryText SyntaxFault
-or_syntax (Ok text) = Ok text
-or_syntax (Err e) = Err syntax
+or_syntax = widened (λ e. syntax)
 
 abbrev pub if_supported : Option (List ℕ) → Result QueryText SyntaxFault → Result QueryText SyntaxFault
 if_supported (Some called) read = Err (Unsupported called)

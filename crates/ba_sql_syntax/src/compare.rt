@@ -1,6 +1,6 @@
 //! Conditions without AND and OR.
 ghost use Rattle.std.specs.Prelude.{◌≡◌};
-ghost use Rattle.ba_grammar.specs.Errors.{Sees};
+ghost use Rattle.ba_model.specs.Readings.{Sees};
 ghost use Rattle.ba_sql_syntax.specs.Grammar.{compared, comparison};
 ghost use Rattle.ba_sql_syntax.specs.Reader.{among_at, compared_at, comparison_at, comparison_of, constant_at, test_at};
 ghost use Rattle.ba_sql_syntax.specs.Terminals.{terminal, terminals};
@@ -9,9 +9,9 @@ use crate::several::{Element, listed};
 use crate::side::side;
 use crate::word::{Key, begins_with, constant, past, past_sign};
 use crate::written::{Constant, Side, Test};
-use ba_grammar::ReadError;
+use ba_grammar::Syntax;
 use ba_lex::{Lexeme, Sign};
-use ba_model::Op;
+use ba_model::{Failure, Op};
 use std::alloc::Global;
 
 /// What a sign compares by, and whether its sides are turned round.
@@ -55,7 +55,7 @@ impl Comparison {
 impl Element for Constant {
     ghost read_at = { constant_at };
 
-    fn read(alloc: Global, words: &[Lexeme]) -> Result<(Constant, &[Lexeme]), ReadError> {
+    fn read(alloc: Global, words: &[Lexeme]) -> Result<(Constant, &[Lexeme]), Failure<Syntax>> {
         constant(alloc, words)
     }
 }
@@ -64,30 +64,34 @@ impl Element for Constant {
 fn comparison_of<'a>(
     word: &Lexeme,
     rest: &'a [Lexeme],
-) -> Result<(Comparison, &'a [Lexeme]), ReadError>
+) -> Result<(Comparison, &'a [Lexeme]), Failure<Syntax>>
     ensures { Sees (λ x. (x.0, terminals x.1.now)) result (comparison_of (terminal word.now) (terminals rest.now)) }
 {
     match word {
         Lexeme::Sign(sign) => match Comparison::of_sign(*sign) {
             Some(comparison) => Ok((comparison, rest)),
-            None => Err(ReadError::Syntax),
+            None => Err(Failure::Fault(Syntax)),
         },
-        _ => Err(ReadError::Syntax),
+        _ => Err(Failure::Fault(Syntax)),
     }
 }
 
 #[tactic(auto, unfolding(crate::specs::Reader::comparison_at))]
-fn compares_by(words: &[Lexeme]) -> Result<(Comparison, &[Lexeme]), ReadError>
+fn compares_by(words: &[Lexeme]) -> Result<(Comparison, &[Lexeme]), Failure<Syntax>>
     ensures { Sees (λ x. (x.0, terminals x.1.now)) result (comparison_at (terminals words.now)) }
 {
     match words {
         [first, rest @ ..] => comparison_of(first, rest),
-        [] => Err(ReadError::Syntax),
+        [] => Err(Failure::Fault(Syntax)),
     }
 }
 
 #[tactic(auto, unfolding(crate::specs::Reader::compared_at))]
-fn compared(alloc: Global, left: Side, words: &[Lexeme]) -> Result<(Test, &[Lexeme]), ReadError>
+fn compared(
+    alloc: Global,
+    left: Side,
+    words: &[Lexeme],
+) -> Result<(Test, &[Lexeme]), Failure<Syntax>>
     ensures { Sees (λ x. (x.0, terminals x.1.now)) result (compared_at left (terminals words.now)) }
 {
     let (comparison, rest) = compares_by(words)?;
@@ -96,7 +100,7 @@ fn compared(alloc: Global, left: Side, words: &[Lexeme]) -> Result<(Test, &[Lexe
 }
 
 #[tactic(auto, unfolding(crate::specs::Reader::among_at))]
-fn among(alloc: Global, side: Side, words: &[Lexeme]) -> Result<(Test, &[Lexeme]), ReadError>
+fn among(alloc: Global, side: Side, words: &[Lexeme]) -> Result<(Test, &[Lexeme]), Failure<Syntax>>
     ensures { Sees (λ x. (x.0, terminals x.1.now)) result (among_at side (terminals words.now)) }
 {
     let rest = past(words, Key::In)?;
@@ -108,7 +112,7 @@ fn among(alloc: Global, side: Side, words: &[Lexeme]) -> Result<(Test, &[Lexeme]
 
 /// A comparison of two sides, or IN with its constants.
 #[tactic(auto, unfolding(crate::specs::Reader::test_at))]
-pub fn test(alloc: Global, words: &[Lexeme]) -> Result<(Test, &[Lexeme]), ReadError>
+pub fn test(alloc: Global, words: &[Lexeme]) -> Result<(Test, &[Lexeme]), Failure<Syntax>>
     ensures { Sees (λ x. (x.0, terminals x.1.now)) result (test_at (terminals words.now)) }
 {
     let (side, rest) = side(alloc, words)?;

@@ -1,6 +1,6 @@
 //! Conditions, read with a stack in the place of recursion.
 ghost use Rattle.std.specs.Prelude.{◌≡◌, ◌++◌, List as Sequence, OnOk, reverse};
-ghost use Rattle.ba_grammar.specs.Errors.{Sees};
+ghost use Rattle.ba_model.specs.Readings.{Sees};
 ghost use Rattle.ba_sql_syntax.specs.Progress.{progress};
 ghost use Rattle.ba_sql_syntax.specs.Reader.{can_close, close, condition_at, condition_goes, condition_step, finish, have_step, start, waiting, want_step};
 ghost use Rattle.ba_sql_syntax.specs.Terminals.{Terminal, terminals};
@@ -8,9 +8,9 @@ ghost use Rattle.ba_sql_syntax.specs.Terminals.{Terminal, terminals};
 use crate::compare::test;
 use crate::word::{Key, begins_with, begins_with_sign, past, past_sign};
 use crate::written::Node;
-use ba_grammar::ReadError;
+use ba_grammar::Syntax;
 use ba_lex::{Lexeme, Sign};
-use ba_model::List;
+use ba_model::{Failure, List};
 use std::alloc::{AllocError, Global};
 
 /// Which operators wait for their right sides before a bracket that is open, or at the start.
@@ -66,7 +66,7 @@ impl Progress {
     }
 
     /// A bracket is closed whose nodes are complete.
-    fn close<'a>(&mut self, rest: &'a [Lexeme]) -> Result<&'a [Lexeme], ReadError>
+    fn close<'a>(&mut self, rest: &'a [Lexeme]) -> Result<&'a [Lexeme], Failure<Syntax>>
         ensures { Sees (λ rest. progress self.new (terminals rest.now)) result (close (reverse self.old.stack.items) self.old.nodes (terminals rest.now)) }
     {
         match self.stack.pop() {
@@ -75,7 +75,7 @@ impl Progress {
                 self.turn = Turn::Have(top.or);
                 Ok(rest)
             }
-            None => Err(ReadError::Syntax),
+            None => Err(Failure::Fault(Syntax)),
         }
     }
 
@@ -85,7 +85,7 @@ impl Progress {
         alloc: Global,
         top: Level,
         words: &'a [Lexeme],
-    ) -> Result<&'a [Lexeme], ReadError>
+    ) -> Result<&'a [Lexeme], Failure<Syntax>>
         ensures { Sees (λ rest. progress self.new (terminals rest.now)) result (want_step (reverse self.old.stack.items) top self.old.nodes (terminals words.now)) }
     {
         if begins_with_sign(words, Sign::LeftParen) {
@@ -102,7 +102,7 @@ impl Progress {
     }
 
     #[tactic(auto, unfolding(crate::specs::Reader::have_step))]
-    fn have<'a>(&mut self, or: bool, words: &'a [Lexeme]) -> Result<&'a [Lexeme], ReadError>
+    fn have<'a>(&mut self, or: bool, words: &'a [Lexeme]) -> Result<&'a [Lexeme], Failure<Syntax>>
         ensures { Sees (λ rest. progress self.new (terminals rest.now)) result (have_step (reverse self.old.stack.items) or self.old.nodes (terminals words.now)) }
     {
         if begins_with(words, Key::And) {
@@ -125,7 +125,11 @@ impl Progress {
     }
 
     /// Reads a bracket, a test or an operator.
-    fn step<'a>(&mut self, alloc: Global, words: &'a [Lexeme]) -> Result<&'a [Lexeme], ReadError>
+    fn step<'a>(
+        &mut self,
+        alloc: Global,
+        words: &'a [Lexeme],
+    ) -> Result<&'a [Lexeme], Failure<Syntax>>
         ensures { Sees (λ rest. progress self.new (terminals rest.now)) result (condition_step (progress self.old (terminals words.now))) }
     {
         match self.turn {
@@ -156,25 +160,31 @@ impl Progress {
     }
 
     /// The nodes of a condition that ends before these words.
-    fn finish<'a>(mut self, rest: &'a [Lexeme]) -> Result<(List<Node>, &'a [Lexeme]), ReadError>
+    fn finish<'a>(
+        mut self,
+        rest: &'a [Lexeme],
+    ) -> Result<(List<Node>, &'a [Lexeme]), Failure<Syntax>>
         ensures { Sees (λ x. (x.0, terminals x.1.now)) result (finish (progress self (terminals rest.now))) }
     {
         if !self.stack.is_empty() {
-            return Err(ReadError::Syntax);
+            return Err(Failure::Fault(Syntax));
         }
         match self.turn {
             Turn::Have(or) => {
                 self.put(or, Node::Or)?;
                 Ok((self.nodes, rest))
             }
-            Turn::Want(_) => Err(ReadError::Syntax),
+            Turn::Want(_) => Err(Failure::Fault(Syntax)),
         }
     }
 }
 
 /// A condition in postfix order: AND binds stronger than OR, and both from the left.
 #[tactic(auto, unfolding(crate::specs::Reader::condition_at))]
-pub fn condition(alloc: Global, words: &[Lexeme]) -> Result<(List<Node>, &[Lexeme]), ReadError>
+pub fn condition(
+    alloc: Global,
+    words: &[Lexeme],
+) -> Result<(List<Node>, &[Lexeme]), Failure<Syntax>>
     ensures { Sees (λ x. (x.0, terminals x.1.now)) result (condition_at (terminals words.now)) }
 {
     let mut progress = Progress::new(alloc);

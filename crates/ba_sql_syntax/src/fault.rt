@@ -1,10 +1,9 @@
 //! Why words are no query.
 ghost use Rattle.std.specs.Prelude.{◌≡◌};
-ghost use Rattle.ba_sql_syntax.specs.declared.fault.SyntaxError.TheVariants.{NoMemory};
+ghost use Rattle.ba_sql_syntax.specs.declared.fault.SyntaxFault.TheVariants as faults;
 
+use ba_grammar::Syntax;
 use ba_model::Str;
-use std::alloc::{AllocError, AllocFailed};
-use thiserror::Error;
 
 /// Why words are no query. Of both the first is told.
 #[derive(Debug, Drop)]
@@ -15,27 +14,10 @@ pub enum SyntaxFault {
     Syntax,
 }
 
-/// Want of memory, or a fault of the words.
-#[derive(Debug, Drop, Error)]
-pub enum SyntaxError {
-    #[error("out of memory")]
-    NoMemory,
-    #[error("no query of the grammar")]
-    Fault(SyntaxFault),
-}
+impl From<Syntax> for SyntaxFault {
+    ghost from_gives = { λ _ fault. fault ≡ faults.Syntax };
 
-impl From<AllocError> for SyntaxError {
-    ghost from_gives = { λ _ e. e ≡ NoMemory };
-
-    fn from(_e: AllocError) -> SyntaxError {
-        SyntaxError::NoMemory
-    }
-}
-
-impl<T: Drop> From<AllocFailed<T>> for SyntaxError {
-    ghost from_gives = { λ _ e. e ≡ NoMemory };
-
-    fn from(_e: AllocFailed<T>) -> SyntaxError {
-        SyntaxError::NoMemory
+    fn from(_: Syntax) -> SyntaxFault {
+        SyntaxFault::Syntax
     }
 }

@@ -3,7 +3,7 @@
 
 mod compare;
 mod condition;
-pub mod fault;
+mod fault;
 pub mod laws;
 mod scan;
 mod select;
@@ -11,6 +11,8 @@ mod several;
 mod side;
 mod text;
 mod word;
-pub mod written;
+mod written;
 
+pub use fault::SyntaxFault;
 pub use text::read_written;
+pub use written::{Constant, Heads, Item, Named, Node, QueryText, Select, Side, Source, Test};

@@ -1,6 +1,6 @@
 //! One select.
 ghost use Rattle.std.specs.Prelude.{◌≡◌, ◌∷◌, [], ◌++◌, IfOk};
-ghost use Rattle.ba_grammar.specs.Errors.{Sees};
+ghost use Rattle.ba_model.specs.Readings.{Sees};
 ghost use Rattle.ba_sql_syntax.specs.Reader.{and_also, cross_source, free_source, has_source, heads_at, is_all_of, item_at, joined, next_source, on_source, select_at, source_at, sources_at, where_at};
 ghost use Rattle.ba_sql_syntax.specs.Terminals.{terminals};
 
@@ -9,9 +9,9 @@ use crate::several::{Element, listed};
 use crate::side::{alias, side};
 use crate::word::{Key, begins_with, begins_with_sign, is_sign, name, past, past_sign, skip};
 use crate::written::{Heads, Item, Node, Select, Source};
-use ba_grammar::ReadError;
+use ba_grammar::Syntax;
 use ba_lex::{Lexeme, Sign};
-use ba_model::List;
+use ba_model::{Failure, List};
 use std::alloc::{AllocError, Global};
 
 /// A condition AND one more; the first may be empty.
@@ -42,7 +42,7 @@ impl Element for Item {
     ghost read_at = { item_at };
 
     #[tactic(auto, unfolding(crate::specs::Reader::item_at))]
-    fn read(alloc: Global, words: &[Lexeme]) -> Result<(Item, &[Lexeme]), ReadError> {
+    fn read(alloc: Global, words: &[Lexeme]) -> Result<(Item, &[Lexeme]), Failure<Syntax>> {
         if is_all_of(words) {
             let (source, rest) = name(alloc, words)?;
             let rest = past_sign(rest, Sign::Dot)?;
@@ -57,7 +57,7 @@ impl Element for Item {
 
 /// `*`, or items with commas between them.
 #[tactic(auto, unfolding(crate::specs::Reader::heads_at))]
-fn heads(alloc: Global, words: &[Lexeme]) -> Result<(Heads, &[Lexeme]), ReadError>
+fn heads(alloc: Global, words: &[Lexeme]) -> Result<(Heads, &[Lexeme]), Failure<Syntax>>
     ensures { Sees (λ x. (x.0, terminals x.1.now)) result (heads_at (terminals words.now)) }
 {
     if begins_with_sign(words, Sign::Star) {
@@ -70,7 +70,7 @@ fn heads(alloc: Global, words: &[Lexeme]) -> Result<(Heads, &[Lexeme]), ReadErro
 
 /// A table, with a name of its own or without.
 #[tactic(auto, unfolding(crate::specs::Reader::source_at))]
-fn source(alloc: Global, words: &[Lexeme]) -> Result<(Source, &[Lexeme]), ReadError>
+fn source(alloc: Global, words: &[Lexeme]) -> Result<(Source, &[Lexeme]), Failure<Syntax>>
     ensures { Sees (λ x. (x.0, terminals x.1.now)) result (source_at (terminals words.now)) }
 {
     let (table, rest) = name(alloc, words)?;
@@ -91,7 +91,7 @@ fn free_source(
     alloc: Global,
     mut so_far: Joined,
     words: &[Lexeme],
-) -> Result<(Joined, &[Lexeme]), ReadError>
+) -> Result<(Joined, &[Lexeme]), Failure<Syntax>>
     ensures { Sees (λ x. joined x.0.sources x.0.condition (terminals x.1.now)) result (free_source so_far.sources so_far.condition (terminals words.now)) }
 {
     let (source, rest) = source(alloc, words)?;
@@ -105,7 +105,7 @@ fn on_source(
     alloc: Global,
     so_far: Joined,
     words: &[Lexeme],
-) -> Result<(Joined, &[Lexeme]), ReadError>
+) -> Result<(Joined, &[Lexeme]), Failure<Syntax>>
     ensures { Sees (λ x. joined x.0.sources x.0.condition (terminals x.1.now)) result (on_source so_far.sources so_far.condition (terminals words.now)) }
 {
     let Joined {
@@ -126,7 +126,7 @@ fn cross_source(
     alloc: Global,
     so_far: Joined,
     words: &[Lexeme],
-) -> Result<(Joined, &[Lexeme]), ReadError>
+) -> Result<(Joined, &[Lexeme]), Failure<Syntax>>
     ensures { Sees (λ x. joined x.0.sources x.0.condition (terminals x.1.now)) result (cross_source so_far.sources so_far.condition (terminals words.now)) }
 {
     let rest = past(words, Key::Cross)?;
@@ -139,7 +139,7 @@ fn next_source(
     alloc: Global,
     so_far: Joined,
     words: &[Lexeme],
-) -> Result<(Joined, &[Lexeme]), ReadError>
+) -> Result<(Joined, &[Lexeme]), Failure<Syntax>>
     ensures { Sees (λ x. joined x.0.sources x.0.condition (terminals x.1.now)) result (next_source so_far.sources so_far.condition (terminals words.now)) }
 {
     if begins_with_sign(words, Sign::Comma) {
@@ -164,7 +164,7 @@ fn has_source(words: &[Lexeme]) -> bool
 }
 
 #[tactic(auto, unfolding(crate::specs::Reader::sources_at))]
-fn sources(alloc: Global, words: &[Lexeme]) -> Result<(Joined, &[Lexeme]), ReadError>
+fn sources(alloc: Global, words: &[Lexeme]) -> Result<(Joined, &[Lexeme]), Failure<Syntax>>
     ensures { Sees (λ x. joined x.0.sources x.0.condition (terminals x.1.now)) result (sources_at (terminals words.now)) }
 {
     let (first, behind) = source(alloc, words)?;
@@ -192,7 +192,7 @@ fn where_condition(
     alloc: Global,
     first: List<Node>,
     words: &[Lexeme],
-) -> Result<(List<Node>, &[Lexeme]), ReadError>
+) -> Result<(List<Node>, &[Lexeme]), Failure<Syntax>>
     ensures { Sees (λ x. (x.0, terminals x.1.now)) result (where_at first (terminals words.now)) }
 {
     if !begins_with(words, Key::Where) {
@@ -206,7 +206,7 @@ fn where_condition(
 
 /// SELECT, heads, FROM, sources, and a condition or none.
 #[tactic(auto, unfolding(crate::specs::Reader::select_at))]
-pub fn select(alloc: Global, words: &[Lexeme]) -> Result<(Select, &[Lexeme]), ReadError>
+pub fn select(alloc: Global, words: &[Lexeme]) -> Result<(Select, &[Lexeme]), Failure<Syntax>>
     ensures { Sees (λ x. (x.0, terminals x.1.now)) result (select_at (terminals words.now)) }
 {
     let rest = past(words, Key::Select)?;

@@ -1,13 +1,13 @@
 //! Several of one sort, with commas between them.
 ghost use Rattle.std.specs.Prelude.{◌≡◌};
-ghost use Rattle.ba_grammar.specs.Errors.{Sees};
+ghost use Rattle.ba_model.specs.Readings.{Sees};
 ghost use Rattle.ba_sql_syntax.specs.Reader.{comma_step, listed};
 ghost use Rattle.ba_sql_syntax.specs.Terminals.{terminals};
 
 use crate::word::{begins_with_sign, past_sign};
-use ba_grammar::ReadError;
+use ba_grammar::Syntax;
 use ba_lex::{Lexeme, Sign};
-use ba_model::List;
+use ba_model::{Failure, List};
 use std::alloc::Global;
 
 /// What the grammar reads at the front of words.
@@ -18,7 +18,7 @@ pub trait Element: Drop {
 
     ghost read_at: { Sequence Terminal → Read Self };
 
-    fn read(alloc: Global, words: &[Lexeme]) -> Result<(Self, &[Lexeme]), ReadError>
+    fn read(alloc: Global, words: &[Lexeme]) -> Result<(Self, &[Lexeme]), Failure<Syntax>>
         ensures { Sees (λ x. (x.0, terminals x.1.now)) result (read_at (terminals words.now)) };
 }
 
@@ -28,7 +28,7 @@ fn one_more<T: Element>(
     alloc: Global,
     mut found: List<T>,
     words: &[Lexeme],
-) -> Result<(List<T>, &[Lexeme]), ReadError>
+) -> Result<(List<T>, &[Lexeme]), Failure<Syntax>>
     ensures { Sees (λ x. (x.0, terminals x.1.now)) result (comma_step T.read_at (found, terminals words.now)) }
 {
     let rest = past_sign(words, Sign::Comma)?;
@@ -42,7 +42,7 @@ fn one_more<T: Element>(
 pub fn listed<T: Element>(
     alloc: Global,
     words: &[Lexeme],
-) -> Result<(List<T>, &[Lexeme]), ReadError>
+) -> Result<(List<T>, &[Lexeme]), Failure<Syntax>>
     ensures { Sees (λ x. (x.0, terminals x.1.now)) result (listed T.read_at (terminals words.now)) }
 {
     let (first, behind) = T::read(alloc, words)?;

@@ -1,6 +1,6 @@
 //! Names of columns, constants, and names behind them.
 ghost use Rattle.std.specs.Prelude.{◌≡◌};
-ghost use Rattle.ba_grammar.specs.Errors.{Sees};
+ghost use Rattle.ba_model.specs.Readings.{Sees};
 ghost use Rattle.ba_sql_syntax.specs.Reader.{alias_at, column_at, side_at};
 ghost use Rattle.ba_sql_syntax.specs.Terminals.{terminals};
 
@@ -8,14 +8,14 @@ use crate::word::{
     Key, begins_with, begins_with_name, begins_with_sign, constant, name, past, past_sign,
 };
 use crate::written::{Named, Side};
-use ba_grammar::ReadError;
+use ba_grammar::Syntax;
 use ba_lex::{Lexeme, Sign};
-use ba_model::Str;
+use ba_model::{Failure, Str};
 use std::alloc::Global;
 
 /// A name, which AS may stand before, or nothing.
 #[tactic(auto, unfolding(crate::specs::Reader::alias_at))]
-pub fn alias(alloc: Global, words: &[Lexeme]) -> Result<(Option<Str>, &[Lexeme]), ReadError>
+pub fn alias(alloc: Global, words: &[Lexeme]) -> Result<(Option<Str>, &[Lexeme]), Failure<Syntax>>
     ensures { Sees (λ x. (x.0, terminals x.1.now)) result (alias_at (terminals words.now)) }
 {
     if begins_with(words, Key::As) {
@@ -31,7 +31,7 @@ pub fn alias(alloc: Global, words: &[Lexeme]) -> Result<(Option<Str>, &[Lexeme])
 }
 
 #[tactic(auto, unfolding(crate::specs::Reader::column_at))]
-fn column(alloc: Global, words: &[Lexeme]) -> Result<(Side, &[Lexeme]), ReadError>
+fn column(alloc: Global, words: &[Lexeme]) -> Result<(Side, &[Lexeme]), Failure<Syntax>>
     ensures { Sees (λ x. (x.0, terminals x.1.now)) result (column_at (terminals words.now)) }
 {
     let (first, rest) = name(alloc, words)?;
@@ -50,7 +50,7 @@ fn column(alloc: Global, words: &[Lexeme]) -> Result<(Side, &[Lexeme]), ReadErro
 
 /// A column, with or without the name of its source, or a constant.
 #[tactic(auto, unfolding(crate::specs::Reader::side_at))]
-pub fn side(alloc: Global, words: &[Lexeme]) -> Result<(Side, &[Lexeme]), ReadError>
+pub fn side(alloc: Global, words: &[Lexeme]) -> Result<(Side, &[Lexeme]), Failure<Syntax>>
     ensures { Sees (λ x. (x.0, terminals x.1.now)) result (side_at (terminals words.now)) }
 {
     if begins_with_name(words) {

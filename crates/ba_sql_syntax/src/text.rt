@@ -1,18 +1,18 @@
 //! The whole text of a query.
 ghost use Rattle.std.specs.Prelude.{◌≡◌, IfOk};
-ghost use Rattle.ba_grammar.specs.Errors.{Gives as GivesText, Sees};
+ghost use Rattle.ba_model.specs.Readings.{Gives, Sees};
 ghost use Rattle.ba_sql_syntax.specs.Reader.{selects_at, text_of, union_step};
 ghost use Rattle.ba_sql_syntax.specs.Terminals.{terminals};
-ghost use Rattle.ba_sql_syntax.specs.Written.{Gives, HaveTrees, or_syntax, written_of};
+ghost use Rattle.ba_sql_syntax.specs.Written.{HaveTrees, or_syntax, written_of};
 
-use crate::fault::{SyntaxError, SyntaxFault};
+use crate::fault::SyntaxFault;
 use crate::scan::scan;
 use crate::select::select;
 use crate::word::{Key, begins_with, past, skip, skip_sign};
 use crate::written::{QueryText, Select};
-use ba_grammar::ReadError;
+use ba_grammar::Syntax;
 use ba_lex::{Lexeme, Sign};
-use ba_model::List;
+use ba_model::{Failure, List};
 use std::alloc::Global;
 
 /// One more select, behind UNION.
@@ -21,7 +21,7 @@ fn one_more(
     alloc: Global,
     mut found: List<Select>,
     words: &[Lexeme],
-) -> Result<(List<Select>, &[Lexeme]), ReadError>
+) -> Result<(List<Select>, &[Lexeme]), Failure<Syntax>>
     ensures { Sees (λ x. (x.0, terminals x.1.now)) result (union_step (found, terminals words.now)) }
 {
     let rest = past(words, Key::Union)?;
@@ -32,7 +32,7 @@ fn one_more(
 
 /// Selects with UNION between them.
 #[tactic(auto, unfolding(crate::specs::Reader::selects_at))]
-fn selects(alloc: Global, words: &[Lexeme]) -> Result<(List<Select>, &[Lexeme]), ReadError>
+fn selects(alloc: Global, words: &[Lexeme]) -> Result<(List<Select>, &[Lexeme]), Failure<Syntax>>
     ensures { Sees (λ x. (x.0, terminals x.1.now)) result (selects_at (terminals words.now)) }
 {
     let (first, behind) = select(alloc, words)?;
@@ -51,33 +51,29 @@ fn selects(alloc: Global, words: &[Lexeme]) -> Result<(List<Select>, &[Lexeme]),
 }
 
 #[tactic(auto, unfolding(crate::specs::Reader::text_of))]
-fn text(alloc: Global, words: &[Lexeme]) -> Result<QueryText, ReadError>
-    ensures { GivesText result (text_of (terminals words.now)) }
+fn text(alloc: Global, words: &[Lexeme]) -> Result<QueryText, Failure<Syntax>>
+    ensures { Gives result (text_of (terminals words.now)) }
 {
     let (selects, rest) = selects(alloc, words)?;
     if !skip_sign(rest, Sign::Semicolon).is_empty() {
-        return Err(ReadError::Syntax);
+        return Err(Failure::Fault(Syntax));
     }
     Ok(QueryText { selects })
 }
 
-fn written(alloc: Global, words: &[Lexeme]) -> Result<QueryText, SyntaxError>
+fn written(alloc: Global, words: &[Lexeme]) -> Result<QueryText, Failure<SyntaxFault>>
     ensures { Gives result (or_syntax (text_of (terminals words.now))) }
 {
-    match text(alloc, words) {
-        Ok(text) => Ok(text),
-        Err(ReadError::NoMemory) => Err(SyntaxError::NoMemory),
-        Err(ReadError::Syntax) => Err(SyntaxError::Fault(SyntaxFault::Syntax)),
-    }
+    text(alloc, words).map_err(Failure::widen)
 }
 
 #[tactic(auto, unfolding(crate::specs::Written::written_of))]
-fn scanned(alloc: Global, words: &[Lexeme]) -> Result<QueryText, SyntaxError>
+fn scanned(alloc: Global, words: &[Lexeme]) -> Result<QueryText, Failure<SyntaxFault>>
     ensures { Gives result (written_of words.now) }
 {
     let called = scan(alloc, words)?;
     match called {
-        Some(called) => Err(SyntaxError::Fault(SyntaxFault::Unsupported(called))),
+        Some(called) => Err(Failure::Fault(SyntaxFault::Unsupported(called))),
         None => written(alloc, words),
     }
 }
@@ -104,7 +100,7 @@ fn scanned(alloc: Global, words: &[Lexeme]) -> Result<QueryText, SyntaxError>
 ///
 /// This is a part of the queries of the SQL standard. TRUE is 1 and FALSE is 0, `a > b` is read as `b < a`, `a >= b` as `b <= a`, and
 /// `!=` as `<>`. A name is a word that isn't reserved, or a quoted name. Names of heads are dropped. `NoMemory` leaves nothing behind.
-pub fn read_written(alloc: Global, words: &[Lexeme]) -> Result<QueryText, SyntaxError>
+pub fn read_written(alloc: Global, words: &[Lexeme]) -> Result<QueryText, Failure<SyntaxFault>>
     ensures exact { Gives result (written_of words.now) }
     // Each select's condition is empty, or a tree in postfix order.
     ensures trees { IfOk result HaveTrees }

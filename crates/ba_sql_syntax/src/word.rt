@@ -1,13 +1,13 @@
 //! One word at the front.
 ghost use Rattle.std.specs.Prelude.{◌≡◌};
-ghost use Rattle.ba_grammar.specs.Errors.{Sees};
+ghost use Rattle.ba_model.specs.Readings.{Sees};
 ghost use Rattle.ba_sql_syntax.specs.Reader.{begins, constant_at, constant_of, is_name, name_at, name_of, past, skip};
 ghost use Rattle.ba_sql_syntax.specs.Terminals.{has_meaning, is_key, is_sign, is_unsupported, key_text, terminal, terminals, word_terminal};
 
 use crate::written::Constant;
-use ba_grammar::{ReadError, is_among};
+use ba_grammar::{Syntax, is_among};
 use ba_lex::{Lexeme, Sign, is_word};
-use ba_model::{Duplicate, Str, Value};
+use ba_model::{Duplicate, Failure, Str, Value};
 use std::alloc::Global;
 
 /// The words that mean something where they stand.
@@ -160,22 +160,22 @@ pub fn begins_with_name(words: &[Lexeme]) -> bool
 }
 
 /// The words behind a keyword.
-pub fn past(words: &[Lexeme], key: Key) -> Result<&[Lexeme], ReadError>
+pub fn past(words: &[Lexeme], key: Key) -> Result<&[Lexeme], Failure<Syntax>>
     ensures { Sees (λ rest. terminals rest.now) result (past (is_key key) (terminals words.now)) }
 {
     match words {
         [first, rest @ ..] if is_key(first, key) => Ok(rest),
-        _ => Err(ReadError::Syntax),
+        _ => Err(Failure::Fault(Syntax)),
     }
 }
 
 /// The words behind a sign.
-pub fn past_sign(words: &[Lexeme], sign: Sign) -> Result<&[Lexeme], ReadError>
+pub fn past_sign(words: &[Lexeme], sign: Sign) -> Result<&[Lexeme], Failure<Syntax>>
     ensures { Sees (λ rest. terminals rest.now) result (past (is_sign sign) (terminals words.now)) }
 {
     match words {
         [first, rest @ ..] if is_sign(first, sign) => Ok(rest),
-        _ => Err(ReadError::Syntax),
+        _ => Err(Failure::Fault(Syntax)),
     }
 }
 
@@ -204,34 +204,34 @@ fn name_of<'a>(
     alloc: Global,
     word: &Lexeme,
     rest: &'a [Lexeme],
-) -> Result<(Str, &'a [Lexeme]), ReadError>
+) -> Result<(Str, &'a [Lexeme]), Failure<Syntax>>
     ensures { Sees (λ x. (x.0, terminals x.1.now)) result (name_of (terminal word.now) (terminals rest.now)) }
 {
     match word {
         Lexeme::Word(found) => {
             if has_meaning(found) || is_unsupported(found) {
-                return Err(ReadError::Syntax);
+                return Err(Failure::Fault(Syntax));
             }
             Ok((found.copy(alloc)?, rest))
         }
         Lexeme::Quoted(found) => Ok((found.copy(alloc)?, rest)),
-        _ => Err(ReadError::Syntax),
+        _ => Err(Failure::Fault(Syntax)),
     }
 }
 
 /// A name: a word that isn't reserved, or a quoted name.
 #[tactic(auto, unfolding(crate::specs::Reader::name_at))]
-pub fn name(alloc: Global, words: &[Lexeme]) -> Result<(Str, &[Lexeme]), ReadError>
+pub fn name(alloc: Global, words: &[Lexeme]) -> Result<(Str, &[Lexeme]), Failure<Syntax>>
     ensures { Sees (λ x. (x.0, terminals x.1.now)) result (name_at (terminals words.now)) }
 {
     match words {
         [first, rest @ ..] => name_of(alloc, first, rest),
-        [] => Err(ReadError::Syntax),
+        [] => Err(Failure::Fault(Syntax)),
     }
 }
 
 #[tactic(auto, using(crate::proofs::TerminalLemmas::constant_word))]
-fn truth<'a>(word: &Str, rest: &'a [Lexeme]) -> Result<(Constant, &'a [Lexeme]), ReadError>
+fn truth<'a>(word: &Str, rest: &'a [Lexeme]) -> Result<(Constant, &'a [Lexeme]), Failure<Syntax>>
     ensures { Sees (λ x. (x.0, terminals x.1.now)) result (constant_of (word_terminal word.now) (terminals rest.now)) }
 {
     if is_word(word, "TRUE") {
@@ -240,12 +240,12 @@ fn truth<'a>(word: &Str, rest: &'a [Lexeme]) -> Result<(Constant, &'a [Lexeme]),
     if is_word(word, "FALSE") {
         return Ok((Constant::Value(Value::Int(0)), rest));
     }
-    Err(ReadError::Syntax)
+    Err(Failure::Fault(Syntax))
 }
 
 /// A number, a text, a parameter, TRUE or FALSE.
 #[tactic(auto, unfolding(crate::specs::Reader::constant_at))]
-pub fn constant(alloc: Global, words: &[Lexeme]) -> Result<(Constant, &[Lexeme]), ReadError>
+pub fn constant(alloc: Global, words: &[Lexeme]) -> Result<(Constant, &[Lexeme]), Failure<Syntax>>
     ensures { Sees (λ x. (x.0, terminals x.1.now)) result (constant_at (terminals words.now)) }
 {
     match words {
@@ -256,6 +256,6 @@ pub fn constant(alloc: Global, words: &[Lexeme]) -> Result<(Constant, &[Lexeme])
         )),
         [Lexeme::Param(name), rest @ ..] => Ok((Constant::Param(name.copy(alloc)?), rest)),
         [Lexeme::Word(word), rest @ ..] => truth(word, rest),
-        _ => Err(ReadError::Syntax),
+        _ => Err(Failure::Fault(Syntax)),
     }
 }
