@@ -9,7 +9,9 @@ use Rattle.ba_lex.specs.declared.token.Lexeme.{Lexeme}
 use Rattle.ba_lex.specs.declared.token.Token.{Token}
 use Rattle.ba_model.specs.Fit.{kinds_of}
 use Rattle.ba_model.specs.QueryFaults as faults
+use Rattle.ba_model.specs.Readings.{◌>>=◌, widened}
 use Rattle.ba_model.specs.declared.check_query.QueryFault.TheVariants as drafts
+use Rattle.ba_model.specs.declared.limits.TheConstants.{MAX_QUERY_BYTES}
 use Rattle.ba_model.specs.declared.policy.Parameter.{Parameter}
 use Rattle.ba_model.specs.declared.query.Part.{Part}
 use Rattle.ba_model.specs.declared.query.Query.{Query}
@@ -24,13 +26,13 @@ use Rattle.ba_sql_syntax.specs.declared.fault.SyntaxFault.TheVariants as syntax
 use Rattle.ba_sql_syntax.specs.declared.written.QueryText.{QueryText}
 use Rattle.ba_sql_syntax.proofs.ScanLemmas.{scanned_none}
 use Rattle.ba_sql_syntax.proofs.TextLemmas.{one_text, unsupported_sound, written_complete, written_sound, written_trees}
-use Rattle.ba_sql_query.specs.Errors.{◌>>=◌, rank}
+use Rattle.ba_sql_query.specs.Errors.{lex_fault, rank, syntax_fault}
 use Rattle.ba_sql_query.specs.Faults.{CountsLack, DraftLacks, HasAllParts, HasWords, HeadsLack, IsFirstFault, Lacks, NamesLack, Resolves, Writes}
 use Rattle.ba_sql_query.specs.Meaning.{fault_of, heads_agree, kinds_agree, orders_numbers, query_of_parts, query_of_selects, query_of_written, unless}
 use Rattle.ba_sql_query.specs.Parts.{parts_of, select_parts, written_part}
 use Rattle.ba_sql_query.specs.Reads.{HaveOneHead, IsSelectOf}
 use Rattle.ba_sql_query.specs.Resolve.{first_of_names, names_of, or_first, select_of, selects_of, text_lacks}
-use Rattle.ba_sql_query.specs.Texts.{from_syntax, from_tokens, query_of, query_of_words}
+use Rattle.ba_sql_query.specs.Texts.{query_of, query_of_words}
 use Rattle.ba_sql_query.specs.declared.fault.ReadQueryFault.{ReadQueryFault}
 use Rattle.ba_sql_query.specs.declared.fault.ReadQueryFault.TheVariants.{Lex, Unsupported, Syntax, UnknownTable, UnknownColumn, Ambiguous, UnknownParam, KindDiffers, OrderOnText, HeadDiffers, TooMany}
 use Rattle.ba_sql_query.specs.declared.resolved.ResolvedSelect.{ResolvedSelect}
@@ -59,7 +61,7 @@ module _ (schema : Schema) (params : List Parameter) (text : List ℕ) where
       same a b e = cc
 
   words_one : (ws vs : List Lexeme) → HasWords text ws → HasWords text vs → ws ≡ vs
-  words_one ws vs a b = sym a.say ∙ ap lexemes_of (same_words (tokens_of 65536 text) a.tokens b.tokens a.are b.are) ∙ b.say
+  words_one ws vs a b = sym a.say ∙ ap lexemes_of (same_words (tokens_of MAX_QUERY_BYTES text) a.tokens b.tokens a.are b.are) ∙ b.say
 
   writes_one : (t u : QueryText) → Writes text t → Writes text u → t ≡ u
   writes_one t u a b =
@@ -104,7 +106,7 @@ module _ (schema : Schema) (params : List Parameter) (text : List ℕ) where
 
   -- ---- tokens and grammar
 
-  at_tokens : (x : LexFault) → tokens_of 65536 text ≡ Err x → IsFirstFault (Lex x) schema params text
+  at_tokens : (x : LexFault) → tokens_of MAX_QUERY_BYTES text ≡ Err x → IsFirstFault (Lex x) schema params text
   unfolding rank
   at_tokens x e = record { has = e; first = λ g lt. absurd (omega (arith, lt)) }
 
@@ -338,7 +340,7 @@ module _ (schema : Schema) (params : List Parameter) (text : List ℕ) where
   unfolding query_of_written names_of
   of_written t f w trees h = of_selects t f w trees (selects_of schema params t.selects) refl h
 
-  of_syntax : (words : List Lexeme) (f : ReadQueryFault) → HasWords text words → (r : Result QueryText SyntaxFault) → written_of words ≡ r → (from_syntax r >>= query_of_written schema params) ≡ Err f → IsFirstFault f schema params text
+  of_syntax : (words : List Lexeme) (f : ReadQueryFault) → HasWords text words → (r : Result QueryText SyntaxFault) → written_of words ≡ r → (widened syntax_fault r >>= query_of_written schema params) ≡ Err f → IsFirstFault f schema params text
   of_syntax words f has (Ok t) e h =
       let s = written_sound words t e in
       of_written t f (record { words = words; has = has; supported = s.0; form = s.1 }) (written_trees words (Ok t) e) h
@@ -349,10 +351,10 @@ module _ (schema : Schema) (params : List Parameter) (text : List ℕ) where
   unfolding query_of_words
   of_words words f has h = of_syntax words f has (written_of words) refl h
 
-  of_tokens : (f : ReadQueryFault) (r : Result (List Token) LexFault) → tokens_of 65536 text ≡ r → (from_tokens r >>= query_of_words schema params) ≡ Err f → IsFirstFault f schema params text
+  of_tokens : (f : ReadQueryFault) (r : Result (List Token) LexFault) → tokens_of MAX_QUERY_BYTES text ≡ r → (widened lex_fault r >>= λ tokens. query_of_words schema params (lexemes_of tokens)) ≡ Err f → IsFirstFault f schema params text
   of_tokens f (Ok ts) e h = of_words (lexemes_of ts) f (record { tokens = ts; are = e; say = refl }) h
   of_tokens f (Err x) e h = subst (λ (k : ReadQueryFault). IsFirstFault k schema params text) (err_same h) (at_tokens x e)
 
   pub first_fault : (f : ReadQueryFault) → query_of schema params text ≡ Err f → IsFirstFault f schema params text
   unfolding query_of
-  first_fault f h = of_tokens f (tokens_of 65536 text) refl h
+  first_fault f h = of_tokens f (tokens_of MAX_QUERY_BYTES text) refl h

@@ -3,6 +3,7 @@ use Rattle.std.proofs.Common.{◌≡◌, ℕ, ◌≤◌, Bool, true, false, not,
 use Rattle.std.specs.List.{list_all, position}
 use Rattle.std.specs.Str.{bytes_eq}
 use Rattle.std.proofs.lemmas.Bool.Decides.{nat_tests}
+use Rattle.ba_model.specs.Readings.{◌>>=◌, each, each_flat}
 use Rattle.ba_model.specs.declared.policy.Parameter.{Parameter}
 use Rattle.ba_model.specs.declared.query.Operand.{Operand}
 use Rattle.ba_model.specs.declared.query.Operand.TheVariants.{Col, Val, Param}
@@ -22,7 +23,7 @@ use Rattle.ba_sql_syntax.specs.declared.written.Side.TheVariants as sides
 use Rattle.ba_sql_syntax.specs.declared.written.Source.{Source}
 use Rattle.ba_sql_syntax.specs.declared.written.Test.{Test}
 use Rattle.ba_sql_syntax.specs.declared.written.Test.TheVariants as tests
-use Rattle.ba_sql_query.specs.Errors.{◌>>=◌, each, each_flat, lacks, rank}
+use Rattle.ba_sql_query.specs.Errors.{lacks, rank}
 use Rattle.ba_sql_query.specs.Names.{called, column_at, column_of, column_place, constant_of, has_column, meant, meant_by, numbered, only, operand_of, param_of, place_of, source_of, table_of}
 use Rattle.ba_sql_query.specs.Resolve.{all_columns, constant_lacks, heads_lack, heads_of, item_lacks, item_of, lacks_over, names_lack, node_lacks, node_of, select_lacks, select_of, selects_of, side_lacks, source_columns, tables_of, test_lacks, test_of, text_lacks}
 use Rattle.ba_sql_query.specs.declared.fault.ReadQueryFault.{ReadQueryFault}

@@ -4,6 +4,7 @@ use Rattle.std.specs.Bool.{Decides}
 use Rattle.std.specs.List.{AllZip, flat_map, position}
 use Rattle.std.specs.Str.{bytes_eq}
 use Rattle.std.proofs.lemmas.Slice.Eq.{bytes_eq-Decides}
+use Rattle.ba_model.specs.Readings.{◌>>=◌, each, each_flat}
 use Rattle.ba_model.specs.SchemaFaults.{columns_of}
 use Rattle.ba_model.specs.declared.policy.Parameter.{Parameter}
 use Rattle.ba_model.specs.declared.query.Op.{Op}
@@ -25,7 +26,6 @@ use Rattle.ba_sql_syntax.specs.declared.written.Side.TheVariants as sides
 use Rattle.ba_sql_syntax.specs.declared.written.Source.{Source}
 use Rattle.ba_sql_syntax.specs.declared.written.Test.{Test}
 use Rattle.ba_sql_syntax.specs.declared.written.Test.TheVariants as tests
-use Rattle.ba_sql_query.specs.Errors.{◌>>=◌, each, each_flat}
 use Rattle.ba_sql_query.specs.Names.{called, column_at, column_of, column_place, constant_of, has_column, meant, meant_by, numbered, operand_of, param_of, place_of, source_of, table_of}
 use Rattle.ba_sql_query.specs.Reads.{HasColumn, HasParam, HasSome, HasTable, IsCalled, IsColumn, IsConstant, IsHead, IsItem, IsMeant, IsNode, IsOperand, IsSelectOf, IsTest}
 use Rattle.ba_sql_query.specs.Resolve.{all_columns, heads_of, item_of, node_of, select_of, source_columns, tables_of, test_of}

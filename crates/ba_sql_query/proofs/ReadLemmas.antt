@@ -5,7 +5,7 @@ use Rattle.std.proofs.lemmas.List.Folds.{list_all-append}
 use Rattle.std.proofs.lemmas.List.Quantifiers.{position-Some}
 use Rattle.std.proofs.lemmas.Option.{slice_get-get_or}
 use Rattle.ba_model.specs.QueryFaults.{is_empty}
-use Rattle.ba_sql_query.specs.Errors.{◌>>=◌, each, each_flat}
+use Rattle.ba_model.specs.Readings.{◌>>=◌, each, each_flat, widened}
 use Rattle.ba_sql_query.specs.Names.{numbered}
 use Rattle.ba_sql_query.specs.declared.fault.ReadQueryFault.{ReadQueryFault}
 
@@ -18,6 +18,10 @@ ok_same x y e = cc
 pub bind_ok : {A B : Type 0} (r : Result A ReadQueryFault) (f : A → Result B ReadQueryFault) (y : B) → (r >>= f) ≡ Ok y → (x : A) × (r ≡ Ok x) × (f x ≡ Ok y)
 bind_ok (Ok x) f y e = (x, refl, e)
 bind_ok (Err g) f y e = absurd (err_ok y e)
+
+pub widened_ok : {A F : Type 0} (into : F → ReadQueryFault) (r : Result A F) (x : A) → widened into r ≡ Ok x → r ≡ Ok x
+widened_ok {A} into (Ok y) x e = ap (λ (z : A). Ok z) (ok_same y x e)
+widened_ok into (Err f) x e = absurd (err_ok x e)
 
 -- ---- each
 

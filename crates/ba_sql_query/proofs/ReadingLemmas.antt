@@ -1,16 +1,18 @@
 -- A text by the function, and in SQL's terms.
 use Rattle.std.proofs.Common.{◌≡◌, ◌≢◌, ℕ, Bool, true, not, ◌==◌, List, [], ◌∷◌, ◌++◌, length, map, Option, Some, None, Result, Ok, Err, refl, sym, ap, ap₂, subst, ◌∙◌, arith}
+use Rattle.std.specs.Prelude.{IfOk}
 use Rattle.std.specs.List.{AllByRecursion, AllZip, flat_map, list_all, zip}
 use Rattle.std.proofs.lemmas.Bool.{eqb-true}
 use Rattle.std.proofs.lemmas.Bool.Decides.{nat_tests}
 use Rattle.std.proofs.lemmas.List.{length-map}
 use Rattle.std.proofs.lemmas.List.Elements.{All-from_recursion, recursion_from_All}
 use Rattle.ba_lex.specs.Tokens.{lexemes_of, tokens_of}
-use Rattle.ba_lex.specs.declared.token.LexFault.{LexFault}
 use Rattle.ba_lex.specs.declared.token.Lexeme.{Lexeme}
-use Rattle.ba_lex.specs.declared.token.Token.{Token}
 use Rattle.ba_model.specs.Fit.{kinds_of}
 use Rattle.ba_model.specs.QueryFaults as faults
+use Rattle.ba_model.specs.Readings.{Gives, widened}
+use Rattle.ba_model.specs.declared.failure.Failure.{Failure}
+use Rattle.ba_model.specs.declared.limits.TheConstants.{MAX_QUERY_BYTES}
 use Rattle.ba_model.specs.declared.policy.Parameter.{Parameter}
 use Rattle.ba_model.specs.declared.query.Operand.{Operand}
 use Rattle.ba_model.specs.declared.query.Part.{Part}
@@ -20,23 +22,20 @@ use Rattle.ba_model.specs.declared.schema.Kind.TheVariants.{Int as IntKind, Text
 use Rattle.ba_model.specs.declared.schema.Schema.{Schema}
 use Rattle.ba_sql_syntax.specs.Grammar.{HasTree}
 use Rattle.ba_sql_syntax.specs.Written.{HaveTrees, written_of}
-use Rattle.ba_sql_syntax.specs.declared.fault.SyntaxFault.{SyntaxFault}
 use Rattle.ba_sql_syntax.specs.declared.written.QueryText.{QueryText}
 use Rattle.ba_sql_syntax.specs.declared.written.Select.{Select}
 use Rattle.ba_sql_syntax.proofs.TextLemmas.{written_complete, written_sound, written_trees}
-use Rattle.std.specs.Prelude.{IfOk}
-use Rattle.ba_sql_query.specs.Errors.{Gives}
+use Rattle.ba_sql_query.specs.Errors.{lex_fault, syntax_fault}
 use Rattle.ba_sql_query.specs.Meaning.{fault_of, heads_agree, kind_in, kinds_agree, orders_numbers, query_of_parts, query_of_selects, query_of_written, same_heads, same_kind, unless}
 use Rattle.ba_sql_query.specs.Parts.{members, part_of, parts_of, select_parts, written_part}
 use Rattle.ba_sql_query.specs.Reads.{HasParts, HaveOneHead, IsQueryOf, IsSelectOf, ReadsQuery, ReadsWords}
 use Rattle.ba_sql_query.specs.Resolve.{first_of_names, names_of, or_first, select_of}
-use Rattle.ba_sql_query.specs.Texts.{from_syntax, from_tokens, query_of, query_of_words}
-use Rattle.ba_sql_query.specs.declared.fault.ReadQueryError.{ReadQueryError}
+use Rattle.ba_sql_query.specs.Texts.{query_of, query_of_words}
 use Rattle.ba_sql_query.specs.declared.fault.ReadQueryFault.{ReadQueryFault}
 use Rattle.ba_sql_query.specs.declared.resolved.ResolvedSelect.{ResolvedSelect}
 use Rattle.ba_sql_query.proofs.NameLemmas.{each_zip, select_complete, select_sound, zip_each}
 use Rattle.ba_sql_query.proofs.PartsLemmas.{HasNone, none_from}
-use Rattle.ba_sql_query.proofs.ReadLemmas.{bind_ok, err_ok, ok_same}
+use Rattle.ba_sql_query.proofs.ReadLemmas.{bind_ok, err_ok, ok_same, widened_ok}
 use Rattle.ba_sql_query.proofs.ResolvedLemmas.{and_both, and_left, and_right, names_selects}
 use Rattle.ba_sql_query.proofs.TransferLemmas.{all_map}
 use Rattle.ba_sql_query.proofs.TreeLemmas.{form_members, form_of}
@@ -228,15 +227,11 @@ module _ (schema : Schema) (params : List Parameter) where
 
   -- ---- words and texts
 
-  pub syntax_ok : (r : Result QueryText SyntaxFault) (text : QueryText) → from_syntax r ≡ Ok text → r ≡ Ok text
-  syntax_ok (Ok t) text e = ap (λ (x : QueryText). Ok x) (ok_same t text e)
-  syntax_ok (Err f) text e = absurd (err_ok text e)
-
   pub words_sound : (words : List Lexeme) (q : Query) → query_of_words schema params words ≡ Ok q → ReadsWords schema params words q
   unfolding query_of_words
   words_sound words q e =
-      let a = bind_ok (from_syntax (written_of words)) (query_of_written schema params) q e in
-      let w = syntax_ok (written_of words) a.0 a.1 in
+      let a = bind_ok (widened syntax_fault (written_of words)) (query_of_written schema params) q e in
+      let w = widened_ok syntax_fault (written_of words) a.0 a.1 in
       let s = written_sound words a.0 w in
       record { supported = s.0; written = a.0; form = s.1; means = meaning_sound a.0 q (written_trees words (Ok a.0) w) a.2 }
 
@@ -244,16 +239,11 @@ module _ (schema : Schema) (params : List Parameter) where
   unfolding query_of_words
   words_complete words q h = rw (written_complete words h.written (h.supported, h.form)) (meaning_complete h.written q h.means)
 
-  pub tokens_ok : (r : Result (List Token) LexFault) (words : List Lexeme) → from_tokens r ≡ Ok words → (ts : List Token) × (r ≡ Ok ts) × (lexemes_of ts ≡ words)
-  tokens_ok (Ok ts) words e = (ts, refl, ok_same (lexemes_of ts) words e)
-  tokens_ok (Err f) words e = absurd (err_ok words e)
-
   pub text_sound : (text : List ℕ) (q : Query) → query_of schema params text ≡ Ok q → ReadsQuery schema params text q
   unfolding query_of
   text_sound text q e =
-      let a = bind_ok (from_tokens (tokens_of 65536 text)) (query_of_words schema params) q e in
-      let t = tokens_ok (tokens_of 65536 text) a.0 a.1 in
-      record { tokens = t.0; are = t.1; reads = subst (λ (ws : List Lexeme). ReadsWords schema params ws q) (sym t.2) (words_sound a.0 q a.2) }
+      let a = bind_ok (widened lex_fault (tokens_of MAX_QUERY_BYTES text)) (λ tokens. query_of_words schema params (lexemes_of tokens)) q e in
+      record { tokens = a.0; are = widened_ok lex_fault (tokens_of MAX_QUERY_BYTES text) a.0 a.1; reads = words_sound (lexemes_of a.0) q a.2 }
 
   pub text_complete : (text : List ℕ) (q : Query) → ReadsQuery schema params text q → query_of schema params text ≡ Ok q
   unfolding query_of
@@ -263,6 +253,6 @@ module _ (schema : Schema) (params : List Parameter) where
   one_query text p q a b = ok_same p q (sym (text_complete text p a) ∙ text_complete text q b)
 
 -- what a reader returned, against what the text reads as
-pub reads : {X : Type 0} (r : Result X ReadQueryError) (read : Result X ReadQueryFault) (P : X → Type 0) → Gives r read → ((x : X) → read ≡ Ok x → P x) → IfOk r P
+pub reads : {X F : Type 0} (r : Result X (Failure F)) (read : Result X F) (P : X → Type 0) → Gives r read → ((x : X) → read ≡ Ok x → P x) → IfOk r P
 reads (Ok x) read P g sound = sound x g
 reads (Err e) read P g sound = tt

@@ -6,6 +6,7 @@ use Rattle.std.proofs.lemmas.List.{length-map}
 use Rattle.std.proofs.lemmas.List.Folds.{list_all-append}
 use Rattle.ba_model.specs.Fit.{column_kind, kinds_of}
 use Rattle.ba_model.specs.QueryFaults as faults
+use Rattle.ba_model.specs.Readings.{◌>>=◌, each}
 use Rattle.ba_model.specs.SchemaFaults.{columns_of, columns_or as table_columns}
 use Rattle.ba_model.specs.declared.policy.Parameter.{Parameter}
 use Rattle.ba_model.specs.declared.query.Atom.{Atom}
@@ -31,7 +32,6 @@ use Rattle.ba_sql_syntax.specs.declared.written.Side.TheVariants as sides
 use Rattle.ba_sql_syntax.specs.declared.written.Source.{Source}
 use Rattle.ba_sql_syntax.specs.declared.written.Test.{Test}
 use Rattle.ba_sql_syntax.specs.declared.written.Test.TheVariants as tests
-use Rattle.ba_sql_query.specs.Errors.{◌>>=◌, each}
 use Rattle.ba_sql_query.specs.Names.{column_at, column_of, column_place, constant_of, meant, numbered, operand_of, param_of, source_of, table_of}
 use Rattle.ba_sql_query.specs.Parts.{equation, node_atoms, test_atoms, written_part}
 use Rattle.ba_sql_query.specs.Resolve.{all_columns, columns_or, first_of_names, heads_of, item_of, names_of, node_of, numbers, or_first, select_of, selects_of, source_columns, tables_of, test_of}

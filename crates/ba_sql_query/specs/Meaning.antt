@@ -3,6 +3,7 @@ use Rattle.std.specs.Prelude.{ℕ, Bool, true, false, not, ◌&&◌, ◌==◌, L
 use Rattle.std.specs.List.{list_all, zip}
 use Rattle.ba_model.specs.Fit.{kind_of, kinds_of}
 use Rattle.ba_model.specs.QueryFaults as faults
+use Rattle.ba_model.specs.Readings.{◌>>=◌}
 use Rattle.ba_model.specs.declared.policy.Parameter.{Parameter}
 use Rattle.ba_model.specs.declared.query.Atom.{Atom}
 use Rattle.ba_model.specs.declared.query.Operand.{Operand}
@@ -12,7 +13,6 @@ use Rattle.ba_model.specs.declared.schema.Kind.{Kind}
 use Rattle.ba_model.specs.declared.schema.Kind.TheVariants.{Int as IntKind, Text as TextKind}
 use Rattle.ba_model.specs.declared.schema.Schema.{Schema}
 use Rattle.ba_sql_syntax.specs.declared.written.QueryText.{QueryText}
-use Rattle.ba_sql_query.specs.Errors.{◌>>=◌}
 use Rattle.ba_sql_query.specs.Parts.{parts_of, written_part}
 use Rattle.ba_sql_query.specs.Resolve.{names_of}
 use Rattle.ba_sql_query.specs.declared.fault.ReadQueryFault.{ReadQueryFault}

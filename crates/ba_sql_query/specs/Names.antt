@@ -2,6 +2,7 @@
 use Rattle.std.specs.Prelude.{ℕ, Bool, nat_le, nat_lt, List, Option, Some, None, is_some, option_and_then, unwrap_or, slice_get, count_by, Result, Ok, Err, if◌then◌else◌}
 use Rattle.std.specs.List.{position}
 use Rattle.std.specs.Str.{bytes_eq}
+use Rattle.ba_model.specs.Readings.{◌>>=◌}
 use Rattle.ba_model.specs.SchemaFaults.{columns_of}
 use Rattle.ba_model.specs.declared.policy.Parameter.{Parameter}
 use Rattle.ba_model.specs.declared.query.Operand.{Operand}
@@ -13,7 +14,6 @@ use Rattle.ba_sql_syntax.specs.declared.written.Named.{Named}
 use Rattle.ba_sql_syntax.specs.declared.written.Side.{Side}
 use Rattle.ba_sql_syntax.specs.declared.written.Side.TheVariants as sides
 use Rattle.ba_sql_syntax.specs.declared.written.Source.{Source}
-use Rattle.ba_sql_query.specs.Errors.{◌>>=◌}
 use Rattle.ba_sql_query.specs.declared.fault.ReadQueryFault.{ReadQueryFault}
 use Rattle.ba_sql_query.specs.declared.fault.ReadQueryFault.TheVariants.{UnknownTable, UnknownColumn, Ambiguous, UnknownParam}
 

@@ -1,7 +1,7 @@
 -- The parts of selects whose names are numbers: the disjunctive form of each condition.
-use Rattle.std.specs.Prelude.{ℕ, ◌+◌, ◌*◌, Bool, ◌==◌, ◌||◌, ◌&&◌, nat_le, List, [], ◌∷◌, ◌++◌, map, length, min, max, if◌then◌else◌}
+use Rattle.std.specs.Prelude.{ℕ, suc, ◌+◌, ◌*◌, Bool, ◌==◌, ◌||◌, ◌&&◌, nat_le, List, [], ◌∷◌, ◌++◌, map, length, min, max, if◌then◌else◌}
 use Rattle.std.specs.List.{flat_map}
-use Rattle.ba_model.specs.declared.limits.TheConstants.{MAX_ATOMS, MAX_HEAD, MAX_PART_TABLES}
+use Rattle.ba_model.specs.declared.limits.TheConstants.{MAX_ATOMS, MAX_HEAD, MAX_PARTS, MAX_PART_TABLES}
 use Rattle.ba_model.specs.declared.query.Atom.{Atom}
 use Rattle.ba_model.specs.declared.query.Op.TheVariants.{Eq}
 use Rattle.ba_model.specs.declared.query.Operand.{Operand}
@@ -82,25 +82,25 @@ select_parts select = map (part_of select) (members select.condition)
 abbrev pub parts_of : List ResolvedSelect → List Part
 parts_of selects = flat_map select_parts selects
 
--- ---- how many members there are, and the atoms of the longest, counted up to 33 and 65
+-- ---- how many members there are, and the atoms of the longest, counted up to one above their limits
 
 abbrev pub longest : List (List Atom) → ℕ
 longest [] = 0
 longest (m ∷ ms) = max (length m) (longest ms)
 
 abbrev pub measure : List (List Atom) → Count
-measure ms = record { parts = min (length ms) 33; longest = min (longest ms) 65 }
+measure ms = record { parts = min (length ms) (suc MAX_PARTS); longest = min (longest ms) (suc MAX_ATOMS) }
 
 abbrev pub count_of : ResolvedTest → Count
 count_of (One atom) = record { parts = 1; longest = 1 }
-count_of (Among side among) = record { parts = min (length among) 33; longest = min (length among) 1 }
+count_of (Among side among) = record { parts = min (length among) (suc MAX_PARTS); longest = min (length among) 1 }
 
 -- of the product; of no members the longest has no atoms
 abbrev pub count_both : Count → Count → Count
-count_both a b = record { parts = min (a.parts * b.parts) 33; longest = if a.parts * b.parts == 0 then 0 else min (a.longest + b.longest) 65 }
+count_both a b = record { parts = min (a.parts * b.parts) (suc MAX_PARTS); longest = if a.parts * b.parts == 0 then 0 else min (a.longest + b.longest) (suc MAX_ATOMS) }
 
 abbrev pub count_either : Count → Count → Count
-count_either a b = record { parts = min (a.parts + b.parts) 33; longest = max a.longest b.longest }
+count_either a b = record { parts = min (a.parts + b.parts) (suc MAX_PARTS); longest = max a.longest b.longest }
 
 abbrev pub count_join : List Count → List Count
 count_join [] = []

@@ -2,6 +2,7 @@
 use Rattle.std.specs.Prelude.{ℕ, Bool, true, not, ◌&&◌, ◌==◌, List, [], ◌∷◌, map, min, length, Option, Some, None, slice_get, Result, Ok, Err, if◌then◌else◌}
 use Rattle.std.specs.List.{flat_map, list_all, range_with_len}
 use Rattle.ba_model.specs.QueryFaults.{is_empty}
+use Rattle.ba_model.specs.Readings.{◌>>=◌, each, each_flat}
 use Rattle.ba_model.specs.SchemaFaults.{columns_of}
 use Rattle.ba_model.specs.declared.policy.Parameter.{Parameter}
 use Rattle.ba_model.specs.declared.query.Operand.{Operand}
@@ -23,7 +24,7 @@ use Rattle.ba_sql_syntax.specs.declared.written.Side.TheVariants as sides
 use Rattle.ba_sql_syntax.specs.declared.written.Source.{Source}
 use Rattle.ba_sql_syntax.specs.declared.written.Test.{Test}
 use Rattle.ba_sql_syntax.specs.declared.written.Test.TheVariants as tests
-use Rattle.ba_sql_query.specs.Errors.{◌>>=◌, each, each_flat, lacks, rank}
+use Rattle.ba_sql_query.specs.Errors.{lacks, rank}
 use Rattle.ba_sql_query.specs.Names.{column_of, constant_of, operand_of, param_of, source_of, table_of}
 use Rattle.ba_sql_query.specs.declared.fault.ReadQueryFault.{ReadQueryFault}
 use Rattle.ba_sql_query.specs.declared.fault.ReadQueryFault.TheVariants.{UnknownTable, UnknownColumn, Ambiguous, UnknownParam}

@@ -1,11 +1,12 @@
 //! How many parts a query has, counted before any is built.
-ghost use Rattle.std.specs.Prelude.{◌≡◌, [], IfOk, OnOk, length, min, not, reverse};
+ghost use Rattle.std.specs.Prelude.{◌≡◌, [], IfOk, OnOk, length, min, not, reverse, suc};
 ghost use Rattle.std.specs.List.{list_all};
 ghost use Rattle.ba_model.specs.QueryFaults as faults;
+ghost use Rattle.ba_model.specs.declared.limits.TheConstants.{MAX_PARTS};
 ghost use Rattle.ba_sql_query.specs.Parts.{count_after, count_both, count_either, count_join, count_of, count_run, count_sum, count_top, fits_by, measure, members, parts_of};
 
 use crate::resolved::{ResolvedNode, ResolvedSelect, ResolvedTest};
-use ba_model::{MAX_ATOMS, MAX_HEAD, MAX_PARTS, MAX_PART_TABLES};
+use ba_model::{MAX_ATOMS, MAX_HEAD, MAX_PART_TABLES, MAX_PARTS};
 use std::alloc::{AllocError, Global};
 
 /// More parts than a query may have: counts are held here.
@@ -149,7 +150,7 @@ fn fits(select: &ResolvedSelect, count: Count) -> bool
 }
 
 fn total_of(alloc: Global, selects: &[ResolvedSelect]) -> Result<Total, AllocError>
-    ensures parts { IfOk result (λ total. total.parts ≡ min (length (parts_of selects.now)) 33) }
+    ensures parts { IfOk result (λ total. total.parts ≡ min (length (parts_of selects.now)) (suc MAX_PARTS)) }
     ensures fits { IfOk result (λ total. total.fits ≡ list_all faults.part_within (parts_of selects.now)) }
 {
     let mut parts = 0;

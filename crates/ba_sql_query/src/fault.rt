@@ -1,13 +1,10 @@
 //! Why a text reads as no query.
 ghost use Rattle.std.specs.Prelude.{◌≡◌};
-ghost use Rattle.ba_sql_query.specs.Errors.{lex_error, rank, syntax_error};
-ghost use Rattle.ba_sql_query.specs.declared.fault.ReadQueryError.TheVariants.{NoMemory, Fault};
+ghost use Rattle.ba_sql_query.specs.Errors.{lex_fault, rank, syntax_fault};
 
-use ba_lex::{LexError, LexFault};
+use ba_lex::LexFault;
 use ba_model::Str;
-use ba_sql_syntax::fault::{SyntaxError, SyntaxFault};
-use std::alloc::{AllocError, AllocFailed};
-use thiserror::Error;
+use ba_sql_syntax::SyntaxFault;
 
 /// Why a text reads as no query. Of several faults the first of this order is told.
 #[derive(Debug, Drop)]
@@ -58,62 +55,21 @@ impl ReadQueryFault {
     }
 }
 
-/// Want of memory, or a fault of the text.
-#[derive(Debug, Drop, Error)]
-pub enum ReadQueryError {
-    #[error("out of memory")]
-    NoMemory,
-    #[error("no query")]
-    Fault(ReadQueryFault),
-}
+impl From<LexFault> for ReadQueryFault {
+    ghost from_gives = { λ f read. read ≡ lex_fault f };
 
-impl From<AllocError> for ReadQueryError {
-    ghost from_gives = { λ _ e. e ≡ NoMemory };
-
-    fn from(_e: AllocError) -> ReadQueryError {
-        ReadQueryError::NoMemory
+    fn from(fault: LexFault) -> ReadQueryFault {
+        ReadQueryFault::Lex(fault)
     }
 }
 
-impl<T: Drop> From<AllocFailed<T>> for ReadQueryError {
-    ghost from_gives = { λ _ e. e ≡ NoMemory };
+impl From<SyntaxFault> for ReadQueryFault {
+    ghost from_gives = { λ f read. read ≡ syntax_fault f };
 
-    fn from(_e: AllocFailed<T>) -> ReadQueryError {
-        ReadQueryError::NoMemory
-    }
-}
-
-impl From<ReadQueryFault> for ReadQueryError {
-    ghost from_gives = { λ f e. e ≡ Fault f };
-
-    fn from(f: ReadQueryFault) -> ReadQueryError {
-        ReadQueryError::Fault(f)
-    }
-}
-
-impl From<LexError> for ReadQueryError {
-    ghost from_gives = { λ e read. read ≡ lex_error e };
-
-    fn from(e: LexError) -> ReadQueryError {
-        match e {
-            LexError::NoMemory => ReadQueryError::NoMemory,
-            LexError::Fault(fault) => ReadQueryError::Fault(ReadQueryFault::Lex(fault)),
-        }
-    }
-}
-
-impl From<SyntaxError> for ReadQueryError {
-    ghost from_gives = { λ e read. read ≡ syntax_error e };
-
-    fn from(e: SyntaxError) -> ReadQueryError {
-        match e {
-            SyntaxError::NoMemory => ReadQueryError::NoMemory,
-            SyntaxError::Fault(SyntaxFault::Unsupported(word)) => {
-                ReadQueryError::Fault(ReadQueryFault::Unsupported(word))
-            }
-            SyntaxError::Fault(SyntaxFault::Syntax) => {
-                ReadQueryError::Fault(ReadQueryFault::Syntax)
-            }
+    fn from(fault: SyntaxFault) -> ReadQueryFault {
+        match fault {
+            SyntaxFault::Unsupported(word) => ReadQueryFault::Unsupported(word),
+            SyntaxFault::Syntax => ReadQueryFault::Syntax,
         }
     }
 }

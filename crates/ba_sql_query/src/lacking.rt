@@ -4,12 +4,12 @@ ghost use Rattle.std.specs.List.{list_all};
 ghost use Rattle.ba_sql_query.specs.Errors.{lacks};
 ghost use Rattle.ba_sql_query.specs.Resolve.{constant_lacks, first_of_names, heads_lack, item_lacks, names_lack, node_lacks, select_lacks, side_lacks, test_lacks, text_lacks};
 
-use crate::fault::{ReadQueryError, ReadQueryFault};
+use crate::fault::ReadQueryFault;
 use crate::names::{column_of, param_of};
 use crate::resolve::tables_of;
 use crate::scope::Scope;
-use ba_model::{Parameter, Schema};
-use ba_sql_syntax::written::{Constant, Heads, Item, Node, Select, Side, Test};
+use ba_model::{Failure, Parameter, Schema};
+use ba_sql_syntax::{Constant, Heads, Item, Node, Select, Side, Test};
 use std::alloc::{AllocError, Global};
 
 // Whether it isn't refused by a fault of this rank.
@@ -141,8 +141,8 @@ fn select_lacks(
     let from = tables_of(alloc, schema, select.sources.as_slice());
     match from {
         Ok(from) => names_lack(alloc, rank, schema, params, select, from.as_slice()),
-        Err(ReadQueryError::Fault(fault)) => Ok(fault.rank() != rank),
-        Err(ReadQueryError::NoMemory) => Err(AllocError),
+        Err(Failure::Fault(fault)) => Ok(fault.rank() != rank),
+        Err(Failure::NoMemory) => Err(AllocError),
     }
 }
 

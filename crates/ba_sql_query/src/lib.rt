@@ -4,13 +4,13 @@
 mod columns;
 mod count;
 mod expand;
-pub mod fault;
+mod fault;
 mod kinds;
 mod lacking;
 pub mod laws;
 mod names;
 mod query;
-pub mod read;
+mod read;
 mod resolve;
 mod resolved;
 mod scope;
@@ -18,5 +18,5 @@ mod sources;
 mod spot;
 mod tables;
 
-pub use fault::{ReadQueryError, ReadQueryFault};
+pub use fault::ReadQueryFault;
 pub use read::{read_query, read_words};

@@ -2,15 +2,15 @@
 ghost use Rattle.std.specs.Prelude.{◌≡◌, option_and_then, slice_get};
 ghost use Rattle.std.specs.List.{position};
 ghost use Rattle.std.specs.Str.{bytes_eq};
-ghost use Rattle.ba_sql_query.specs.Errors.{Gives};
+ghost use Rattle.ba_model.specs.Readings.{Gives};
 ghost use Rattle.ba_sql_query.specs.Names.{column_at, column_of, column_place, constant_of, meant, operand_of, param_of, table_of};
 
 use crate::columns::column_place;
-use crate::fault::{ReadQueryError, ReadQueryFault};
+use crate::fault::ReadQueryFault;
 use crate::scope::Scope;
 use crate::spot::numbered;
-use ba_model::{Duplicate, Operand, Parameter, Schema, Str, Table};
-use ba_sql_syntax::written::{Constant, Named, Side};
+use ba_model::{Duplicate, Failure, Operand, Parameter, Schema, Str, Table};
+use ba_sql_syntax::{Constant, Named, Side};
 use std::alloc::Global;
 
 fn is_table(table: &Table, name: &Str) -> bool
@@ -106,12 +106,12 @@ pub fn constant_of(
     alloc: Global,
     params: &[Parameter],
     constant: &Constant,
-) -> Result<Operand, ReadQueryError>
+) -> Result<Operand, Failure<ReadQueryFault>>
     ensures { Gives result (constant_of params.now constant.now) }
 {
     match constant {
         Constant::Value(value) => Ok(Operand::Val(value.copy(alloc)?)),
-        Constant::Param(name) => Ok(param_of(params, name)?),
+        Constant::Param(name) => param_of(params, name).map_err(Failure::Fault),
     }
 }
 
@@ -122,11 +122,11 @@ pub fn operand_of(
     scope: &Scope,
     params: &[Parameter],
     side: &Side,
-) -> Result<Operand, ReadQueryError>
+) -> Result<Operand, Failure<ReadQueryFault>>
     ensures { Gives result (operand_of scope.now.schema.now params.now scope.now.sources scope.now.from side.now) }
 {
     match side {
-        Side::Column(name) => Ok(column_of(scope, name)?),
+        Side::Column(name) => column_of(scope, name).map_err(Failure::Fault),
         Side::Constant(constant) => constant_of(alloc, params, constant),
     }
 }

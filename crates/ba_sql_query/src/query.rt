@@ -2,19 +2,19 @@
 ghost use Rattle.std.specs.Prelude.{◌≡◌, [], IfOk};
 ghost use Rattle.ba_model.specs.Fit.{IsQuery, kinds_of};
 ghost use Rattle.ba_model.specs.QueryFaults.{HasNoFault};
-ghost use Rattle.ba_sql_query.specs.Errors.{Gives};
+ghost use Rattle.ba_model.specs.Readings.{Gives};
 ghost use Rattle.ba_sql_query.specs.Meaning.{fault_of, query_of_parts, query_of_selects, query_of_written};
 ghost use Rattle.ba_sql_query.specs.Parts.{parts_of};
 ghost use Rattle.ba_sql_query.specs.Resolved.{AreResolved};
 
 use crate::count::size_of;
 use crate::expand::parts_of;
-use crate::fault::{ReadQueryError, ReadQueryFault};
+use crate::fault::ReadQueryFault;
 use crate::kinds::{heads_agree, kinds_agree, orders_numbers};
 use crate::resolve::names_of;
 use crate::resolved::ResolvedSelect;
-use ba_model::{List, Parameter, Query, QueryDraft, Schema};
-use ba_sql_syntax::written::QueryText;
+use ba_model::{Failure, List, Parameter, Query, QueryDraft, Schema};
+use ba_sql_syntax::QueryText;
 use std::alloc::{AllocError, Global};
 
 // The first fault beside those of names.
@@ -49,7 +49,7 @@ fn built(
     schema: &Schema,
     params: &List<Parameter>,
     selects: &[ResolvedSelect],
-) -> Result<Query, ReadQueryError>
+) -> Result<Query, Failure<ReadQueryFault>>
     requires { HasNoFault schema.now (kinds_of params.now) [] (parts_of selects.now) }
     ensures exact { Gives result (Ok (query_of_parts (parts_of selects.now))) }
     ensures query { IfOk result (IsQuery schema.now (kinds_of params.now) []) }
@@ -60,7 +60,7 @@ fn built(
     match checked {
         Ok(query) => Ok(query),
         // It isn't reached.
-        Err(_) => Err(ReadQueryError::Fault(ReadQueryFault::TooMany)),
+        Err(_) => Err(Failure::Fault(ReadQueryFault::TooMany)),
     }
 }
 
@@ -70,14 +70,14 @@ fn query_of_selects(
     schema: &Schema,
     params: &List<Parameter>,
     selects: &[ResolvedSelect],
-) -> Result<Query, ReadQueryError>
+) -> Result<Query, Failure<ReadQueryFault>>
     requires { AreResolved schema.now params.now selects.now }
     ensures exact { Gives result (query_of_selects schema.now params.now selects.now) }
     ensures query { IfOk result (IsQuery schema.now (kinds_of params.now) []) }
 {
     let fault = fault_of(alloc, schema, params.as_slice(), selects)?;
     match fault {
-        Some(fault) => Err(ReadQueryError::Fault(fault)),
+        Some(fault) => Err(Failure::Fault(fault)),
         None => built(alloc, schema, params, selects),
     }
 }
@@ -89,7 +89,7 @@ pub fn query_of_written(
     schema: &Schema,
     params: &List<Parameter>,
     text: &QueryText,
-) -> Result<Query, ReadQueryError>
+) -> Result<Query, Failure<ReadQueryFault>>
     ensures exact { Gives result (query_of_written schema.now params.now text.now) }
     ensures query { IfOk result (IsQuery schema.now (kinds_of params.now) []) }
 {

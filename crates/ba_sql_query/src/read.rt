@@ -1,20 +1,17 @@
 //! Reads words, or a text, as a query.
 ghost use Rattle.std.specs.Prelude.{[], IfOk};
 ghost use Rattle.ba_model.specs.Fit.{IsQuery, kinds_of};
-ghost use Rattle.ba_sql_query.specs.Errors.{Gives};
+ghost use Rattle.ba_model.specs.Readings.{Gives};
 ghost use Rattle.ba_sql_query.specs.Reads.{ReadsQuery};
 ghost use Rattle.ba_sql_query.specs.Texts.{query_of, query_of_words};
 
-use crate::fault::ReadQueryError;
+use crate::fault::ReadQueryFault;
 use crate::query::query_of_written;
 use ba_grammar::lexemes;
 use ba_lex::{Lexeme, tokens};
-use ba_model::{List, Parameter, Query, Schema};
+use ba_model::{Failure, List, MAX_QUERY_BYTES, Parameter, Query, Schema};
 use ba_sql_syntax::read_written;
 use std::alloc::Global;
-
-/// How many bytes a text may have.
-const MOST_BYTES: usize = 65_536;
 
 /// The query that words mean for a schema and parameters, as `read_query` says. Their number has no limit.
 #[tactic(auto, unfolding(crate::specs::Texts::query_of_words))]
@@ -23,12 +20,12 @@ pub fn read_words(
     schema: &Schema,
     params: &List<Parameter>,
     words: &[Lexeme],
-) -> Result<Query, ReadQueryError>
+) -> Result<Query, Failure<ReadQueryFault>>
     ensures exact { Gives result (query_of_words schema.now params.now words.now) }
     // It fits the schema and the parameters, and its counts are within the limits.
     ensures query { IfOk result (IsQuery schema.now (kinds_of params.now) []) }
 {
-    let text = read_written(alloc, words)?;
+    let text = read_written(alloc, words).map_err(Failure::widen)?;
     query_of_written(alloc, schema, params, &text)
 }
 
@@ -38,11 +35,11 @@ fn query_of(
     schema: &Schema,
     params: &List<Parameter>,
     text: &str,
-) -> Result<Query, ReadQueryError>
+) -> Result<Query, Failure<ReadQueryFault>>
     ensures exact { Gives result (query_of schema.now params.now text.now) }
     ensures query { IfOk result (IsQuery schema.now (kinds_of params.now) []) }
 {
-    let tokens = tokens(alloc, text, MOST_BYTES)?;
+    let tokens = tokens(alloc, text, MAX_QUERY_BYTES).map_err(Failure::widen)?;
     let words = lexemes(alloc, tokens)?;
     read_words(alloc, schema, params, words.as_slice())
 }
@@ -73,7 +70,7 @@ pub fn read_query(
     schema: &Schema,
     params: &List<Parameter>,
     text: &str,
-) -> Result<Query, ReadQueryError>
+) -> Result<Query, Failure<ReadQueryFault>>
     ensures exact { Gives result (query_of schema.now params.now text.now) }
     // The tokens, the grammar, the schema's names and the limits say what a text reads as.
     ensures reads { IfOk result (ReadsQuery schema.now params.now text.now) }

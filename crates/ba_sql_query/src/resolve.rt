@@ -1,18 +1,18 @@
 //! A text with its names as numbers.
 ghost use Rattle.std.specs.Prelude.{◌≡◌, ◌++◌, [], ◌∷◌, IfOk, OnOk, map, min, length, slice_get};
 ghost use Rattle.std.specs.List.{range_with_len};
-ghost use Rattle.ba_sql_query.specs.Errors.{Gives, Sees, each, each_flat};
+ghost use Rattle.ba_model.specs.Readings.{Gives, Sees, each, each_flat};
 ghost use Rattle.ba_sql_query.specs.Names.{constant_of, table_of};
 ghost use Rattle.ba_sql_query.specs.Resolve.{all_columns, columns_or, heads_of, item_of, names_of, node_of, select_of, selects_of, source_columns, tables_of, test_of};
 
 use crate::columns::columns_of;
-use crate::fault::{ReadQueryError, ReadQueryFault};
+use crate::fault::ReadQueryFault;
 use crate::lacking::first_of_names;
 use crate::names::{constant_of, operand_of, table_of};
 use crate::resolved::{ResolvedNode, ResolvedSelect, ResolvedTest};
 use crate::scope::Scope;
-use ba_model::{Atom, Column, List, Operand, Parameter, Schema};
-use ba_sql_syntax::written::{Constant, Heads, Item, Node, QueryText, Select, Source, Test};
+use ba_model::{Atom, Column, Failure, List, Operand, Parameter, Schema};
+use ba_sql_syntax::{Constant, Heads, Item, Node, QueryText, Select, Source, Test};
 use std::alloc::{AllocError, Global};
 
 /// How many numbers of 32 bits there are, without the last.
@@ -78,12 +78,12 @@ fn item_of(
     scope: &Scope,
     params: &[Parameter],
     item: &Item,
-) -> Result<Vec<Operand>, ReadQueryError>
+) -> Result<Vec<Operand>, Failure<ReadQueryFault>>
     ensures { Sees (λ v. v.items) result (item_of scope.now.schema.now params.now scope.now.sources scope.now.from item.now) }
 {
     match item {
         Item::AllOf(name) => {
-            let place = scope.sources.source_of(name)?;
+            let place = scope.sources.source_of(name).map_err(Failure::Fault)?;
             Ok(source_columns(alloc, scope.schema, scope.from.as_slice(), place)?)
         }
         Item::One(side) => {
@@ -98,7 +98,7 @@ fn items_of(
     scope: &Scope,
     params: &[Parameter],
     items: &[Item],
-) -> Result<List<Operand>, ReadQueryError>
+) -> Result<List<Operand>, Failure<ReadQueryFault>>
     ensures { Gives result (each_flat (item_of scope.now.schema.now params.now scope.now.sources scope.now.from) items.now) }
 {
     let mut found = Vec::new(alloc);
@@ -115,7 +115,7 @@ fn heads_of(
     scope: &Scope,
     params: &[Parameter],
     heads: &Heads,
-) -> Result<List<Operand>, ReadQueryError>
+) -> Result<List<Operand>, Failure<ReadQueryFault>>
     ensures { Gives result (heads_of scope.now.schema.now params.now scope.now.sources scope.now.from heads.now) }
 {
     match heads {
@@ -128,7 +128,7 @@ fn constants_of(
     alloc: Global,
     params: &[Parameter],
     constants: &[Constant],
-) -> Result<List<Operand>, ReadQueryError>
+) -> Result<List<Operand>, Failure<ReadQueryFault>>
     ensures { Gives result (each (constant_of params.now) constants.now) }
 {
     let mut found = List::new(alloc);
@@ -145,7 +145,7 @@ fn test_of(
     scope: &Scope,
     params: &[Parameter],
     test: &Test,
-) -> Result<ResolvedTest, ReadQueryError>
+) -> Result<ResolvedTest, Failure<ReadQueryFault>>
     ensures { Gives result (test_of scope.now.schema.now params.now scope.now.sources scope.now.from test.now) }
 {
     match test {
@@ -169,7 +169,7 @@ fn node_of(
     scope: &Scope,
     params: &[Parameter],
     node: &Node,
-) -> Result<ResolvedNode, ReadQueryError>
+) -> Result<ResolvedNode, Failure<ReadQueryFault>>
     ensures { Gives result (node_of scope.now.schema.now params.now scope.now.sources scope.now.from node.now) }
 {
     match node {
@@ -187,7 +187,7 @@ fn nodes_of(
     scope: &Scope,
     params: &[Parameter],
     nodes: &[Node],
-) -> Result<List<ResolvedNode>, ReadQueryError>
+) -> Result<List<ResolvedNode>, Failure<ReadQueryFault>>
     ensures { Gives result (each (node_of scope.now.schema.now params.now scope.now.sources scope.now.from) nodes.now) }
 {
     let mut found = List::new(alloc);
@@ -202,12 +202,12 @@ fn numbers_of(
     alloc: Global,
     schema: &Schema,
     sources: &[Source],
-) -> Result<List<u32>, ReadQueryError>
+) -> Result<List<u32>, Failure<ReadQueryFault>>
     ensures { Gives result (each (λ source. table_of schema.now source.table) sources.now) }
 {
     let mut found = List::new(alloc);
     for source in sources {
-        let table = table_of(schema, &source.table)?;
+        let table = table_of(schema, &source.table).map_err(Failure::Fault)?;
         found.push(table)?;
     }
     Ok(found)
@@ -219,11 +219,11 @@ pub fn tables_of(
     alloc: Global,
     schema: &Schema,
     sources: &[Source],
-) -> Result<List<u32>, ReadQueryError>
+) -> Result<List<u32>, Failure<ReadQueryFault>>
     ensures { Gives result (tables_of schema.now sources.now) }
 {
     if sources.is_empty() {
-        return Err(ReadQueryError::Fault(ReadQueryFault::UnknownTable));
+        return Err(Failure::Fault(ReadQueryFault::UnknownTable));
     }
     numbers_of(alloc, schema, sources)
 }
@@ -234,7 +234,7 @@ fn select_of(
     schema: &Schema,
     params: &[Parameter],
     select: &Select,
-) -> Result<ResolvedSelect, ReadQueryError>
+) -> Result<ResolvedSelect, Failure<ReadQueryFault>>
     ensures { Gives result (select_of schema.now params.now select.now) }
 {
     let sources = select.sources.as_slice();
@@ -255,7 +255,7 @@ fn selects_of(
     schema: &Schema,
     params: &[Parameter],
     selects: &[Select],
-) -> Result<List<ResolvedSelect>, ReadQueryError>
+) -> Result<List<ResolvedSelect>, Failure<ReadQueryFault>>
     ensures { Gives result (selects_of schema.now params.now selects.now) }
 {
     let mut found = List::new(alloc);
@@ -273,17 +273,17 @@ pub fn names_of(
     schema: &Schema,
     params: &[Parameter],
     text: &QueryText,
-) -> Result<List<ResolvedSelect>, ReadQueryError>
+) -> Result<List<ResolvedSelect>, Failure<ReadQueryFault>>
     ensures { Gives result (names_of schema.now params.now text.now) }
 {
     let selects = text.selects.as_slice();
     let found = selects_of(alloc, schema, params, selects);
     match found {
         Ok(resolved) => Ok(resolved),
-        Err(ReadQueryError::NoMemory) => Err(ReadQueryError::NoMemory),
-        Err(ReadQueryError::Fault(_)) => {
+        Err(Failure::NoMemory) => Err(Failure::NoMemory),
+        Err(Failure::Fault(_)) => {
             let first = first_of_names(alloc, schema, params, selects)?;
-            Err(ReadQueryError::Fault(first))
+            Err(Failure::Fault(first))
         }
     }
 }

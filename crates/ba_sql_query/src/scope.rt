@@ -4,7 +4,7 @@ ghost use Rattle.std.specs.Prelude.{◌≡◌, IfOk};
 use crate::sources::Sources;
 use crate::tables::Tables;
 use ba_model::Schema;
-use ba_sql_syntax::written::Source;
+use ba_sql_syntax::Source;
 use std::alloc::{AllocError, Global};
 
 /// A schema, a select's sources, and the numbers of their tables. It is made once for a select, so that no name is looked for in each

@@ -6,7 +6,7 @@ ghost use Rattle.ba_sql_query.specs.Spots.{Tells};
 use crate::fault::ReadQueryFault;
 use crate::spot::{Spot, only_at, seen};
 use ba_model::Str;
-use ba_sql_syntax::written::Source;
+use ba_sql_syntax::Source;
 use std::alloc::{AllocError, Global};
 use std::collections::BTreeMap;
 use std::marker::Model;

@@ -6,9 +6,9 @@ use super::cases::{Reading, Told, all_are_so};
 use super::faults::write_text_fault;
 use super::fronts::words_of;
 use super::standard::policy;
-use ba_model::{Atom, List, Op, Operand, Part, Policy, Query, QueryDraft};
+use ba_model::{Atom, Failure, List, Op, Operand, Part, Policy, Query, QueryDraft};
 use ba_sql_print::print_query;
-use ba_sql_query::{ReadQueryError, read_query, read_words};
+use ba_sql_query::{read_query, read_words};
 use ba_sql_syntax::read_written;
 use std::alloc::{AllocError, Global};
 use std::fmt::Write;
@@ -33,8 +33,8 @@ impl Reading for Questions {
         let policy = policy(alloc)?;
         match read_query(alloc, &policy.schema, &policy.params, text) {
             Ok(query) => write_query(alloc, &policy, &query, told),
-            Err(ReadQueryError::NoMemory) => Err(AllocError),
-            Err(ReadQueryError::Fault(fault)) => write_text_fault(alloc, fault, told),
+            Err(Failure::NoMemory) => Err(AllocError),
+            Err(Failure::Fault(fault)) => write_text_fault(alloc, fault, told),
         }
     }
 }
