@@ -14,8 +14,9 @@ use Rattle.ba_model.specs.declared.schema.Kind.TheVariants.{Int as IntKind, Text
 use Rattle.ba_model.specs.declared.schema.Table.{Table}
 use Rattle.ba_model.specs.declared.value.Value.{Value}
 use Rattle.ba_model.specs.declared.value.Value.TheVariants.{Int, Text}
-use Rattle.ba_tables.specs.TableFile.{◌>>=◌, Gives, is_header, number_of, row_at, rows_from, rows_of_file, rows_of_lines, rows_of_rest, value_at, values_from, within_limit}
-use Rattle.ba_tables.specs.declared.fault.TableError.{TableError}
+use Rattle.ba_model.specs.Readings.{◌>>=◌, Gives}
+use Rattle.ba_tables.specs.TableFile.{is_header, number_of, row_at, rows_from, rows_of_file, rows_of_lines, rows_of_rest, value_at, values_from, within_limit}
+use Rattle.ba_model.specs.declared.failure.Failure.{Failure}
 use Rattle.ba_tables.specs.declared.fault.TableFault.{TableFault}
 use Rattle.ba_tables.specs.declared.fault.TableFault.TheVariants.{BadHeader, BadWidth, BadUtf8, BadNumber}
 
@@ -95,6 +96,6 @@ file_fits : (table : Table) (bytes : List ℕ) (rows : List (List Value)) → ro
 unfolding rows_of_file
 file_fits table bytes rows h = lines_fit table.columns (records default_config (strip_bom bytes)) rows h
 
-pub result_fits : (table : Table) (bytes : List ℕ) (result : Result (List (List Value)) TableError) → Gives result (rows_of_file table bytes) → IfOk result (All (RowFits table))
+pub result_fits : (table : Table) (bytes : List ℕ) (result : Result (List (List Value)) (Failure TableFault)) → Gives result (rows_of_file table bytes) → IfOk result (All (RowFits table))
 result_fits table bytes (Ok rows) h = file_fits table bytes rows h
 result_fits table bytes (Err e) h = tt

@@ -8,9 +8,10 @@ use Rattle.std.specs.Str.{is_utf8}
 use Rattle.csv.specs.Records.{field_at}
 use Rattle.ba_model.specs.declared.schema.Column.{Column}
 use Rattle.ba_model.specs.declared.value.Value.{Value}
-use Rattle.ba_tables.specs.TableFile.{◌>>=◌, Fails, row_at, value_at, values_from}
-use Rattle.ba_tables.specs.declared.fault.TableError.{TableError}
-use Rattle.ba_tables.specs.declared.fault.TableError.TheVariants.{NoMemory, Fault}
+use Rattle.ba_model.specs.Readings.{◌>>=◌, Fails}
+use Rattle.ba_tables.specs.TableFile.{row_at, value_at, values_from}
+use Rattle.ba_model.specs.declared.failure.Failure.{Failure}
+use Rattle.ba_model.specs.declared.failure.Failure.TheVariants.{NoMemory, Fault}
 use Rattle.ba_tables.specs.declared.fault.TableFault.{TableFault}
 use Rattle.ba_tables.specs.declared.fault.TableFault.TheVariants.{BadWidth, BadUtf8}
 use Rattle.ba_tables.proofs.FieldLemmas.{drop_element, drop_field}
@@ -33,7 +34,7 @@ next_value : (front : List Value) (row column : ℕ) (c : Column) (cs : List Col
 unfolding values_from
 next_value front row column c cs f fs v h = rw h (regroup front v (values_from row (column + 1) cs fs))
 
-bad_value : (e : TableError) (front : List Value) (row column : ℕ) (c : Column) (cs : List Column) (f : List ℕ) (fs : List (List ℕ)) → Fails e (value_at row column c.kind f)
+bad_value : (e : Failure TableFault) (front : List Value) (row column : ℕ) (c : Column) (cs : List Column) (f : List ℕ) (fs : List (List ℕ)) → Fails e (value_at row column c.kind f)
     → Fails e (with_front front (values_from row column (c ∷ cs) (f ∷ fs)))
 unfolding values_from
 bad_value NoMemory front row column c cs f fs h = tt
@@ -50,7 +51,7 @@ pub next_value_at : (front : List Value) (row i : ℕ) (cs : List Column) (c : C
 next_value_at front row i cs c fs f v total a b h so_far =
     sym (next_value front row i c (drop (i + 1) cs) f (drop (i + 1) fs) v h) ∙ rw (drop_field fs i f b, drop_element cs i c a) at so_far
 
-pub bad_value_at : (e : TableError) (front : List Value) (row i : ℕ) (cs : List Column) (c : Column) (fs : List (List ℕ)) (f : List ℕ) (total : Result (List Value) TableFault)
+pub bad_value_at : (e : Failure TableFault) (front : List Value) (row i : ℕ) (cs : List Column) (c : Column) (fs : List (List ℕ)) (f : List ℕ) (total : Result (List Value) TableFault)
     → slice_get cs i ≡ Some c → field_at fs i ≡ Some f → Fails e (value_at row i c.kind f) → with_front front (values_from row i (drop i cs) (drop i fs)) ≡ total → Fails e total
 bad_value_at e front row i cs c fs f total a b h so_far =
     let started = rw (drop_field fs i f b, drop_element cs i c a) at so_far in

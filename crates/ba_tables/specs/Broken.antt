@@ -1,5 +1,5 @@
 -- The first broken key or link of a schema's tables. Row numbers begin at 1.
-use Rattle.std.specs.Prelude.{◌≡◌, ℕ, ◌+◌, Bool, true, false, not, ◌&&◌, List, [], ◌∷◌, ◌++◌, map, length, Option, Some, None, option_map, slice_get, Result, Ok, Err}
+use Rattle.std.specs.Prelude.{ℕ, ◌+◌, Bool, true, false, not, ◌&&◌, List, [], ◌∷◌, ◌++◌, map, length, Option, Some, None, option_map, slice_get, Result, Ok, Err}
 use Rattle.std.specs.Cmp.Lexicographic.{pointwise}
 use Rattle.std.specs.List.{list_all, list_any, position_from}
 use Rattle.std.specs.Option.{option_eq, option_or}
@@ -13,8 +13,6 @@ use Rattle.ba_model.specs.declared.value.RowSet.{RowSet}
 use Rattle.ba_model.specs.declared.value.Value.{Value}
 use Rattle.ba_model.specs.declared.value.Value.TheVariants.{Null, Int, Text}
 use Rattle.ba_tables.specs.TableSet.{TableSet}
-use Rattle.ba_tables.specs.declared.broken.TablesError.{TablesError}
-use Rattle.ba_tables.specs.declared.broken.TablesError.TheVariants.{NoMemory, Fault}
 use Rattle.ba_tables.specs.declared.broken.TablesFault.{TablesFault}
 use Rattle.ba_tables.specs.declared.broken.TablesFault.TheVariants.{KeyBroken, LinkBroken}
 
@@ -72,9 +70,3 @@ tables_unless schema rows (Some fault) = Err fault
 -- the tables, or their first broken key or link
 abbrev pub checked : Schema → RowSet → Result TableSet TablesFault
 checked schema rows = tables_unless schema rows (broken_table 0 rows schema.tables rows.tables)
-
--- a call gave what checking gives, unless memory ran out
-abbrev pub Gives : Result TableSet TablesError → Result TableSet TablesFault → Type 0
-Gives (Ok tables) given = given ≡ Ok tables
-Gives (Err NoMemory) given = Unit {0}
-Gives (Err (Fault f)) given = given ≡ Err f

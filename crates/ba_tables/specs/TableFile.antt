@@ -1,34 +1,20 @@
 -- What a table's file reads as.
-use Rattle.std.specs.Prelude.{◌≡◌, ℕ, ◌+◌, ◌-◌, ◌^◌, ℤ, pos, neg_ℤ, Bool, not, ◌&&◌, ◌==◌, nat_lt, nat_le, List, [], ◌∷◌, drop, map, length, Option, Some, None, option_map, ok_or, Result, Ok, Err, if◌then◌else◌}
+use Rattle.std.specs.Prelude.{ℕ, ◌+◌, ◌-◌, ◌^◌, ℤ, pos, neg_ℤ, Bool, not, ◌&&◌, ◌==◌, nat_lt, nat_le, List, [], ◌∷◌, drop, map, length, Option, Some, None, option_map, ok_or, Result, Ok, Err, if◌then◌else◌}
 use Rattle.std.specs.Cmp.Lexicographic.{pointwise}
 use Rattle.std.specs.List.{list_all}
 use Rattle.std.specs.Str.{all_ascii_digits, bytes_eq, is_utf8}
 use Rattle.std.specs.Str.Parse.{digits_value, starts_with_minus}
 use Rattle.csv.specs.Reading.{default_config, records, strip_bom}
+use Rattle.ba_model.specs.Readings.{◌>>=◌}
+use Rattle.ba_model.specs.declared.limits.TheConstants.{MAX_ROWS}
 use Rattle.ba_model.specs.declared.schema.Column.{Column}
 use Rattle.ba_model.specs.declared.schema.Kind.{Kind}
 use Rattle.ba_model.specs.declared.schema.Kind.TheVariants.{Int as IntKind, Text as TextKind}
 use Rattle.ba_model.specs.declared.schema.Table.{Table}
 use Rattle.ba_model.specs.declared.value.Value.{Value}
 use Rattle.ba_model.specs.declared.value.Value.TheVariants.{Int, Text}
-use Rattle.ba_tables.specs.declared.fault.TableError.{TableError}
-use Rattle.ba_tables.specs.declared.fault.TableError.TheVariants.{NoMemory, Fault}
 use Rattle.ba_tables.specs.declared.fault.TableFault.{TableFault}
 use Rattle.ba_tables.specs.declared.fault.TableFault.TheVariants.{BadHeader, BadWidth, BadUtf8, BadNumber, TooMany}
-
--- a call gave what reading gives, unless memory ran out
-abbrev pub Fails : {X : Type 0} → TableError → Result X TableFault → Type 0
-Fails NoMemory read = Unit {0}
-Fails (Fault f) read = read ≡ Err f
-
-abbrev pub Gives : {X : Type 0} → Result X TableError → Result X TableFault → Type 0
-Gives (Ok x) read = read ≡ Ok x
-Gives (Err e) read = Fails e read
-
-infixl 10 ◌>>=◌
-abbrev pub ◌>>=◌ : {A B : Type 0} → Result A TableFault → (A → Result B TableFault) → Result B TableFault
-(Ok x) >>= f = f x
-(Err e) >>= f = Err e
 
 -- the number that a text spells which is one digit or more and nothing else, where it is at most `most`
 abbrev pub digits_up_to : ℕ → List ℕ → Option ℕ
@@ -69,12 +55,8 @@ rows_from row columns (line ∷ lines) = do
   rows ← rows_from (row + 1) columns lines
   Ok (values ∷ rows)
 
--- the most rows of a table
-abbrev pub row_limit : ℕ
-row_limit = 100000
-
 abbrev pub within_limit : List (List Value) → Result (List (List Value)) TableFault
-within_limit rows = if nat_le (length rows) row_limit then Ok rows else Err (TooMany row_limit)
+within_limit rows = if nat_le (length rows) MAX_ROWS then Ok rows else Err (TooMany MAX_ROWS)
 
 -- the rows of the records after the header
 abbrev pub rows_of_rest : List Column → List (List (List ℕ)) → Result (List (List Value)) TableFault

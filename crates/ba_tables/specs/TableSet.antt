@@ -3,7 +3,6 @@ use Rattle.std.specs.Prelude.{All}
 use Rattle.std.specs.List.{AllZip}
 use Rattle.ba_model.specs.Conform.{RowFits}
 use Rattle.ba_model.specs.declared.schema.Schema.{Schema}
-use Rattle.ba_model.specs.declared.schema.Table.{Table}
 use Rattle.ba_model.specs.declared.value.RowSet.{RowSet}
 
 -- what callers see of tables

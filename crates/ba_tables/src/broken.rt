@@ -5,20 +5,17 @@ ghost use Rattle.ba_model.specs.Meaning.{rows_of};
 ghost use Rattle.ba_model.specs.declared.value.Value.TheVariants.{Null};
 ghost use Rattle.ba_tables.specs.Broken.{broken_key, broken_link, broken_table, clash_after, dangles, is_null};
 ghost use Rattle.ba_tables.specs.Index.{IsIndex, key_values};
-ghost use Rattle.ba_tables.specs.declared.broken.TablesError.TheVariants.{NoMemory};
 
 use ba_model::{Duplicate, Link, List, Row, RowSet, Table, Value};
-use std::alloc::{AllocError, AllocFailed, Global};
+use std::alloc::{AllocError, Global};
 use std::collections::{BTreeMap, BTreeSet};
-use thiserror::Error;
 
 /// The first broken key or link: tables in the schema's order, and of each its keys before its links. Tables, keys and
 /// links are numbered from 0, rows from 1.
-#[derive(Clone, Copy, Debug, PartialEq, Eq, Error)]
+#[derive(Clone, Copy, Debug, PartialEq, Eq)]
 pub enum TablesFault {
     /// The rows are equal on the key's columns and have no NULL there. No pair has a lesser second row, and none with this
     /// second row a lesser first one.
-    #[error("table {table}: rows {first} and {second} agree on key {key}")]
     KeyBroken {
         table: u32,
         key: u32,
@@ -26,37 +23,11 @@ pub enum TablesFault {
         second: u64,
     },
     /// The row has no NULL in the link's columns, and these are the target columns of no row. No lesser row is such.
-    #[error("table {table}: link {link} of row {row} has no target")]
     LinkBroken {
         table: u32,
         link: u32,
         row: u64,
     },
-}
-
-/// Why rows were not taken: memory ran out, or a key or a link is broken.
-#[derive(Debug, Drop, Error)]
-pub enum TablesError {
-    #[error("out of memory")]
-    NoMemory,
-    #[error("{0}")]
-    Fault(TablesFault),
-}
-
-impl From<AllocError> for TablesError {
-    ghost from_gives = { λ _ e. e ≡ NoMemory };
-
-    fn from(_e: AllocError) -> TablesError {
-        TablesError::NoMemory
-    }
-}
-
-impl<T: Drop> From<AllocFailed<T>> for TablesError {
-    ghost from_gives = { λ _ e. e ≡ NoMemory };
-
-    fn from(_e: AllocFailed<T>) -> TablesError {
-        TablesError::NoMemory
-    }
 }
 
 fn is_null(value: Option<&Value>) -> bool

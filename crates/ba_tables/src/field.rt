@@ -1,9 +1,10 @@
 //! One field of a row.
 ghost use Rattle.std.specs.Prelude.{◌≡◌, IsErrOf};
-ghost use Rattle.ba_tables.specs.TableFile.{Gives, number_of, value_at};
+ghost use Rattle.ba_model.specs.Readings.{Gives};
+ghost use Rattle.ba_tables.specs.TableFile.{number_of, value_at};
 
-use crate::fault::{TableError, TableFault};
-use ba_model::{Kind, Str, Value};
+use crate::fault::TableFault;
+use ba_model::{Failure, Kind, Str, Value};
 use std::alloc::Global;
 
 const PLUS: u8 = b'+';
@@ -26,14 +27,14 @@ pub fn value_at(
     column: u32,
     kind: Kind,
     field: &str,
-) -> Result<Value, TableError>
+) -> Result<Value, Failure<TableFault>>
     ensures reads { Gives result (value_at row column kind field.now) }
-    ensures number { IsErrOf result TableError.NoMemory → kind ≡ Kind.Text }
+    ensures number { IsErrOf result Failure.NoMemory → kind ≡ Kind.Text }
 {
     match kind {
         Kind::Int => match number_of(field) {
             Some(number) => Ok(Value::Int(number)),
-            None => Err(TableError::Fault(TableFault::BadNumber(row, column))),
+            None => Err(Failure::Fault(TableFault::BadNumber(row, column))),
         },
         Kind::Text => Ok(Value::Text(Str::new(alloc, field)?)),
     }

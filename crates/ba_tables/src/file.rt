@@ -1,13 +1,13 @@
 //! A table's file as its rows.
 ghost use Rattle.std.specs.Prelude.{◌≡◌, ◌<◌, All, IfOk, IfSome, length, slice_get};
 ghost use Rattle.ba_model.specs.Conform.{RowFits};
-ghost use Rattle.ba_tables.specs.TableFile.{Gives, rows_of_file, rows_of_rest};
+ghost use Rattle.ba_model.specs.Readings.{Gives};
+ghost use Rattle.ba_tables.specs.TableFile.{rows_of_file, rows_of_rest};
 
-use crate::ROW_LIMIT;
-use crate::fault::{TableError, TableFault};
+use crate::fault::TableFault;
 use crate::line::{is_header, row_at};
 use crate::lines::Lines;
-use ba_model::{Column, List, Row, Schema, Table};
+use ba_model::{Column, Failure, List, MAX_ROWS, Row, Schema, Table};
 use csv::ByteRecord;
 use std::alloc::Global;
 
@@ -19,13 +19,13 @@ use std::alloc::Global;
 /// nothing and then decimal digits, from -2^63 to 2^63 - 1, leading zeros allowed. A nullable column's field is read as any other.
 ///
 /// A row is tested for its width, then for UTF-8, then for its numbers, and the first bad row is the fault; more than
-/// `ROW_LIMIT` rows are a fault where none is bad. `NoMemory` may come at any point. The time is linear in the file's length.
+/// `MAX_ROWS` rows are a fault where none is bad. `NoMemory` may come at any point. The time is linear in the file's length.
 pub fn read_table(
     alloc: Global,
     schema: &Schema,
     table: u32,
     bytes: &[u8],
-) -> Result<List<Row>, TableError>
+) -> Result<List<Row>, Failure<TableFault>>
     requires { table < length schema.now.tables }
     ensures reads { IfSome (slice_get schema.now.tables table) (λ it. Gives result (rows_of_file it bytes.now)) }
     ensures fits { IfSome (slice_get schema.now.tables table) (λ it. IfOk result (All (RowFits it))) }
@@ -34,14 +34,18 @@ pub fn read_table(
 }
 
 /// The rows of a file of this table, as `read_table` gives them.
-pub fn rows_of_file(alloc: Global, table: &Table, bytes: &[u8]) -> Result<List<Row>, TableError>
+pub fn rows_of_file(
+    alloc: Global,
+    table: &Table,
+    bytes: &[u8],
+) -> Result<List<Row>, Failure<TableFault>>
     ensures reads { Gives result (rows_of_file table.now bytes.now) }
     ensures fits { IfOk result (All (RowFits table.now)) }
 {
     let mut lines = Lines::new(alloc, bytes);
     let mut line = ByteRecord::new(alloc);
     if !lines.next(&mut line)? || !is_header(&table.columns, &line) {
-        return Err(TableError::Fault(TableFault::BadHeader));
+        return Err(Failure::Fault(TableFault::BadHeader));
     }
     rows_of(alloc, &table.columns, &mut lines)
 }
@@ -51,7 +55,7 @@ fn rows_of(
     alloc: Global,
     columns: &List<Column>,
     lines: &mut Lines<'_>,
-) -> Result<List<Row>, TableError>
+) -> Result<List<Row>, Failure<TableFault>>
     ensures { Gives result (rows_of_rest columns.now lines.old) }
 {
     let mut rows = List::new(alloc);
@@ -59,17 +63,17 @@ fn rows_of(
     for row in 1..u64::MAX {
         if !lines.next(&mut line)? {
             let count = row - 1;
-            return if count > ROW_LIMIT {
-                Err(TableError::Fault(TableFault::TooMany(ROW_LIMIT)))
+            return if count > MAX_ROWS {
+                Err(Failure::Fault(TableFault::TooMany(MAX_ROWS)))
             } else {
                 Ok(rows)
             };
         }
         let values = row_at(alloc, row, columns, &line)?;
-        let within = row <= ROW_LIMIT;
+        let within = row <= MAX_ROWS;
         if within {
             rows.push(values)?;
         }
     }
-    Err(TableError::NoMemory)
+    Err(Failure::NoMemory)
 }

@@ -1,14 +1,16 @@
 //! The tables of a database: the rows of a table's file, and rows that conform to their schema.
 #![tactic(auto)]
 
-pub mod broken;
-pub mod fault;
+mod broken;
+mod fault;
 mod field;
-pub mod file;
+mod file;
 pub mod laws;
 mod line;
 mod lines;
-pub mod tables;
+mod tables;
 
-/// The most rows of a table.
-pub const ROW_LIMIT: u64 = 100_000;
+pub use broken::{TablesFault, broken_table};
+pub use fault::TableFault;
+pub use file::{read_table, rows_of_file};
+pub use tables::Tables;

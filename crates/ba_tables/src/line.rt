@@ -3,11 +3,12 @@ ghost use Rattle.std.specs.Prelude.{◌≡◌, ◌<◌, IsErrOf, IsTrue, length,
 ghost use Rattle.std.specs.List.{list_all};
 ghost use Rattle.std.specs.Str.{is_utf8};
 ghost use Rattle.csv.specs.Records.{field_at, fields_of};
-ghost use Rattle.ba_tables.specs.TableFile.{Gives, is_header, row_at, values_from};
+ghost use Rattle.ba_model.specs.Readings.{Gives};
+ghost use Rattle.ba_tables.specs.TableFile.{is_header, row_at, values_from};
 
-use crate::fault::{TableError, TableFault};
+use crate::fault::TableFault;
 use crate::field::value_at;
-use ba_model::{Column, List, Row};
+use ba_model::{Column, Failure, List, Row};
 use csv::ByteRecord;
 use std::alloc::Global;
 
@@ -58,16 +59,16 @@ pub fn row_at(
     row: u64,
     columns: &List<Column>,
     line: &ByteRecord,
-) -> Result<Row, TableError>
+) -> Result<Row, Failure<TableFault>>
     ensures reads { Gives result (row_at row columns.now (fields_of line.now)) }
-    ensures width { IsErrOf result TableError.NoMemory → length (fields_of line.now) ≡ length columns.now }
-    ensures text { IsErrOf result TableError.NoMemory → IsTrue (list_all is_utf8 (fields_of line.now)) }
+    ensures width { IsErrOf result Failure.NoMemory → length (fields_of line.now) ≡ length columns.now }
+    ensures text { IsErrOf result Failure.NoMemory → IsTrue (list_all is_utf8 (fields_of line.now)) }
 {
     if line.len() != columns.len() {
-        return Err(TableError::Fault(TableFault::BadWidth(row)));
+        return Err(Failure::Fault(TableFault::BadWidth(row)));
     }
     if !is_text(line) {
-        return Err(TableError::Fault(TableFault::BadUtf8(row)));
+        return Err(Failure::Fault(TableFault::BadUtf8(row)));
     }
     values_of(alloc, row, columns, line)
 }
@@ -77,13 +78,13 @@ fn values_of(
     row: u64,
     columns: &List<Column>,
     line: &ByteRecord,
-) -> Result<Row, TableError>
+) -> Result<Row, Failure<TableFault>>
     requires width { length (fields_of line.now) ≡ length columns.now }
     requires text { IsTrue (list_all is_utf8 (fields_of line.now)) }
     ensures { Gives result (values_from row 0 columns.now (fields_of line.now)) }
 {
     let Ok(width) = u32::try_from(columns.len()) else {
-        return Err(TableError::NoMemory);
+        return Err(Failure::NoMemory);
     };
     let mut values = List::new(alloc);
     for column in 0..width {

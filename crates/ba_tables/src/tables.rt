@@ -1,11 +1,12 @@
 //! The rows of all tables of a schema.
 ghost use Rattle.std.specs.Prelude.{◌≡◌, []};
 ghost use Rattle.ba_model.specs.Conform.{Conforms};
-ghost use Rattle.ba_tables.specs.Broken.{Gives, checked};
+ghost use Rattle.ba_model.specs.Readings.{Gives};
+ghost use Rattle.ba_tables.specs.Broken.{checked};
 ghost use Rattle.ba_tables.specs.TableSet.{RowsFit};
 
-use crate::broken::{TablesError, broken_table};
-use ba_model::{Duplicate, RowSet, Schema, Shared};
+use crate::broken::{TablesFault, broken_table};
+use ba_model::{Duplicate, Failure, RowSet, Schema, Shared};
 use std::alloc::Global;
 use std::marker::Model;
 
@@ -36,13 +37,13 @@ impl Tables {
         alloc: Global,
         schema: &Shared<Schema>,
         rows: RowSet,
-    ) -> Result<Tables, TablesError>
+    ) -> Result<Tables, Failure<TablesFault>>
         requires fit { RowsFit schema.now rows }
         requires rules { schema.now.rules ≡ [] }
         ensures { Gives result (checked schema.now rows) }
     {
         if let Some(fault) = broken_table(alloc, &schema.tables, &rows)? {
-            return Err(TablesError::Fault(fault));
+            return Err(Failure::Fault(fault));
         }
         let schema = schema.copy(alloc)?;
         Ok(Tables { schema, rows })

@@ -5,9 +5,8 @@
 use super::cases::{Reading, Told, all_are_so, bytes_of, write_value};
 use super::faults::write_table_fault;
 use super::standard::schema_of;
-use ba_model::{List, Row};
-use ba_tables::fault::TableError;
-use ba_tables::file::{read_table, rows_of_file};
+use ba_model::{Failure, List, Row};
+use ba_tables::{TableFault, read_table, rows_of_file};
 use std::alloc::{AllocError, Global};
 use std::fmt::Write;
 use std::test::Fail;
@@ -31,11 +30,11 @@ fn write_rows(told: &mut String, rows: &[Row]) -> Told {
     Ok(())
 }
 
-fn write_file(alloc: Global, read: Result<List<Row>, TableError>, told: &mut String) -> Told {
+fn write_file(alloc: Global, read: Result<List<Row>, Failure<TableFault>>, told: &mut String) -> Told {
     match read {
         Ok(rows) => write_rows(told, rows.as_slice()),
-        Err(TableError::NoMemory) => Err(AllocError),
-        Err(TableError::Fault(fault)) => write_table_fault(alloc, fault, told),
+        Err(Failure::NoMemory) => Err(AllocError),
+        Err(Failure::Fault(fault)) => write_table_fault(alloc, fault, told),
     }
 }
 

@@ -3,11 +3,9 @@
 use super::cases::{Reading, Told, all_are_so};
 use super::faults::write_broken;
 use super::standard::schema_of;
-use ba_model::{List, Row, RowSet, Shared, Value};
+use ba_model::{Failure, List, Row, RowSet, Shared, Value};
 use ba_sql_ddl::read_schema;
-use ba_tables::broken::{TablesError, TablesFault, broken_table};
-use ba_tables::file::read_table;
-use ba_tables::tables::Tables;
+use ba_tables::{Tables, TablesFault, broken_table, read_table};
 use std::alloc::{AllocError, Global};
 use std::fmt::Write;
 use std::test::Fail;
@@ -16,18 +14,18 @@ use std::test::Fail;
 const KEYED: &str = "CREATE TABLE Users (A INT PRIMARY KEY, B INT NOT NULL);
 CREATE TABLE Tasks (A INT NOT NULL, UNIQUE (A, B), B INT NOT NULL UNIQUE REFERENCES Users (A));";
 
-fn check(alloc: Global, users: &[u8], tasks: &[u8]) -> Result<Tables, TablesError> {
+fn check(alloc: Global, users: &[u8], tasks: &[u8]) -> Result<Tables, Failure<TablesFault>> {
     let Ok(schema) = read_schema(alloc, KEYED.as_bytes()) else {
-        return Err(TablesError::NoMemory);
+        return Err(Failure::NoMemory);
     };
     if schema.tables.len() != 2 {
-        return Err(TablesError::NoMemory);
+        return Err(Failure::NoMemory);
     }
     let Ok(first) = read_table(alloc, &schema, 0, users) else {
-        return Err(TablesError::NoMemory);
+        return Err(Failure::NoMemory);
     };
     let Ok(second) = read_table(alloc, &schema, 1, tasks) else {
-        return Err(TablesError::NoMemory);
+        return Err(Failure::NoMemory);
     };
     let tables = List::from_vec(vec![in alloc; first, second]?);
     let schema = Shared::new(alloc, schema)?;
@@ -51,8 +49,8 @@ impl Reading for Rows {
         let tasks = format!(in alloc; "A,B\n{tasks}")?;
         match check(alloc, users.as_bytes(), tasks.as_bytes()) {
             Ok(tables) => write_counts(told, &tables),
-            Err(TablesError::NoMemory) => Err(AllocError),
-            Err(TablesError::Fault(fault)) => write_broken(alloc, fault, told),
+            Err(Failure::NoMemory) => Err(AllocError),
+            Err(Failure::Fault(fault)) => write_broken(alloc, fault, told),
         }
     }
 }

@@ -4,13 +4,13 @@ use Rattle.ba_tables.proofs.RowsLemmas.{all_kept, bad_kept, one_dropped, one_kep
 use Rattle.ba_tables.proofs.file.rows_of.Goals as goal
 use Rattle.ba_tables.proofs.file.rows_of.Goals.{then-within+in_ok-push, else-within}
 
-pub returns-then-count-gt-ROW_LIMIT : goal.returns-then-count-gt-ROW_LIMIT
-returns-then-count-gt-ROW_LIMIT c =
-    too_many c.args.columns.now c.args.lines.now c.loop-row.lines c.loop-row.rows c.loop-row.row c.loop-row.invariant (c.in_ok-next.ensures.ended c.if-not-branch.true) c.if-count-gt-ROW_LIMIT.true
+pub returns-then-count-gt-MAX_ROWS : goal.returns-then-count-gt-MAX_ROWS
+returns-then-count-gt-MAX_ROWS c =
+    too_many c.args.columns.now c.args.lines.now c.loop-row.lines c.loop-row.rows c.loop-row.row c.loop-row.invariant (c.in_ok-next.ensures.ended c.if-not-branch.true) c.if-count-gt-MAX_ROWS.true
 
-pub returns-else-count-gt-ROW_LIMIT : goal.returns-else-count-gt-ROW_LIMIT
-returns-else-count-gt-ROW_LIMIT c =
-    all_kept c.args.columns.now c.args.lines.now c.loop-row.lines c.loop-row.rows c.loop-row.row c.loop-row.invariant (c.in_ok-next.ensures.ended c.if-not-branch.true) c.if-count-gt-ROW_LIMIT.false
+pub returns-else-count-gt-MAX_ROWS : goal.returns-else-count-gt-MAX_ROWS
+returns-else-count-gt-MAX_ROWS c =
+    all_kept c.args.columns.now c.args.lines.now c.loop-row.lines c.loop-row.rows c.loop-row.row c.loop-row.invariant (c.in_ok-next.ensures.ended c.if-not-branch.true) c.if-count-gt-MAX_ROWS.false
 
 pub returns-in_err-values : goal.returns-in_err-values
 returns-in_err-values c =

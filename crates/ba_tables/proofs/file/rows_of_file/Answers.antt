@@ -1,8 +1,9 @@
 use Rattle.std.proofs.Common.{◌∙◌, sym}
 use Rattle.csv.specs.Records.{fields_of}
+use Rattle.ba_model.specs.Readings.{Gives}
 use Rattle.ba_tables.proofs.FileFitLemmas.{result_fits}
 use Rattle.ba_tables.proofs.RowsLemmas.{bad_header, good_header, no_header}
-use Rattle.ba_tables.specs.TableFile.{Gives, rows_of_file}
+use Rattle.ba_tables.specs.TableFile.{rows_of_file}
 use Rattle.ba_tables.proofs.file.rows_of_file.Goals as goal
 use Rattle.ba_tables.proofs.file.rows_of_file.Goals.{then-not-branch-via-then-not-branch, then-not-branch-via-else-not-branch+then-not-is_header}
 
