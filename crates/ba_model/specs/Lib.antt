@@ -1,4 +1,5 @@
 pub mod Readings
+pub mod Limits
 pub mod Order
 pub mod OrderLaws
 pub mod Meaning

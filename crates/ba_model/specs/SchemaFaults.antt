@@ -2,9 +2,10 @@
 use Rattle.std.specs.Prelude.{◌≡◌, ℕ, ◌<◌, Bool, true, not, ◌&&◌, ◌==◌, nat_eq, nat_lt, All, List, [], ◌∷◌, Option, Some, None, is_some, if◌then◌else◌, length, map, option_map, slice_get}
 use Rattle.std.specs.Cmp.Lexicographic.{pointwise}
 use Rattle.std.specs.List.{IsDistinct, list_all}
+use Rattle.ba_model.specs.Limits.{limit_of}
 use Rattle.ba_model.specs.QueryFaults.{agree, is_empty}
-use Rattle.ba_model.specs.declared.check_schema.Counted.{Counted}
-use Rattle.ba_model.specs.declared.check_schema.Counted.TheVariants.{Tables, Columns, Keys, Links}
+use Rattle.ba_model.specs.declared.limits.Counted.{Counted}
+use Rattle.ba_model.specs.declared.limits.Counted.TheVariants.{Tables, Columns, Keys, Links}
 use Rattle.ba_model.specs.declared.check_schema.SchemaFault.{SchemaFault}
 use Rattle.ba_model.specs.declared.check_schema.SchemaFault.TheVariants.{DuplicateTable, DuplicateColumn, UnknownTable, UnknownColumn, WidthDiffers, KindDiffers, EmptyKey, TooMany}
 use Rattle.ba_model.specs.declared.limits.TheConstants.{MAX_COLUMNS, MAX_KEYS, MAX_LINKS, MAX_TABLES}
@@ -79,12 +80,6 @@ abbrev pub some_columns : Table → Bool
 some_columns table = list_all (λ key. not (is_empty key)) table.keys && list_all (λ link. not (is_empty link.columns)) table.links
 
 -- ---- TooMany: the first count above its limit: of the tables, then table by table of its columns, keys and links
-
-abbrev pub limit_of : Counted → ℕ
-limit_of Tables = MAX_TABLES
-limit_of Columns = MAX_COLUMNS
-limit_of Keys = MAX_KEYS
-limit_of Links = MAX_LINKS
 
 abbrev pub table_excess : Table → Option Counted
 table_excess table =

@@ -8,7 +8,7 @@ ghost use Rattle.ba_model.specs.SchemaFaults.{AreTables, IsFirstFault};
 
 use crate::check_query::agree;
 use crate::failure::Failure;
-use crate::limits::{MAX_COLUMNS, MAX_KEYS, MAX_LINKS, MAX_TABLES};
+use crate::limits::{Counted, MAX_COLUMNS, MAX_KEYS, MAX_LINKS, MAX_TABLES};
 use crate::list::List;
 use crate::same::Duplicate;
 use crate::schema::{Column, Kind, Link, Schema, Table};
@@ -21,15 +21,6 @@ use std::hash::Hash;
 #[derive(Debug, Drop)]
 pub struct SchemaDraft {
     pub tables: List<Table>,
-}
-
-/// What is counted in a schema.
-#[derive(Clone, Copy, Debug, PartialEq, Eq)]
-pub enum Counted {
-    Tables,
-    Columns,
-    Keys,
-    Links,
 }
 
 /// Why a draft is no schema. Of several faults the first of this order is told.
@@ -325,17 +316,6 @@ fn excess(tables: &[Table]) -> Option<Counted>
     }
 }
 
-fn limit_of(what: Counted) -> u64
-    ensures { result ≡ faults.limit_of what }
-{
-    match what {
-        Counted::Tables => MAX_TABLES as u64,
-        Counted::Columns => MAX_COLUMNS as u64,
-        Counted::Keys => MAX_KEYS as u64,
-        Counted::Links => MAX_LINKS as u64,
-    }
-}
-
 // The first fault of tables whose names, columns and keys are distinct.
 fn later_fault(tables: &[Table]) -> Result<(), SchemaFault>
     requires names { faults.AreDistinct (faults.table_names tables.now) }
@@ -361,7 +341,7 @@ fn later_fault(tables: &[Table]) -> Result<(), SchemaFault>
     match excess(tables) {
         Some(what) => Err(SchemaFault::TooMany {
             what,
-            limit: limit_of(what),
+            limit: what.limit(),
         }),
         None => Ok(()),
     }

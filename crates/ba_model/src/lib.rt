@@ -18,13 +18,13 @@ mod text;
 mod value;
 
 pub use check_query::{QueryDraft, QueryFault, column_kind, operand_kind};
-pub use check_schema::{Counted, SchemaDraft, SchemaFault};
+pub use check_schema::{SchemaDraft, SchemaFault};
 pub use failure::Failure;
 pub use limits::{
-    BUDGET, MAX_ASKS, MAX_ATOMS, MAX_BUDGET, MAX_COLUMNS, MAX_FILE_BYTES, MAX_HEAD, MAX_KEYS,
-    MAX_LINES, MAX_LINKS, MAX_PARAMS, MAX_PART_TABLES, MAX_PARTS, MAX_QUERY_BYTES, MAX_REQUESTS,
-    MAX_ROWS, MAX_RULES, MAX_TABLES, MAX_TEXT_BYTES, MAX_VIEWS, MAX_WORKERS, MIN_BUDGET,
-    MIN_WORKERS, WORKERS,
+    BUDGET, Counted, MAX_ASKS, MAX_ATOMS, MAX_BUDGET, MAX_COLUMNS, MAX_FILE_BYTES, MAX_HEAD,
+    MAX_KEYS, MAX_LINES, MAX_LINKS, MAX_NAME_BYTES, MAX_PARAMS, MAX_PART_TABLES, MAX_PARTS,
+    MAX_QUERY_BYTES, MAX_REQUESTS, MAX_ROWS, MAX_RULES, MAX_TABLES, MAX_TEXT_BYTES, MAX_VIEWS,
+    MAX_WORKERS, MIN_BUDGET, MIN_WORKERS, WORKERS,
 };
 pub use list::List;
 pub use policy::{CacheKey, Context, Parameter, Policy, View};

@@ -1,4 +1,6 @@
 //! The limits of the program. One more than the most is refused.
+ghost use Rattle.std.specs.Prelude.{◌≡◌};
+ghost use Rattle.ba_model.specs.Limits.{limit_of};
 
 /// Tables of a schema.
 pub const MAX_TABLES: usize = 64;
@@ -54,6 +56,9 @@ pub const MAX_REQUESTS: u32 = 8192;
 /// Questions of a request.
 pub const MAX_ASKS: u32 = 256;
 
+/// Bytes of a request's name.
+pub const MAX_NAME_BYTES: usize = 64;
+
 /// The fewest workers.
 pub const MIN_WORKERS: u64 = 1;
 
@@ -71,3 +76,54 @@ pub const MAX_BUDGET: u64 = 100_000;
 
 /// The budget where the words don't say.
 pub const BUDGET: u32 = 2000;
+
+/// What is counted in a file, and refused above its limit.
+#[derive(Clone, Copy, Debug, PartialEq, Eq)]
+pub enum Counted {
+    /// The bytes of a schema's or a policy's text.
+    TextBytes,
+    /// The bytes of a file.
+    FileBytes,
+    /// The tables of a schema.
+    Tables,
+    /// The columns of a table.
+    Columns,
+    /// The keys of a table.
+    Keys,
+    /// The links of a table.
+    Links,
+    /// The views of a policy.
+    Views,
+    /// The parameters of a policy.
+    Params,
+    /// The rows of a table.
+    Rows,
+    /// The lines of a script.
+    Lines,
+    /// The requests of a script.
+    Requests,
+    /// The questions of a request.
+    Asks,
+}
+
+impl Counted {
+    /// The most of it.
+    pub fn limit(self) -> u64
+        ensures { result ≡ limit_of self }
+    {
+        match self {
+            Counted::TextBytes => MAX_TEXT_BYTES as u64,
+            Counted::FileBytes => MAX_FILE_BYTES,
+            Counted::Tables => MAX_TABLES as u64,
+            Counted::Columns => MAX_COLUMNS as u64,
+            Counted::Keys => MAX_KEYS as u64,
+            Counted::Links => MAX_LINKS as u64,
+            Counted::Views => MAX_VIEWS as u64,
+            Counted::Params => MAX_PARAMS as u64,
+            Counted::Rows => MAX_ROWS,
+            Counted::Lines => MAX_LINES as u64,
+            Counted::Requests => MAX_REQUESTS as u64,
+            Counted::Asks => MAX_ASKS as u64,
+        }
+    }
+}

@@ -4,7 +4,7 @@ use Rattle.std.specs.List.{AllByRecursion, IsDistinct, list_all, list_any}
 use Rattle.std.proofs.lemmas.Bool.{and_from, and_parts, false_from_ne_true, not_from_false, not-true, or_from, or_parts}
 use Rattle.std.proofs.lemmas.List.Elements.{All-from_recursion, recursion_from_All}
 use Rattle.ba_model.specs.SchemaFaults.{AreTables, ColumnsDistinct, IsFirstFault, Lacks, OfFault, column_names, columns_there, kinds_agree, rank, some_columns, table_names, targets_there, widths_agree}
-use Rattle.ba_model.specs.declared.check_schema.Counted.{Counted}
+use Rattle.ba_model.specs.declared.limits.Counted.{Counted}
 use Rattle.ba_model.specs.declared.check_schema.SchemaError.{SchemaError}
 use Rattle.ba_model.specs.declared.check_schema.SchemaError.TheVariants as check
 use Rattle.ba_model.specs.declared.check_schema.SchemaFault.{SchemaFault}
@@ -87,7 +87,7 @@ unfolding first_fault
 no_fault tables h =
     rw (table_names_tell tables (h.lacks DuplicateTable))
     (rw (columns_tell tables (h.lacks DuplicateColumn))
-    (rw (h.lacks UnknownTable) (rw (h.lacks UnknownColumn) (rw (h.lacks WidthDiffers) (rw (h.lacks KindDiffers) (rw (h.lacks EmptyKey) (rw (h.lacks (TooMany Rattle.ba_model.specs.declared.check_schema.Counted.TheVariants.Tables 0)) refl)))))))
+    (rw (h.lacks UnknownTable) (rw (h.lacks UnknownColumn) (rw (h.lacks WidthDiffers) (rw (h.lacks KindDiffers) (rw (h.lacks EmptyKey) (rw (h.lacks (TooMany Rattle.ba_model.specs.declared.limits.Counted.TheVariants.Tables 0)) refl)))))))
 
 below : (f g : SchemaFault) (tables : List Table) → IsFirstFault f tables → rank g < rank f → Lacks g tables
 below f g tables h lt = h.first g lt

@@ -2,8 +2,9 @@
 use Rattle.std.proofs.Common.{◌≡◌, ℕ, zero, suc, ◌<◌, Bool, true, false, not, cond, nat_eq, List, Option, Some, None, refl, sym, subst, ◌∙◌, arith}
 use Rattle.std.specs.List.{list_all}
 use Rattle.std.proofs.lemmas.Bool.{eqb-false, eqb-true, false≢true}
-use Rattle.ba_model.specs.SchemaFaults.{AreTables, IsFirstFault, Lacks, columns_there, excess, kinds_agree, limit_of, rank, some_columns, table_names, targets_there, widths_agree}
-use Rattle.ba_model.specs.declared.check_schema.Counted.{Counted}
+use Rattle.ba_model.specs.Limits.{limit_of}
+use Rattle.ba_model.specs.SchemaFaults.{AreTables, IsFirstFault, Lacks, columns_there, excess, kinds_agree, rank, some_columns, table_names, targets_there, widths_agree}
+use Rattle.ba_model.specs.declared.limits.Counted.{Counted}
 use Rattle.ba_model.specs.declared.check_schema.SchemaFault.{SchemaFault}
 use Rattle.ba_model.specs.declared.check_schema.SchemaFault.TheVariants.{DuplicateTable, DuplicateColumn, UnknownTable, UnknownColumn, WidthDiffers, KindDiffers, EmptyKey, TooMany}
 use Rattle.ba_model.specs.declared.schema.Table.{Table}

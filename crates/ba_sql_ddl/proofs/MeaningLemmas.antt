@@ -6,8 +6,8 @@ use Rattle.std.proofs.lemmas.List.{length-map}
 use Rattle.std.proofs.lemmas.List.Elements.{All-from_recursion, recursion_from_All}
 use Rattle.std.proofs.lemmas.Option.{slice_get-map, slice_get_past}
 use Rattle.ba_model.specs.SchemaFaults.{AreTables, ColumnsDistinct, column_names, columns_of, columns_or, columns_there, excess, has_columns, link_columns_there, or_else, table_excess, table_names, tables_excess, targets_there}
-use Rattle.ba_model.specs.declared.check_schema.Counted.{Counted}
-use Rattle.ba_model.specs.declared.check_schema.Counted.TheVariants.{Tables, Columns}
+use Rattle.ba_model.specs.declared.limits.Counted.{Counted}
+use Rattle.ba_model.specs.declared.limits.Counted.TheVariants.{Tables, Columns}
 use Rattle.ba_model.specs.declared.check_schema.SchemaFault.TheVariants.{DuplicateTable, DuplicateColumn, UnknownTable, UnknownColumn, TooMany}
 use Rattle.ba_model.specs.declared.schema.Column.{Column}
 use Rattle.ba_model.specs.declared.schema.Link.{Link}

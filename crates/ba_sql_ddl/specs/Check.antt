@@ -1,8 +1,9 @@
 -- The first fault of a draft, as a function.
 use Rattle.std.specs.Prelude.{◌≡◌, ℕ, Bool, true, false, not, All, ◌&&◌, nat_eq, List, [], ◌∷◌, Option, Some, None, Result, Ok, Err, if◌then◌else◌}
 use Rattle.std.specs.List.{list_all, list_any}
-use Rattle.ba_model.specs.SchemaFaults.{column_names, columns_there, excess, kinds_agree, limit_of, some_columns, table_names, targets_there, widths_agree}
-use Rattle.ba_model.specs.declared.check_schema.Counted.{Counted}
+use Rattle.ba_model.specs.Limits.{limit_of}
+use Rattle.ba_model.specs.SchemaFaults.{column_names, columns_there, excess, kinds_agree, some_columns, table_names, targets_there, widths_agree}
+use Rattle.ba_model.specs.declared.limits.Counted.{Counted}
 use Rattle.ba_model.specs.declared.check_schema.SchemaFault.{SchemaFault}
 use Rattle.ba_model.specs.declared.check_schema.SchemaFault.TheVariants.{DuplicateTable, DuplicateColumn, UnknownTable, UnknownColumn, WidthDiffers, KindDiffers, EmptyKey, TooMany}
 use Rattle.ba_model.specs.declared.schema.Schema.{Schema}

@@ -7,8 +7,8 @@ use Rattle.std.proofs.lemmas.Fmt.{decimal_injective}
 use Rattle.std.proofs.lemmas.Option.{slice_get-get_or, slice_get_within}
 use Rattle.std.specs.Fmt.{decimal}
 use Rattle.ba_model.specs.SchemaFaults.{AreDistinct, AreTables, or_else, table_excess, tables_excess}
-use Rattle.ba_model.specs.declared.check_schema.Counted.{Counted}
-use Rattle.ba_model.specs.declared.check_schema.Counted.TheVariants.{Tables, Columns}
+use Rattle.ba_model.specs.declared.limits.Counted.{Counted}
+use Rattle.ba_model.specs.declared.limits.Counted.TheVariants.{Tables, Columns}
 use Rattle.ba_model.specs.declared.check_schema.SchemaFault.TheVariants.{DuplicateColumn, DuplicateTable, TooMany}
 use Rattle.ba_model.specs.declared.schema.Schema.{Schema}
 use Rattle.ba_model.specs.declared.schema.Table.{Table}
