@@ -1,5 +1,5 @@
 -- What `clap`'s clauses say of the command.
-use Rattle.std.proofs.Common.{◌≡◌, ◌≢◌, ◌∙◌, inl, inr, refl, sym, ap, subst, List, [], ◌∷◌, codes, true, Option, None, Err}
+use Rattle.std.proofs.Common.{◌≡◌, ◌≢◌, ◌∙◌, inl, inr, refl, sym, ap, subst, List, [], ◌∷◌, codes, true, Option, Result, Err}
 use Rattle.clap.specs.Faults.{fault_of, is_simple_and_free}
 use Rattle.clap.specs.Kinds.{Kinds}
 use Rattle.clap.specs.Matches.{first_value, found_of}
@@ -10,10 +10,13 @@ use Rattle.clap.specs.declared.ArgMatches.{ArgMatches}
 use Rattle.clap.specs.declared.Error.{Error}
 use Rattle.clap.specs.declared.error.ErrorKind.TheVariants.{OutOfMemory}
 use Rattle.clap.proofs.WalkLemmas.{first_value-rows}
-use Rattle.ba_command.specs.Words.{Answers, command_from, run_app, run_of, unless_fault}
+use Rattle.ba_command.specs.Words.{command_from, run_app, run_of, unless_fault}
 use Rattle.ba_command.specs.declared.command.Command.{Command}
-use Rattle.ba_command.specs.declared.command.WordsError.{WordsError}
-use Rattle.ba_command.specs.declared.command.WordsError.TheVariants.{NoMemory, Words}
+use Rattle.ba_command.specs.declared.command.WordsFault.{WordsFault}
+use Rattle.ba_command.specs.declared.command.WordsFault.TheVariants.{NoForm}
+use Rattle.ba_model.specs.Readings.{Gives}
+use Rattle.ba_model.specs.declared.failure.Failure.{Failure}
+use Rattle.ba_model.specs.declared.failure.Failure.TheVariants.{NoMemory, Fault}
 
 plain : is_simple run_app ≡ true
 plain = refl
@@ -41,17 +44,17 @@ form_ok app words m is has none =
     same_values (first_value (found_of m)) (λ id. first_of id (matches_of run_app words)) first
     ∙ ap (λ k. unless_fault k (command_from (λ id. first_of id (matches_of run_app words)))) (sym (subst (λ z. fault_of z words ≡ []) is none))
 
-faulty : (kinds : Kinds) (e : Error) → kind_of e ≢ OutOfMemory → HasKind kinds e → (found : Option Command) → unless_fault kinds found ≡ None
+faulty : (kinds : Kinds) (e : Error) → kind_of e ≢ OutOfMemory → HasKind kinds e → (found : Result Command WordsFault) → unless_fault kinds found ≡ Err NoForm
 faulty kinds e other (inl h) found = absurd (other h)
 faulty [] e other (inr h) found = absurd h
 faulty (k ∷ ks) e other (inr h) found = refl
 
-form_err : (app : App) (words : List Text) (e : Error) → app ≡ run_app → HasKind (fault_of app words) e → kind_of e ≢ OutOfMemory → run_of words ≡ None
+form_err : (app : App) (words : List Text) (e : Error) → app ≡ run_app → HasKind (fault_of app words) e → kind_of e ≢ OutOfMemory → run_of words ≡ Err NoForm
 unfolding run_of
 form_err app words e is has other = faulty (fault_of run_app words) e other (subst (λ z. HasKind (fault_of z words) e) is has) _
 
-pub refused : (app : App) (words : List Text) (e : Error) (x : WordsError) → app ≡ run_app → HasKind (fault_of app words) e
-    → (x ≡ Words → kind_of e ≢ OutOfMemory)
-    → Answers (Err x) (run_of words)
+pub refused : (app : App) (words : List Text) (e : Error) (x : Failure WordsFault) → app ≡ run_app → HasKind (fault_of app words) e
+    → (x ≡ Fault NoForm → kind_of e ≢ OutOfMemory)
+    → Gives (Err x) (run_of words)
 refused app words e NoMemory is has other = tt
-refused app words e Words is has other = form_err app words e is has (other refl)
+refused app words e (Fault NoForm) is has other = form_err app words e is has (other refl)

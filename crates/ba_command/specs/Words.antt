@@ -1,5 +1,5 @@
 -- The command that words ask for, over what `clap` says of a simple command.
-use Rattle.std.specs.Prelude.{◌≡◌, ℕ, ◌^◌, ◌&&◌, List, [], ◌∷◌, true, nat_lt, codes, Option, Some, None, Result, Ok, Err, if◌then◌else◌}
+use Rattle.std.specs.Prelude.{ℕ, ◌^◌, ◌&&◌, List, [], ◌∷◌, true, nat_lt, codes, Option, Some, None, Result, Ok, Err, if◌then◌else◌}
 use Rattle.std.specs.Str.{bytes_eq}
 use Rattle.std.specs.Str.Parse.{digits_value, without_leading_plus}
 use Rattle.clap.specs.Faults.{fault_of}
@@ -11,9 +11,9 @@ use Rattle.clap.specs.declared.builder.action.ArgAction.TheVariants.{Set}
 use Rattle.clap.specs.declared.builder.value_parser.ValueParser.TheVariants as parser
 use Rattle.ba_command.specs.declared.command.Command.{Command}
 use Rattle.ba_command.specs.declared.command.Command.TheVariants.{Run}
-use Rattle.ba_command.specs.declared.command.WordsError.{WordsError}
-use Rattle.ba_command.specs.declared.command.WordsError.TheVariants as errors
-use Rattle.ba_command.specs.declared.run.TheConstants.{BUDGET, MAX_BUDGET, MAX_WORKERS, MIN_BUDGET, MIN_WORKERS, WORKERS}
+use Rattle.ba_command.specs.declared.command.WordsFault.{WordsFault}
+use Rattle.ba_command.specs.declared.command.WordsFault.TheVariants.{NoForm}
+use Rattle.ba_model.specs.declared.limits.TheConstants.{BUDGET, MAX_BUDGET, MAX_WORKERS, MIN_BUDGET, MIN_WORKERS, WORKERS}
 
 -- an option with one value: `--id VALUE` or `--id=VALUE`
 abbrev pub option_rule : Text → Rule
@@ -48,34 +48,28 @@ number_or other (Some text) =
     let n = digits_value 10 (without_leading_plus text) in
     if is_numeral (without_leading_plus text) && nat_lt n (2 ^ 32) then n else other
 
-abbrev pub with_texts : Option Text → Option Text → Option Text → Option Text → ℕ → ℕ → Option Command
-with_texts (Some schema) (Some policy) (Some tables) (Some script) workers budget = Some (Run schema policy tables script workers budget)
-with_texts None policy tables script workers budget = None
-with_texts (Some schema) None tables script workers budget = None
-with_texts (Some schema) (Some policy) None script workers budget = None
-with_texts (Some schema) (Some policy) (Some tables) None workers budget = None
+abbrev pub with_texts : Option Text → Option Text → Option Text → Option Text → ℕ → ℕ → Result Command WordsFault
+with_texts (Some schema) (Some policy) (Some tables) (Some script) workers budget = Ok (Run schema policy tables script workers budget)
+with_texts None policy tables script workers budget = Err NoForm
+with_texts (Some schema) None tables script workers budget = Err NoForm
+with_texts (Some schema) (Some policy) None script workers budget = Err NoForm
+with_texts (Some schema) (Some policy) (Some tables) None workers budget = Err NoForm
 
 -- the command that the values of the options are
-abbrev pub command_from : (Text → Option Text) → Option Command
+abbrev pub command_from : (Text → Option Text) → Result Command WordsFault
 command_from given = with_texts (given (codes "schema")) (given (codes "policy")) (given (codes "tables")) (given (codes "script"))
     (number_or WORKERS (given (codes "workers"))) (number_or BUDGET (given (codes "budget")))
 
 -- where `clap` finds no fault
-abbrev pub unless_fault : Kinds → Option Command → Option Command
+abbrev pub unless_fault : Kinds → Result Command WordsFault → Result Command WordsFault
 unless_fault [] found = found
-unless_fault (kind ∷ kinds) found = None
+unless_fault (kind ∷ kinds) found = Err NoForm
 
 -- what the words behind `run` ask for
-unfoldable pub run_of : List Text → Option Command
+unfoldable pub run_of : List Text → Result Command WordsFault
 run_of words = unless_fault (fault_of run_app words) (command_from (λ id. first_of id (matches_of run_app words)))
 
--- the command that the words ask for, if they are a command's form
-abbrev pub command_of : List Text → Option Command
-command_of [] = None
-command_of (name ∷ words) = if bytes_eq name (codes "run") then run_of words else None
-
--- the command, or bad words exactly where there is none, or want of memory
-abbrev pub Answers : Result Command WordsError → Option Command → Type 0
-Answers (Ok command) found = found ≡ Some command
-Answers (Err errors.NoMemory) found = Unit {0}
-Answers (Err errors.Words) found = found ≡ None
+-- the command that the words ask for, or that they are no command's form
+abbrev pub command_of : List Text → Result Command WordsFault
+command_of [] = Err NoForm
+command_of (name ∷ words) = if bytes_eq name (codes "run") then run_of words else Err NoForm

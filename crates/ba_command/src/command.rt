@@ -1,10 +1,6 @@
 //! What the words of a command line ask for.
-ghost use Rattle.std.specs.Prelude.{◌≡◌};
-ghost use Rattle.ba_command.specs.declared.command.WordsError.TheVariants.{NoMemory};
 
 use ba_model::Str;
-use std::alloc::AllocError;
-use thiserror::Error;
 
 /// A command with its options.
 #[derive(Debug, Drop)]
@@ -26,19 +22,9 @@ pub enum Command {
     },
 }
 
-/// Want of memory, or words that are no command's form.
-#[derive(Clone, Copy, Debug, Error, PartialEq, Eq)]
-pub enum WordsError {
-    #[error("out of memory")]
-    NoMemory,
-    #[error("no command's form")]
-    Words,
-}
-
-impl From<AllocError> for WordsError {
-    ghost from_gives = { λ _ e. e ≡ NoMemory };
-
-    fn from(_e: AllocError) -> WordsError {
-        WordsError::NoMemory
-    }
+/// Why words are refused.
+#[derive(Clone, Copy, Debug, PartialEq, Eq)]
+pub enum WordsFault {
+    /// They are no command's form.
+    NoForm,
 }

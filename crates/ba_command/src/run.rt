@@ -1,32 +1,15 @@
 //! The options of the command `run`, read by `clap`.
 ghost use Rattle.std.specs.Prelude.{◌≡◌, ◌≢◌, false, map, string_bytes, IfOk};
 ghost use Rattle.clap.specs.Words.{app_of, first_value, found_of, kind_of, rule_of};
-ghost use Rattle.ba_command.specs.Words.{Answers, bare, command_from, needed, number_or, number_rule, option_rule, run_app, run_of};
+ghost use Rattle.ba_model.specs.Readings.{Gives};
+ghost use Rattle.ba_command.specs.Words.{bare, command_from, needed, number_or, number_rule, option_rule, run_app, run_of};
 
-use crate::command::{Command, WordsError};
-use ba_model::Str;
+use crate::command::{Command, WordsFault};
+use ba_model::{BUDGET, Failure, MAX_BUDGET, MAX_WORKERS, MIN_BUDGET, MIN_WORKERS, Str, WORKERS};
 use clap::builder::ValueParser;
 use clap::error::ErrorKind;
 use clap::{Arg, ArgAction, ArgMatches, Command as Form, Error};
 use std::alloc::{AllocError, Global};
-
-/// The fewest workers.
-pub const MIN_WORKERS: u64 = 1;
-
-/// The most workers so far.
-pub const MAX_WORKERS: u64 = 1;
-
-/// The workers where the words don't say.
-pub const WORKERS: u32 = 1;
-
-/// The least budget.
-pub const MIN_BUDGET: u64 = 16;
-
-/// The greatest budget.
-pub const MAX_BUDGET: u64 = 100_000;
-
-/// The budget where the words don't say.
-pub const BUDGET: u32 = 2000;
 
 // An option with one value.
 fn option<'a>(alloc: Global, id: &'a str) -> Arg<'a>
@@ -97,8 +80,8 @@ fn text_of(alloc: Global, matches: &ArgMatches<'_>, id: &str) -> Result<Option<S
     }
 }
 
-fn command_of(alloc: Global, matches: &ArgMatches<'_>) -> Result<Command, WordsError>
-    ensures { Answers result (command_from (first_value (found_of matches.now))) }
+fn command_of(alloc: Global, matches: &ArgMatches<'_>) -> Result<Command, Failure<WordsFault>>
+    ensures { Gives result (command_from (first_value (found_of matches.now))) }
 {
     let schema = text_of(alloc, matches, "schema")?;
     let policy = text_of(alloc, matches, "policy")?;
@@ -115,24 +98,24 @@ fn command_of(alloc: Global, matches: &ArgMatches<'_>) -> Result<Command, WordsE
             workers,
             budget,
         }),
-        _ => Err(WordsError::Words),
+        _ => Err(Failure::Fault(WordsFault::NoForm)),
     }
 }
 
 // Want of memory, or bad words.
-fn refusal(e: &Error) -> WordsError
-    ensures { result ≡ WordsError.Words → kind_of e.now ≢ ErrorKind.OutOfMemory }
+fn refusal(e: &Error) -> Failure<WordsFault>
+    ensures { result ≡ Failure.Fault WordsFault.NoForm → kind_of e.now ≢ ErrorKind.OutOfMemory }
 {
     if e.kind() == ErrorKind::OutOfMemory {
-        WordsError::NoMemory
+        Failure::NoMemory
     } else {
-        WordsError::Words
+        Failure::Fault(WordsFault::NoForm)
     }
 }
 
 /// What the words behind `run` ask for.
-pub(crate) fn read_run(alloc: Global, words: &[String]) -> Result<Command, WordsError>
-    ensures { Answers result (run_of (map string_bytes words.now)) }
+pub(crate) fn read_run(alloc: Global, words: &[String]) -> Result<Command, Failure<WordsFault>>
+    ensures { Gives result (run_of (map string_bytes words.now)) }
 {
     let form = run_form(alloc)?;
     match form.try_get_matches_from(words) {

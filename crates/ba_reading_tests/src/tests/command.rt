@@ -1,7 +1,8 @@
 //! Words of a command line.
 
 use super::cases::{Reading, Told, all_are_so};
-use ba_command::{Command, WordsError, read_words};
+use ba_command::{Command, WordsFault, read_words};
+use ba_model::Failure;
 use std::alloc::{AllocError, Global};
 use std::fmt::Write;
 use std::test::Fail;
@@ -43,8 +44,8 @@ impl Reading for Words {
         add_words(alloc, text, &mut words)?;
         match read_words(alloc, words.as_slice()) {
             Ok(command) => write_command(told, &command),
-            Err(WordsError::NoMemory) => Err(AllocError),
-            Err(WordsError::Words) => told.push_str("words"),
+            Err(Failure::NoMemory) => Err(AllocError),
+            Err(Failure::Fault(WordsFault::NoForm)) => told.push_str("words"),
         }
     }
 }

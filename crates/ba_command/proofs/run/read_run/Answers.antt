@@ -1,7 +1,7 @@
 use Rattle.std.proofs.Common.{◌∙◌, map, string_bytes, ap, subst}
 use Rattle.clap.specs.Words.{app_of}
 use Rattle.clap.specs.Faults.{is_simple_and_free}
-use Rattle.ba_command.specs.Words.{Answers}
+use Rattle.ba_model.specs.Readings.{Gives}
 use Rattle.ba_command.proofs.FormLemmas.{form_ok, free, refused}
 use Rattle.ba_command.proofs.run.read_run.Goals as goal
 
@@ -9,7 +9,7 @@ pub returns-in-Ok : goal.returns-in-Ok
 returns-in-Ok c =
     let is = c.in_ok-form.ensures in
     let none = c.in-Ok.ensures.kinds (ap is_simple_and_free is ∙ free) in
-    subst (Answers c.command_of.result)
+    subst (Gives c.command_of.result)
     (form_ok (app_of c.in_ok-form.form) (map string_bytes c.args.words.now) c.in-Ok.matches is c.in-Ok.ensures.matches none) c.command_of.ensures
 
 pub returns-in-Err : goal.returns-in-Err
