@@ -1,10 +1,1 @@
-pub mod ContextLemmas
-pub mod FitLemmas
-pub mod FormLemmas
-pub mod LineLemmas
-pub mod MeaningLemmas
-pub mod OpenLemmas
 pub mod PrintedLemmas
-pub mod SaysLemmas
-pub mod ScriptLemmas
-pub mod TrackingLemmas

@@ -1,9 +1,3 @@
-pub mod Contexts
-pub mod Lines
 pub mod Names
 pub mod Object
 pub mod Printed
-pub mod Reading
-pub mod Script
-pub mod Scripts
-pub mod Tracking

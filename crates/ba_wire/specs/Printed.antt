@@ -6,8 +6,12 @@ use Rattle.serde_json.specs.Find.{of_integer}
 use Rattle.serde_json.specs.Read.{read}
 use Rattle.serde_json.specs.View.{items_of}
 use Rattle.serde_json.specs.Written.{compact_text}
+use Rattle.ba_model.specs.declared.limits.Counted.{Counted}
+use Rattle.ba_model.specs.declared.limits.Counted.TheVariants as what
 use Rattle.ba_model.specs.declared.value.Value.{Value}
 use Rattle.ba_model.specs.declared.value.Value.TheVariants as value
+use Rattle.ba_script.specs.declared.fault.LineFault.{LineFault}
+use Rattle.ba_script.specs.declared.fault.LineFault.TheVariants as line_fault
 use Rattle.ba_sql_query.specs.declared.fault.ReadQueryFault.{ReadQueryFault}
 use Rattle.ba_sql_query.specs.declared.fault.ReadQueryFault.TheVariants as query
 use Rattle.ba_wire.specs.Names.{◌␣◌, fault_name, fault_words}
@@ -18,12 +22,8 @@ use Rattle.ba_wire.specs.declared.line.Block.TheVariants as blocked
 use Rattle.ba_wire.specs.declared.line.Line.{Line}
 use Rattle.ba_wire.specs.declared.line.Line.TheVariants as lines
 use Rattle.ba_wire.specs.declared.summary.Summary.{Summary}
-use Rattle.ba_wire.specs.declared.fault.LineFault.{LineFault}
-use Rattle.ba_wire.specs.declared.fault.LineFault.TheVariants as line_fault
 use Rattle.ba_wire.specs.declared.fault.Reason.{Reason}
 use Rattle.ba_wire.specs.declared.fault.Reason.TheVariants as reason
-use Rattle.ba_wire.specs.declared.fault.What.{What}
-use Rattle.ba_wire.specs.declared.fault.What.TheVariants as what
 use Rattle.ba_wire.specs.declared.fault.Fault.{Fault}
 use Rattle.ba_wire.specs.declared.fault.Fault.TheVariants as fault
 
@@ -93,8 +93,9 @@ reason_text (reason.Key key first second) = codes "key" ␣ decimal key ␣ code
 reason_text (reason.Link link row) = codes "link" ␣ decimal link ␣ codes "row" ␣ decimal row
 reason_text (reason.Line line why) = codes "line" ␣ decimal line ␣ line_name why
 
-abbrev pub what_name : What → List ℕ
-what_name what.Bytes = codes "bytes"
+abbrev pub what_name : Counted → List ℕ
+what_name what.TextBytes = codes "bytes"
+what_name what.FileBytes = codes "bytes"
 what_name what.Tables = codes "tables"
 what_name what.Columns = codes "columns"
 what_name what.Keys = codes "keys"

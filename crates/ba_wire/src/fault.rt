@@ -9,24 +9,10 @@ ghost use Rattle.ba_wire.specs.Printed.{ReadsBack, line_name, reason_text, what_
 
 use crate::names::fault_words;
 use crate::object::Object;
-use ba_model::Str;
+use ba_model::{Counted, Str};
+use ba_script::LineFault;
 use ba_sql_query::ReadQueryFault;
 use std::alloc::{AllocError, Global};
-
-/// Why a line of a script is none, after the lines before it. Of several reasons the first of this order is told.
-#[derive(Clone, Copy, Debug, PartialEq, Eq)]
-pub enum LineFault {
-    /// It isn't UTF-8, or no JSON value.
-    Json,
-    /// The JSON value isn't an object with exactly the keys of one form, each with its type and length.
-    Shape,
-    /// It begins a request whose name is open.
-    Begun,
-    /// It asks or ends a request whose name isn't open.
-    Unbegun,
-    /// Its context lacks a parameter, has another name, or a value of another kind.
-    Context,
-}
 
 /// Why a file has no reading.
 #[derive(Debug, Drop)]
@@ -65,33 +51,6 @@ pub enum Reason {
     Line { line: u64, reason: LineFault },
 }
 
-/// A counted quantity that has a limit.
-#[derive(Clone, Copy, Debug, PartialEq, Eq)]
-pub enum What {
-    /// The bytes of a file.
-    Bytes,
-    /// The tables of a schema.
-    Tables,
-    /// The columns of a table.
-    Columns,
-    /// The keys of a table.
-    Keys,
-    /// The links of a table.
-    Links,
-    /// The views of a policy.
-    Views,
-    /// The parameters of a policy.
-    Params,
-    /// The rows of a table.
-    Rows,
-    /// The lines of a script.
-    Lines,
-    /// The requests of a script.
-    Requests,
-    /// The questions of a request.
-    Asks,
-}
-
 /// What ended a run before its first line.
 #[derive(Debug, Drop)]
 pub enum Fault {
@@ -102,20 +61,38 @@ pub enum Fault {
     /// The file could not be read. Exit status 4.
     Read { file: Str },
     /// More than the limit. Exit status 7.
-    Limit { what: What, limit: u64 },
+    Limit { what: Counted, limit: u64 },
 }
 
-impl LineFault {
-    fn name(self) -> &'static str
-        ensures { result.now ≡ line_name self }
-    {
-        match self {
-            LineFault::Json => "json",
-            LineFault::Shape => "shape",
-            LineFault::Begun => "begun",
-            LineFault::Unbegun => "unbegun",
-            LineFault::Context => "context",
-        }
+// Why a line of a script is none.
+fn line_name(reason: LineFault) -> &'static str
+    ensures { result.now ≡ line_name reason }
+{
+    match reason {
+        LineFault::Json => "json",
+        LineFault::Shape => "shape",
+        LineFault::Begun => "begun",
+        LineFault::Unbegun => "unbegun",
+        LineFault::Context => "context",
+    }
+}
+
+// What is above its limit.
+fn what_name(what: Counted) -> &'static str
+    ensures { result.now ≡ what_name what }
+{
+    match what {
+        Counted::TextBytes | Counted::FileBytes => "bytes",
+        Counted::Tables => "tables",
+        Counted::Columns => "columns",
+        Counted::Keys => "keys",
+        Counted::Links => "links",
+        Counted::Views => "views",
+        Counted::Params => "params",
+        Counted::Rows => "rows",
+        Counted::Lines => "lines",
+        Counted::Requests => "requests",
+        Counted::Asks => "asks",
     }
 }
 
@@ -157,28 +134,8 @@ fn view_text(alloc: Global, name: &Str, fault: &ReadQueryFault) -> Result<String
 fn line_text(alloc: Global, line: u64, reason: LineFault) -> Result<String, AllocError>
     ensures { IfOk result (λ text. string_bytes text ≡ codes "line" ␣ decimal line ␣ line_name reason) }
 {
-    let name = reason.name();
+    let name = line_name(reason);
     format!(in alloc; "line {line} {name}")
-}
-
-impl What {
-    fn name(self) -> &'static str
-        ensures { result.now ≡ what_name self }
-    {
-        match self {
-            What::Bytes => "bytes",
-            What::Tables => "tables",
-            What::Columns => "columns",
-            What::Keys => "keys",
-            What::Links => "links",
-            What::Views => "views",
-            What::Params => "params",
-            What::Rows => "rows",
-            What::Lines => "lines",
-            What::Requests => "requests",
-            What::Asks => "asks",
-        }
-    }
 }
 
 fn fault_object(alloc: Global, fault: &Fault) -> Result<Object, AllocError>
@@ -221,14 +178,14 @@ fn read_object(alloc: Global, file: &Str) -> Result<Object, AllocError>
         .with_count("status", 4)
 }
 
-fn limit_object(alloc: Global, what: What, limit: u64) -> Result<Object, AllocError>
+fn limit_object(alloc: Global, what: Counted, limit: u64) -> Result<Object, AllocError>
     ensures { IfOk result (λ it. made it ≡ fault_json (Fault.Limit what limit)) }
 {
     Object::new(alloc)
         .with_text("fault", "limit")?
         .with_count("limit", limit)?
         .with_count("status", 7)?
-        .with_text("what", what.name())
+        .with_text("what", what_name(what))
 }
 
 /// The text of the fault with its line feed.

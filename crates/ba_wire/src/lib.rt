@@ -1,15 +1,12 @@
-//! The lines that the program prints, and those of the scripts that it reads.
+//! The lines that the program prints.
 #![tactic(auto)]
 
-mod context;
-pub mod entry;
-pub mod fault;
-pub mod laws;
-pub mod line;
-pub mod lines;
+mod fault;
+mod line;
 mod names;
 mod object;
-pub mod read;
-mod requests;
-pub mod script;
-pub mod summary;
+mod summary;
+
+pub use fault::{Fault, Reason, fault_text};
+pub use line::{Block, By, Line, line_text};
+pub use summary::{Summary, summary_text};

@@ -1,0 +1,9 @@
+pub mod ContextLemmas
+pub mod FitLemmas
+pub mod FormLemmas
+pub mod LineLemmas
+pub mod MeaningLemmas
+pub mod OpenLemmas
+pub mod SaysLemmas
+pub mod ScriptLemmas
+pub mod TrackingLemmas

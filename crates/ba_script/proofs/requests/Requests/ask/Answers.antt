@@ -1,0 +1,18 @@
+use Rattle.std.proofs.Common.{◌≡◌, ◌∙◌, Some, refl, sym, ap, subst}
+use Rattle.std.specs.Option.{IsSome, option_copied_mut}
+use Rattle.ba_script.specs.Reading.{asked}
+use Rattle.ba_script.specs.Tracking.{opened}
+use Rattle.ba_script.proofs.TrackingLemmas.{asked_once}
+use Rattle.ba_script.proofs.requests.Requests.ask.Goals as goal
+
+pub returns-clause-moves : goal.returns-clause-moves
+returns-clause-moves c =
+    let name = c.args.name in
+    let old = c.args.self.now in
+    let before = c.in-Some.opened.now in
+    let is : opened old name ≡ Some before = sym c.get_mut.ensures.value ∙ ap option_copied_mut c.in-Some.is in
+    let written = c.get_mut.follows.holds (asked before) in
+    record {
+      names = λ q. asked_once (opened old) name q before _ is ((written.3 (subst IsSome (sym is) refl)).0 q);
+      count = refl;
+    }

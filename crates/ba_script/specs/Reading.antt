@@ -1,0 +1,103 @@
+-- What a script is, line by line, each after the entries of the lines before it.
+use Rattle.std.specs.Prelude.{ℕ, ◌+◌, List, [], ◌∷◌, ◌++◌, length, nat_lt, Bool, true, false, count_by, Option, Some, None, option_map, Result, Ok, Err, if◌then◌else◌}
+use Rattle.std.specs.Str.{bytes_eq}
+use Rattle.ba_model.specs.Readings.{◌>>=◌, widened}
+use Rattle.ba_model.specs.declared.policy.Context.{Context}
+use Rattle.ba_model.specs.declared.policy.Parameter.{Parameter}
+use Rattle.ba_model.specs.declared.limits.TheConstants.{MAX_ASKS, MAX_LINES, MAX_REQUESTS}
+use Rattle.ba_model.specs.declared.limits.Counted.TheVariants as what
+use Rattle.ba_script.specs.Contexts.{context_of}
+use Rattle.ba_script.specs.Lines.{script_lines}
+use Rattle.ba_script.specs.Script.{script_line_of}
+use Rattle.ba_script.specs.declared.entry.Script.{Script}
+use Rattle.ba_script.specs.declared.entry.ScriptEntry.{ScriptEntry}
+use Rattle.ba_script.specs.declared.entry.ScriptEntry.TheVariants as entry
+use Rattle.ba_script.specs.declared.fault.ScriptFault.{ScriptFault}
+use Rattle.ba_script.specs.declared.fault.ScriptFault.TheVariants.{BadLine, TooMany}
+use Rattle.ba_script.specs.declared.fault.LineFault.TheVariants as why
+use Rattle.ba_script.specs.declared.requests.Opened.{Opened}
+use Rattle.ba_script.specs.declared.line.Member.{Member}
+use Rattle.ba_script.specs.declared.line.ScriptLine.{ScriptLine}
+use Rattle.ba_script.specs.declared.line.ScriptLine.TheVariants as line
+
+-- ---- The requests that entries leave open
+
+abbrev pub asked : Opened → Opened
+asked held = record { request = held.request; asks = held.asks + 1 }
+
+-- the request that is open under the name after one more entry, by the one before it
+abbrev pub open_by : List ℕ → Option Opened → ScriptEntry → Option Opened
+open_by name held (entry.Begin request it context) = if bytes_eq it name then Some (record { request = request; asks = 0 }) else held
+open_by name held (entry.Ask request it query) = if bytes_eq it name then option_map asked held else held
+open_by name held (entry.End request it) = if bytes_eq it name then None else held
+
+abbrev pub open_from : List ℕ → Option Opened → List ScriptEntry → Option Opened
+open_from name held [] = held
+open_from name held (e ∷ es) = open_from name (open_by name held e) es
+
+-- the request that is open under the name after these entries, if there is one, and how many questions it asked
+abbrev pub open_after : List ScriptEntry → List ℕ → Option Opened
+open_after before name = open_from name None before
+
+unfoldable pub is_begin : ScriptEntry → Bool
+is_begin (entry.Begin request name context) = true
+is_begin (entry.Ask request name query) = false
+is_begin (entry.End request name) = false
+
+abbrev pub begun_by : ℕ → ScriptEntry → ℕ
+begun_by n (entry.Begin request name context) = n + 1
+begun_by n (entry.Ask request name query) = n
+begun_by n (entry.End request name) = n
+
+-- how many requests these entries begin
+abbrev pub begun : List ScriptEntry → ℕ
+begun before = count_by is_begin before
+
+-- ---- One line
+
+abbrev pub context_at : ℕ → Option Context → Result Context ScriptFault
+context_at n None = Err (BadLine n why.Context)
+context_at n (Some context) = Ok context
+
+-- a request begins if its number is below the limit
+abbrev pub numbered : List ℕ → ℕ → Context → Result ScriptEntry ScriptFault
+numbered name number context = if nat_lt number MAX_REQUESTS then Ok (entry.Begin number name context) else Err (TooMany what.Requests MAX_REQUESTS)
+
+unfoldable pub begin_of : List Parameter → ℕ → List ℕ → List Member → Option Opened → ℕ → Result ScriptEntry ScriptFault
+begin_of params n name members (Some held) number = Err (BadLine n why.Begun)
+begin_of params n name members None number = context_at n (context_of params members) >>= numbered name number
+
+unfoldable pub ask_of : ℕ → List ℕ → List ℕ → Option Opened → Result ScriptEntry ScriptFault
+ask_of n name query None = Err (BadLine n why.Unbegun)
+ask_of n name query (Some held) = if nat_lt held.asks MAX_ASKS then Ok (entry.Ask held.request name query) else Err (TooMany what.Asks MAX_ASKS)
+
+unfoldable pub end_of : ℕ → List ℕ → Option Opened → Result ScriptEntry ScriptFault
+end_of n name None = Err (BadLine n why.Unbegun)
+end_of n name (Some held) = Ok (entry.End held.request name)
+
+-- the entry of line n, after these entries
+abbrev pub entry_of : List Parameter → List ScriptEntry → ℕ → ScriptLine → Result ScriptEntry ScriptFault
+entry_of params before n (line.Begin name members) = begin_of params n name members (open_after before name) (begun before)
+entry_of params before n (line.Ask name query) = ask_of n name query (open_after before name)
+entry_of params before n (line.End name) = end_of n name (open_after before name)
+
+-- the entry that the bytes of the next line are, after these entries; lines are numbered from 1
+unfoldable pub entry_at : List Parameter → List ScriptEntry → List ℕ → Result ScriptEntry ScriptFault
+entry_at params before bytes = widened (BadLine (length before + 1)) (script_line_of bytes) >>= entry_of params before (length before + 1)
+
+-- ---- All lines
+
+-- these entries, and behind them those of the lines
+abbrev pub entries_from : List Parameter → List ScriptEntry → List (List ℕ) → Result (List ScriptEntry) ScriptFault
+entries_from params before [] = Ok before
+entries_from params before (bytes ∷ lines) = entry_at params before bytes >>= λ it. entries_from params (before ++ it ∷ []) lines
+
+abbrev pub script_with : List ScriptEntry → Script
+script_with entries = record { entries = entries }
+
+abbrev pub script_from : List Parameter → List (List ℕ) → Result Script ScriptFault
+script_from params lines = entries_from params [] lines >>= λ entries. Ok (script_with entries)
+
+-- the script that the bytes are, for a policy with these parameters
+unfoldable pub script_of : List Parameter → List ℕ → Result Script ScriptFault
+script_of params bytes = if nat_lt MAX_LINES (length (script_lines bytes)) then Err (TooMany what.Lines MAX_LINES) else script_from params (script_lines bytes)

@@ -1,0 +1,32 @@
+//! What a script says.
+
+use ba_model::{Context, List, Str};
+
+/// What a line of a script says. Requests are numbered by their begin lines, from 0; at the line of an entry its request is open
+/// under the name, or begins.
+#[derive(Debug, Drop)]
+pub enum ScriptEntry {
+    /// The request begins, with a value of its kind for each parameter of the policy.
+    Begin {
+        request: u32,
+        name: Str,
+        context: Context,
+    },
+    /// The request asks.
+    Ask {
+        request: u32,
+        name: Str,
+        query: Str,
+    },
+    /// The request ends, and its name with it, which may begin another one.
+    End {
+        request: u32,
+        name: Str,
+    },
+}
+
+/// An entry for each line, in order. Requests that no entry ends end with the script.
+#[derive(Debug, Drop)]
+pub struct Script {
+    pub entries: List<ScriptEntry>,
+}

@@ -1,0 +1,17 @@
+//! Scripts: the lines of a file that begin requests, ask and end them.
+#![tactic(auto)]
+
+mod context;
+mod entry;
+mod fault;
+pub mod laws;
+mod line;
+mod lines;
+mod read;
+mod requests;
+
+pub use entry::{Script, ScriptEntry};
+pub use fault::{LineFault, ScriptFault};
+pub use line::{Given, Member, ScriptLine, read_line};
+pub use lines::{Lines, count_lines, script_lines};
+pub use read::read_script;

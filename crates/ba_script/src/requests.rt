@@ -1,0 +1,146 @@
+//! The requests that are open between the lines of a script.
+ghost use Rattle.std.specs.Prelude.{◌≡◌, [], IfOk};
+ghost use Rattle.std.specs.BTreeMap.{get};
+ghost use Rattle.std.specs.Cmp.Lexicographic.{slice_cmp};
+ghost use Rattle.std.specs.Ordering.{nat_cmp};
+ghost use Rattle.ba_model.specs.Readings.{Gives};
+ghost use Rattle.ba_script.specs.Contexts.{context_of};
+ghost use Rattle.ba_script.specs.Reading.{ask_of, begin_of, context_at, end_of};
+ghost use Rattle.ba_script.specs.Tracking.{Moves, Tracks, opened};
+
+use crate::context::context_of;
+use crate::entry::ScriptEntry;
+use crate::fault::{LineFault, ScriptFault};
+use crate::line::Member;
+use ba_model::{
+    Context, Counted, Duplicate, Failure, List, MAX_ASKS, MAX_REQUESTS, Parameter, Str,
+};
+use std::alloc::Global;
+use std::collections::BTreeMap;
+
+/// A request that is open under a name.
+#[derive(Clone, Copy, Debug, PartialEq, Eq)]
+pub(crate) struct Opened {
+    /// Its number.
+    pub(crate) request: u32,
+    /// How many questions it asked.
+    pub(crate) asks: u32,
+}
+
+/// The names that are open, and how many requests were begun.
+#[derive(Drop)]
+pub(crate) struct Requests {
+    pub(crate) names: BTreeMap<Str, Opened>,
+    pub(crate) begun: u32,
+}
+
+fn bad<T>(line: u64, reason: LineFault) -> Result<T, Failure<ScriptFault>>
+    ensures { result ≡ Err (Failure.Fault (ScriptFault.BadLine line reason)) }
+{
+    Err(Failure::Fault(ScriptFault::BadLine { line, reason }))
+}
+
+fn too_many<T>(what: Counted, limit: u32) -> Result<T, Failure<ScriptFault>>
+    ensures { result ≡ Err (Failure.Fault (ScriptFault.TooMany what limit)) }
+{
+    let limit = limit as u64;
+    Err(Failure::Fault(ScriptFault::TooMany { what, limit }))
+}
+
+fn context_at(
+    alloc: Global,
+    params: &[Parameter],
+    line: u64,
+    members: &[Member],
+) -> Result<Context, Failure<ScriptFault>>
+    ensures { Gives result (context_at line (context_of params.now members.now)) }
+{
+    let found = context_of(alloc, params, members)?;
+    match found {
+        Some(context) => Ok(context),
+        None => bad(line, LineFault::Context),
+    }
+}
+
+impl Requests {
+    pub(crate) fn new(alloc: Global) -> Requests
+        ensures { Tracks [] result }
+    {
+        Requests {
+            names: BTreeMap::new(alloc),
+            begun: 0,
+        }
+    }
+
+    /// The request begins, where its name isn't open.
+    #[tactic(auto, unfolding(crate::specs::Reading::begin_of))]
+    pub(crate) fn begin(
+        &mut self,
+        alloc: Global,
+        params: &[Parameter],
+        line: u64,
+        name: Str,
+        members: &List<Member>,
+    ) -> Result<ScriptEntry, Failure<ScriptFault>>
+        ensures gives { Gives result (begin_of params.now line name members.now (opened self.old name) self.old.begun) }
+        ensures moves { IfOk result (λ entry. Moves entry self.old self.new) }
+    {
+        if self.names.contains_key(&name) {
+            return bad(line, LineFault::Begun);
+        }
+        let context = context_at(alloc, params, line, members.as_slice())?;
+        if self.begun >= MAX_REQUESTS {
+            return too_many(Counted::Requests, MAX_REQUESTS);
+        }
+        let request = self.begun;
+        let opened = Opened { request, asks: 0 };
+        self.names.insert(name.copy(alloc)?, opened)?;
+        self.begun += 1;
+        Ok(ScriptEntry::Begin {
+            request,
+            name,
+            context,
+        })
+    }
+
+    /// The request asks, where it is open.
+    #[tactic(auto, unfolding(crate::specs::Reading::ask_of))]
+    pub(crate) fn ask(
+        &mut self,
+        line: u64,
+        name: Str,
+        query: Str,
+    ) -> Result<ScriptEntry, Failure<ScriptFault>>
+        ensures gives { Gives result (ask_of line name query (opened self.old name)) }
+        ensures moves { IfOk result (λ entry. Moves entry self.old self.new) }
+    {
+        let Some(opened) = self.names.get_mut(&name) else {
+            return bad(line, LineFault::Unbegun);
+        };
+        if opened.asks >= MAX_ASKS {
+            return too_many(Counted::Asks, MAX_ASKS);
+        }
+        opened.asks += 1;
+        let request = opened.request;
+        Ok(ScriptEntry::Ask {
+            request,
+            name,
+            query,
+        })
+    }
+
+    /// The request ends, where it is open.
+    #[tactic(auto, unfolding(crate::specs::Reading::end_of))]
+    pub(crate) fn end(&mut self, line: u64, name: Str) -> Result<ScriptEntry, Failure<ScriptFault>>
+        ensures gives { Gives result (end_of line name (opened self.old name)) }
+        ensures moves { IfOk result (λ entry. Moves entry self.old self.new) }
+    {
+        match self.names.remove(&name) {
+            Some(opened) => Ok(ScriptEntry::End {
+                request: opened.request,
+                name,
+            }),
+            None => bad(line, LineFault::Unbegun),
+        }
+    }
+}

@@ -1,7 +1,0 @@
-use Rattle.std.proofs.Common.{◌≡◌, drop}
-use Rattle.ba_wire.specs.Contexts.{values_for}
-use Rattle.ba_wire.proofs.ContextLemmas.{behind}
-use Rattle.ba_wire.proofs.context.values_for.Given as goal
-
-abbrev pub invariant-loop-param : goal.invariant-loop-param
-invariant-loop-param l = behind l.values (values_for l.members (drop l.param-index l.params)) ≡ values_for l.members l.params

@@ -1,8 +1,0 @@
-use Rattle.std.proofs.Common.{◌≡◌, []}
-use Rattle.ba_wire.specs.Reading.{entries_from}
-use Rattle.ba_wire.specs.Tracking.{Tracks}
-use Rattle.ba_wire.proofs.read.entries_of.Given as goal
-
--- the entries so far, and those of the lines that are left, are the whole
-abbrev pub invariant-loop-bytes : goal.invariant-loop-bytes
-invariant-loop-bytes l = Tracks l.entries l.requests × (entries_from l.params l.entries l.bytes-iterator ≡ entries_from l.params [] l.fn.lines)
