@@ -1,22 +1,22 @@
 -- The first fault of a draft, by the function and as the model tells it.
-use Rattle.std.proofs.Common.{◌≡◌, ℕ, ◌<◌, Bool, true, false, not, nat_eq, List, [], ◌∷◌, All, Option, Some, None, Ok, refl, sym, ap, subst, lit<}
+use Rattle.std.proofs.Common.{◌≡◌, ℕ, ◌<◌, Bool, true, false, not, nat_eq, List, [], ◌∷◌, All, Option, Some, None, Result, Ok, Err, refl, sym, ap, subst, lit<}
+use Rattle.std.specs.Prelude.{IfErr, IfOk}
 use Rattle.std.specs.List.{AllByRecursion, IsDistinct, list_all, list_any}
 use Rattle.std.proofs.lemmas.Bool.{and_from, and_parts, false_from_ne_true, not_from_false, not-true, or_from, or_parts}
 use Rattle.std.proofs.lemmas.List.Elements.{All-from_recursion, recursion_from_All}
-use Rattle.ba_model.specs.SchemaFaults.{AreTables, ColumnsDistinct, IsFirstFault, Lacks, OfFault, column_names, columns_there, kinds_agree, rank, some_columns, table_names, targets_there, widths_agree}
+use Rattle.ba_model.specs.Readings.{Fails, Gives, OfFault}
+use Rattle.ba_model.specs.SchemaFaults.{AreTables, ColumnsDistinct, IsFirstFault, Lacks, column_names, columns_there, kinds_agree, rank, some_columns, table_names, targets_there, widths_agree}
 use Rattle.ba_model.specs.declared.limits.Counted.{Counted}
-use Rattle.ba_model.specs.declared.check_schema.SchemaError.{SchemaError}
-use Rattle.ba_model.specs.declared.check_schema.SchemaError.TheVariants as check
 use Rattle.ba_model.specs.declared.check_schema.SchemaFault.{SchemaFault}
 use Rattle.ba_model.specs.declared.check_schema.SchemaFault.TheVariants.{DuplicateTable, DuplicateColumn, UnknownTable, UnknownColumn, WidthDiffers, KindDiffers, EmptyKey, TooMany}
+use Rattle.ba_model.specs.declared.failure.Failure.{Failure}
+use Rattle.ba_model.specs.declared.failure.Failure.TheVariants.{NoMemory, Fault}
 use Rattle.ba_model.specs.declared.schema.Column.{Column}
 use Rattle.ba_model.specs.declared.schema.Schema.{Schema}
 use Rattle.ba_model.specs.declared.schema.Table.{Table}
-use Rattle.ba_sql_ddl.specs.Check.{AreNotNull, are_distinct, checked, columns_distinct, first_fault}
-use Rattle.ba_sql_ddl.specs.Faults.{Fails, of_check}
+use Rattle.ba_sql_ddl.specs.Check.{AreNotNull, are_distinct, columns_distinct, first_fault, well_formed}
 use Rattle.ba_sql_ddl.specs.Meaning.{first_nullable, nullable_column}
 use Rattle.ba_sql_ddl.specs.Numbers.{same_name}
-use Rattle.ba_sql_ddl.specs.declared.error.DdlError.{DdlError}
 
 -- ---- the tests of names and keys
 
@@ -139,15 +139,18 @@ the_fault (TooMany what limit) tables h =
 
 -- ---- the schema, or the fault
 
-pub checked_gives : (tables : List Table) (s : Schema) → first_nullable tables ≡ None → AreTables s.tables → s.tables ≡ tables → s.rules ≡ [] → checked tables ≡ Ok s
-unfolding checked
-checked_gives tables s none are same rules =
-    rw (none, no_fault tables (subst AreTables same are)) (λ i. Ok (record { tables = sym same i; rules = sym rules i }))
+tables_give : (tables : List Table) (s : Schema) → AreTables s.tables → s.tables ≡ tables → s.rules ≡ [] → well_formed tables ≡ Ok s
+tables_give tables s are same rules =
+    rw (no_fault tables (subst AreTables same are)) (λ i. Ok (record { tables = sym same i; rules = sym rules i }))
 
-pub checked_fails : (tables : List Table) (e : SchemaError) (d : DdlError) → first_nullable tables ≡ None → OfFault e (λ f. IsFirstFault f tables) → d ≡ of_check e → Fails d (checked tables)
-unfolding checked
-checked_fails tables check.NoMemory d none h same = rw same tt
-checked_fails tables (check.Fault f) d none h same = rw (same, none, the_fault f tables h) refl
+fault_fails : (tables : List Table) (e : Failure SchemaFault) → OfFault e (λ f. IsFirstFault f tables) → Fails e (well_formed tables)
+fault_fails tables NoMemory h = tt
+fault_fails tables (Fault f) h = rw (the_fault f tables h) refl
+
+pub check_gives : (tables : List Table) (r : Result Schema (Failure SchemaFault)) → IfOk r (λ s. (s.tables ≡ tables) × (s.rules ≡ []))
+    → IfOk r (λ s. AreTables s.tables) → IfErr r (λ e. OfFault e (λ f. IsFirstFault f tables)) → Gives r (well_formed tables)
+check_gives tables (Ok s) content are fault = tables_give tables s are content.0 content.1
+check_gives tables (Err e) content are fault = fault_fails tables e fault
 
 -- ---- no nullable column
 
@@ -167,6 +170,5 @@ tables_not_null (t ∷ ts) e = at (nullable_column t.columns) refl (tables_not_n
     at None h below = (All-from_recursion (λ (c : Column). c.nullable ≡ false) t.columns (columns_not_null t.columns h), below (rw h at e))
     at (Some n) h below = let wrong : ◌≡◌ {A = Option (List ℕ × List ℕ)} (Some (t.name, n)) None = rw h at e in cc
 
-pub not_null : (tables found : List Table) → first_nullable tables ≡ None → found ≡ tables → AreNotNull found
-not_null tables found e same =
-    subst AreNotNull (sym same) (record { columns = All-from_recursion (λ (t : Table). All (λ (c : Column). c.nullable ≡ false) t.columns) tables (tables_not_null tables e) })
+pub not_null : (tables : List Table) → first_nullable tables ≡ None → AreNotNull tables
+not_null tables e = record { columns = All-from_recursion (λ (t : Table). All (λ (c : Column). c.nullable ≡ false) t.columns) tables (tables_not_null tables e) }

@@ -4,7 +4,7 @@ use Rattle.std.specs.List.{AllByRecursion}
 use Rattle.std.specs.Char.{to_ascii_lowercase}
 use Rattle.std.specs.Str.{bytes_eq}
 use Rattle.std.proofs.lemmas.Slice.Eq.{bytes_eq-Decides}
-use Rattle.ba_grammar.specs.Errors.{◌>>=◌}
+use Rattle.ba_model.specs.Readings.{◌>>=◌}
 use Rattle.ba_grammar.specs.Front.{Read, begins, is_keyword, is_sign, listed, number_at, past}
 use Rattle.ba_grammar.specs.Items.{Spells, with_commas}
 use Rattle.ba_grammar.specs.Items.Item.{keyword, name, number, sign}

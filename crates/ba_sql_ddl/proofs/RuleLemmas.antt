@@ -1,10 +1,11 @@
 -- The rules of a column, one after the other, as the loop reads them.
 use Rattle.std.proofs.Common.{◌≡◌, ℕ, suc, ◌+◌, ◌-◌, ◌<◌, ◌≤◌, true, false, List, [], ◌∷◌, ◌++◌, Ok, Err, sym, ap, ◌∙◌, append_assoc, refl, arith}
 use Rattle.std.proofs.lemmas.List.{append-nil}
-use Rattle.ba_grammar.specs.Errors.{◌>>=◌, Fails}
+use Rattle.ba_model.specs.Readings.{◌>>=◌, Fails}
 use Rattle.ba_grammar.specs.Front.{Read, begins}
-use Rattle.ba_grammar.specs.declared.error.ReadError.{ReadError}
-use Rattle.ba_grammar.specs.declared.error.ReadError.TheVariants as errors
+use Rattle.ba_grammar.specs.declared.error.Syntax.{Syntax}
+use Rattle.ba_model.specs.declared.failure.Failure.{Failure}
+use Rattle.ba_model.specs.declared.failure.Failure.TheVariants.{NoMemory, Fault}
 use Rattle.ba_grammar.proofs.SeveralLemmas.{onto}
 use Rattle.ba_lex.specs.declared.token.Lexeme.{Lexeme}
 use Rattle.ba_sql_ddl.specs.Reader.{is_rule_word, rule_at, rules_at}
@@ -38,10 +39,10 @@ unfolding rules_at
 rules_go_on most i found found2 rest behind words x at lt e read f =
     record { so_far = rw f (sym (onto_more found x (rules_at (most - (i + 1)) behind)) ∙ rw (split most i lt, e, read) at at.so_far) }
 
-pub rules_fail : (most i : ℕ) (found : List ColumnRule) (rest words : List Lexeme) (err : ReadError) → RulesAt most i found rest words → i < most → begins is_rule_word rest ≡ true → Fails err (rule_at rest) → Fails err (rules_at most words)
+pub rules_fail : (most i : ℕ) (found : List ColumnRule) (rest words : List Lexeme) (err : Failure Syntax) → RulesAt most i found rest words → i < most → begins is_rule_word rest ≡ true → Fails err (rule_at rest) → Fails err (rules_at most words)
 unfolding rules_at
-rules_fail most i found rest words errors.NoMemory at lt e h = tt
-rules_fail most i found rest words errors.Syntax at lt e h = sym (rw (split most i lt, e, h) at at.so_far)
+rules_fail most i found rest words NoMemory at lt e h = tt
+rules_fail most i found rest words (Fault f) at lt e h = sym (rw (split most i lt, e, h) at at.so_far)
 
 pub rules_over : (most i : ℕ) (found : List ColumnRule) (rest words : List Lexeme) → RulesAt most i found rest words → most ≤ i → rules_at most words ≡ Ok (found, rest)
 unfolding rules_at

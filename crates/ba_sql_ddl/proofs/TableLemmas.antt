@@ -4,7 +4,7 @@ use Rattle.std.specs.List.{AllByRecursion, flat_map, list_any}
 use Rattle.std.proofs.lemmas.Bool.{or_parts}
 use Rattle.std.proofs.lemmas.List.{length-append}
 use Rattle.std.proofs.lemmas.List.Elements.{All-from_recursion, recursion_from_All}
-use Rattle.ba_grammar.specs.Errors.{◌>>=◌}
+use Rattle.ba_model.specs.Readings.{◌>>=◌}
 use Rattle.ba_grammar.specs.Front.{Read, begins, is_keyword, is_sign, listed, more, past}
 use Rattle.ba_grammar.specs.Items.{Item, Spells, after_commas, is_among, with_commas}
 use Rattle.ba_lex.specs.Word.{is_word}

@@ -2,6 +2,7 @@
 use Rattle.std.specs.Prelude.{◌≡◌, ℕ, Bool, true, false, not, All, ◌&&◌, nat_eq, List, [], ◌∷◌, Option, Some, None, Result, Ok, Err, if◌then◌else◌}
 use Rattle.std.specs.List.{list_all, list_any}
 use Rattle.ba_model.specs.Limits.{limit_of}
+use Rattle.ba_model.specs.Readings.{widened}
 use Rattle.ba_model.specs.SchemaFaults.{column_names, columns_there, excess, kinds_agree, some_columns, table_names, targets_there, widths_agree}
 use Rattle.ba_model.specs.declared.limits.Counted.{Counted}
 use Rattle.ba_model.specs.declared.check_schema.SchemaFault.{SchemaFault}
@@ -10,8 +11,8 @@ use Rattle.ba_model.specs.declared.schema.Schema.{Schema}
 use Rattle.ba_model.specs.declared.schema.Table.{Table}
 use Rattle.ba_sql_ddl.specs.Meaning.{first_nullable}
 use Rattle.ba_sql_ddl.specs.Numbers.{same_name}
-use Rattle.ba_sql_ddl.specs.declared.error.DdlFault.{DdlFault}
-use Rattle.ba_sql_ddl.specs.declared.error.DdlFault.TheVariants.{Nullable, Schema as SchemaFaulty}
+use Rattle.ba_sql_ddl.specs.declared.fault.DdlFault.{DdlFault}
+use Rattle.ba_sql_ddl.specs.declared.fault.DdlFault.TheVariants.{Nullable, Schema as SchemaFaulty}
 
 -- no two are the same
 abbrev pub are_distinct : {A : Type 0} → (A → A → Bool) → List A → Bool
@@ -39,9 +40,13 @@ first_fault tables =
 abbrev pub schema : List Table → Schema
 schema tables = record { tables = tables; rules = [] }
 
-abbrev pub without_fault : Option SchemaFault → List Table → Result Schema DdlFault
-without_fault (Some f) tables = Err (SchemaFaulty f)
+abbrev pub without_fault : Option SchemaFault → List Table → Result Schema SchemaFault
+without_fault (Some f) tables = Err f
 without_fault None tables = Ok (schema tables)
+
+-- well-formed tables as a schema, or their first fault
+abbrev pub well_formed : List Table → Result Schema SchemaFault
+well_formed tables = without_fault (first_fault tables) tables
 
 abbrev pub without_null : Option (List ℕ × List ℕ) → Result Schema DdlFault → Result Schema DdlFault
 without_null (Some at) checked = Err (Nullable at.0 at.1)
@@ -53,4 +58,4 @@ pub record AreNotNull (tables : List Table) : Type 0 where
 
 -- a draft without a nullable column and without a fault, as a schema
 unfoldable pub checked : List Table → Result Schema DdlFault
-checked tables = without_null (first_nullable tables) (without_fault (first_fault tables) tables)
+checked tables = without_null (first_nullable tables) (widened SchemaFaulty (well_formed tables))

@@ -1,9 +1,8 @@
 -- Tables read from the left.
 use Rattle.std.specs.Prelude.{ℕ, zero, suc, ℤ, Bool, ◌||◌, List, [], ◌∷◌, length, Option, Some, None, Result, Ok, Err, codes, if◌then◌else◌}
-use Rattle.ba_grammar.specs.Errors.{◌>>=◌}
-use Rattle.ba_grammar.specs.Front.{Read, all, begins, is_keyword, is_sign, listed, name_at, number_at, past}
+use Rattle.ba_model.specs.Readings.{◌>>=◌}
+use Rattle.ba_grammar.specs.Front.{Read, all, begins, is_keyword, is_sign, listed, name_at, number_at, past, syntax}
 use Rattle.ba_grammar.specs.declared.error.Syntax.{Syntax}
-use Rattle.ba_grammar.specs.declared.error.Syntax.TheVariants.{Syntax as syntax}
 use Rattle.ba_lex.specs.declared.token.Lexeme.{Lexeme}
 use Rattle.ba_lex.specs.declared.token.Sign.TheVariants.{LeftParen, RightParen, Semicolon}
 use Rattle.ba_sql_ddl.specs.Written.{reserved}

@@ -75,7 +75,8 @@ fn add_primary_of_rules(
     name: &Name,
     rules: &[ColumnRule],
 ) -> Result<(), AllocError>
-    ensures { OnOk result (names.new ≡ insert_all same_name names.old (flat_map (meaning.primary_of_rule name.now) rules.now)) }
+    ensures { OnOk result (names.new
+        ≡ insert_all same_name names.old (flat_map (meaning.primary_of_rule name.now) rules.now)) }
 {
     for rule in rules {
         if let ColumnRule::PrimaryKey = rule {
@@ -86,7 +87,8 @@ fn add_primary_of_rules(
 }
 
 fn add_primary(alloc: Global, names: &mut Names, item: &TableItem) -> Result<(), AllocError>
-    ensures { OnOk result (names.new ≡ insert_all same_name names.old (meaning.primary_in item.now)) }
+    ensures { OnOk result
+        (names.new ≡ insert_all same_name names.old (meaning.primary_in item.now)) }
 {
     match item {
         TableItem::Column(column) => {
@@ -149,7 +151,8 @@ fn add_column(
     primary: &Names,
     item: &TableItem,
 ) -> Result<(), AllocError>
-    ensures { OnOk result (found.new ≡ found.old ++ map (meaning.column_of primary.now) (meaning.column_in item.now)) }
+    ensures { OnOk result (found.new
+        ≡ found.old ++ map (meaning.column_of primary.now) (meaning.column_in item.now)) }
 {
     match item {
         TableItem::Column(column) => found.push(column_of(alloc, primary, column)?),
@@ -162,7 +165,8 @@ fn columns_with(
     primary: &Names,
     items: &[TableItem],
 ) -> Result<List<Column>, AllocError>
-    ensures { IfOk result (λ found. found ≡ map (meaning.column_of primary.now) (meaning.columns_in items.now)) }
+    ensures { IfOk result
+        (λ found. found ≡ map (meaning.column_of primary.now) (meaning.columns_in items.now)) }
 {
     let mut found = List::new(alloc);
     for item in items {
@@ -172,7 +176,8 @@ fn columns_with(
 }
 
 fn columns(alloc: Global, items: &[TableItem]) -> Result<List<Column>, AllocError>
-    ensures { IfOk result (λ found. found ≡ map (meaning.column_of (once (meaning.primary_names items.now))) (meaning.columns_in items.now)) }
+    ensures { IfOk result (λ found. let primary = once (meaning.primary_names items.now) in
+        found ≡ map (meaning.column_of primary) (meaning.columns_in items.now)) }
 {
     let primary = primary_names(alloc, items)?;
     columns_with(alloc, &primary, items)
@@ -185,7 +190,8 @@ fn add_own_key(
     name: &Name,
     rule: &ColumnRule,
 ) -> Result<(), AllocError>
-    ensures { OnOk result (found.new ≡ found.old ++ map (meaning.key_of columns.now) (meaning.own_keys name.now rule.now)) }
+    ensures { OnOk result (found.new
+        ≡ found.old ++ map (meaning.key_of columns.now) (meaning.own_keys name.now rule.now)) }
 {
     match rule {
         ColumnRule::PrimaryKey | ColumnRule::Unique => {
@@ -201,7 +207,8 @@ fn add_own_keys(
     columns: &Names,
     column: &ColumnText,
 ) -> Result<(), AllocError>
-    ensures { OnOk result (found.new ≡ found.old ++ map (meaning.key_of columns.now) (flat_map (meaning.own_keys column.now.name) column.now.rules)) }
+    ensures { OnOk result (found.new ≡ found.old ++ map (meaning.key_of columns.now)
+        (flat_map (meaning.own_keys column.now.name) column.now.rules)) }
 {
     for rule in column.rules.as_slice() {
         add_own_key(alloc, found, columns, &column.name, rule)?;
@@ -215,7 +222,8 @@ fn add_table_key(
     columns: &Names,
     rule: &TableRule,
 ) -> Result<(), AllocError>
-    ensures { OnOk result (found.new ≡ found.old ++ map (meaning.key_of columns.now) (meaning.table_keys rule.now)) }
+    ensures { OnOk result
+        (found.new ≡ found.old ++ map (meaning.key_of columns.now) (meaning.table_keys rule.now)) }
 {
     match rule {
         TableRule::PrimaryKey(names) | TableRule::Unique(names) => {
@@ -231,7 +239,8 @@ fn add_keys(
     columns: &Names,
     item: &TableItem,
 ) -> Result<(), AllocError>
-    ensures { OnOk result (found.new ≡ found.old ++ map (meaning.key_of columns.now) (meaning.keys_in item.now)) }
+    ensures { OnOk result
+        (found.new ≡ found.old ++ map (meaning.key_of columns.now) (meaning.keys_in item.now)) }
 {
     match item {
         TableItem::Column(column) => add_own_keys(alloc, found, columns, column),
@@ -241,7 +250,8 @@ fn add_keys(
 
 /// The keys, in the order in which they are written.
 fn keys(alloc: Global, columns: &Names, items: &[TableItem]) -> Result<List<List<u32>>, AllocError>
-    ensures { IfOk result (λ found. found ≡ map (meaning.key_of columns.now) (flat_map meaning.keys_in items.now)) }
+    ensures { IfOk result
+        (λ found. found ≡ map (meaning.key_of columns.now) (flat_map meaning.keys_in items.now)) }
 {
     let mut found = List::new(alloc);
     for item in items {
@@ -273,7 +283,11 @@ fn link_of(
     targets: &[Name],
 ) -> Result<Link, AllocError>
     ensures { IfOk result (λ link. let target = number scope.now.tables table.now in
-        link ≡ record { columns = columns; target = target; target_columns = map (number_in scope.now.columns target) targets.now }) }
+        link ≡ record {
+          columns = columns;
+          target = target;
+          target_columns = map (number_in scope.now.columns target) targets.now;
+        }) }
 {
     let target = scope.tables.number(&table.text);
     let target_columns = numbers_in(alloc, scope.columns.as_slice(), target, targets)?;
@@ -292,7 +306,8 @@ fn add_own_link(
     name: &Name,
     rule: &ColumnRule,
 ) -> Result<(), AllocError>
-    ensures { OnOk result (found.new ≡ found.old ++ map (meaning.link_of scope.now columns.now) (meaning.own_links name.now rule.now)) }
+    ensures { OnOk result (found.new ≡ found.old
+        ++ map (meaning.link_of scope.now columns.now) (meaning.own_links name.now rule.now)) }
 {
     match rule {
         ColumnRule::References { table, targets } => {
@@ -310,7 +325,8 @@ fn add_own_links(
     columns: &Names,
     column: &ColumnText,
 ) -> Result<(), AllocError>
-    ensures { OnOk result (found.new ≡ found.old ++ map (meaning.link_of scope.now columns.now) (flat_map (meaning.own_links column.now.name) column.now.rules)) }
+    ensures { OnOk result (found.new ≡ found.old ++ map (meaning.link_of scope.now columns.now)
+        (flat_map (meaning.own_links column.now.name) column.now.rules)) }
 {
     for rule in column.rules.as_slice() {
         add_own_link(alloc, found, scope, columns, &column.name, rule)?;
@@ -325,7 +341,8 @@ fn add_table_link(
     columns: &Names,
     rule: &TableRule,
 ) -> Result<(), AllocError>
-    ensures { OnOk result (found.new ≡ found.old ++ map (meaning.link_of scope.now columns.now) (meaning.table_links rule.now)) }
+    ensures { OnOk result (found.new
+        ≡ found.old ++ map (meaning.link_of scope.now columns.now) (meaning.table_links rule.now)) }
 {
     match rule {
         TableRule::ForeignKey {
@@ -347,7 +364,8 @@ fn add_links(
     columns: &Names,
     item: &TableItem,
 ) -> Result<(), AllocError>
-    ensures { OnOk result (found.new ≡ found.old ++ map (meaning.link_of scope.now columns.now) (meaning.links_in item.now)) }
+    ensures { OnOk result (found.new
+        ≡ found.old ++ map (meaning.link_of scope.now columns.now) (meaning.links_in item.now)) }
 {
     match item {
         TableItem::Column(column) => add_own_links(alloc, found, scope, columns, column),
@@ -364,7 +382,8 @@ fn links(
     columns: &Names,
     items: &[TableItem],
 ) -> Result<List<Link>, AllocError>
-    ensures { IfOk result (λ found. found ≡ map (meaning.link_of scope.now columns.now) (flat_map meaning.links_in items.now)) }
+    ensures { IfOk result (λ found. found
+        ≡ map (meaning.link_of scope.now columns.now) (flat_map meaning.links_in items.now)) }
 {
     let mut found = List::new(alloc);
     for item in items {

@@ -2,7 +2,7 @@
 #![tactic(auto)]
 
 mod draft;
-mod error;
+mod fault;
 pub mod laws;
 mod names;
 mod read;
@@ -10,5 +10,5 @@ mod scan;
 mod schema;
 mod written;
 
-pub use error::{DdlError, DdlFault};
+pub use fault::DdlFault;
 pub use schema::read_schema;

@@ -80,7 +80,8 @@ impl Names {
         capped(self.place(name))
     }
 
-    /// The number of a key's column among a table's columns; a name that isn't there has a number behind them.
+    /// The number of a key's column among a table's columns; a name that isn't there has a number
+    /// behind them.
     fn key_number(&self, own: &Names, name: &Str) -> u32
         ensures { result ≡ key_number self.now own.now name.now }
     {
@@ -129,7 +130,8 @@ fn numbers_with(
 
 /// The numbers of a key's columns.
 pub fn key_numbers(alloc: Global, columns: &Names, names: &[Name]) -> Result<List<u32>, AllocError>
-    ensures { IfOk result (λ found. found ≡ map (key_number columns.now (once names.now)) names.now) }
+    ensures { IfOk result
+        (λ found. found ≡ map (key_number columns.now (once names.now)) names.now) }
 {
     let mut own = Names::new(alloc);
     own.add_all(alloc, names)?;

@@ -1,6 +1,6 @@
 //! Tables read from the left.
 ghost use Rattle.std.specs.Prelude.{◌≡◌, length};
-ghost use Rattle.ba_grammar.specs.Errors.{Gives, Sees};
+ghost use Rattle.ba_model.specs.Readings.{Gives, Sees};
 ghost use Rattle.ba_grammar.specs.Front.{begins};
 ghost use Rattle.ba_sql_ddl.specs.Reader as reader;
 
@@ -8,11 +8,11 @@ use crate::written::{
     ColumnRule, ColumnText, Constraint, Name, TableItem, TableRule, TableText, TypeText, TypeWord,
 };
 use ba_grammar::{
-    Element, ReadError, all, begins_with_keyword, begins_with_sign, is_keyword, listed, name,
-    number, past_keyword, past_sign,
+    Element, Syntax, all, begins_with_keyword, begins_with_sign, is_keyword, listed, name, number,
+    past_keyword, past_sign,
 };
 use ba_lex::{Lexeme, Sign};
-use ba_model::List;
+use ba_model::{Failure, List};
 use std::alloc::Global;
 
 /// The words that a name may not be unless it is quoted.
@@ -47,7 +47,7 @@ impl Element for Name {
 
     ghost read_at = { ddl_name_at };
 
-    fn read(alloc: Global, words: &[Lexeme]) -> Result<(Name, &[Lexeme]), ReadError> {
+    fn read(alloc: Global, words: &[Lexeme]) -> Result<(Name, &[Lexeme]), Failure<Syntax>> {
         let (text, rest) = name(alloc, words, &RESERVED)?;
         Ok((Name { text }, rest))
     }
@@ -55,7 +55,7 @@ impl Element for Name {
 
 /// Names in brackets.
 #[tactic(auto, unfolding(crate::specs::Reader::names_at))]
-fn names(alloc: Global, words: &[Lexeme]) -> Result<(List<Name>, &[Lexeme]), ReadError>
+fn names(alloc: Global, words: &[Lexeme]) -> Result<(List<Name>, &[Lexeme]), Failure<Syntax>>
     ensures { Sees (λ x. (x.0, x.1.now)) result (reader.names_at words.now) }
 {
     let rest = past_sign(words, Sign::LeftParen)?;
@@ -66,7 +66,7 @@ fn names(alloc: Global, words: &[Lexeme]) -> Result<(List<Name>, &[Lexeme]), Rea
 
 /// The number in brackets behind a type, or nothing.
 #[tactic(auto, unfolding(crate::specs::Reader::size_at))]
-fn size(words: &[Lexeme]) -> Result<(Option<i64>, &[Lexeme]), ReadError>
+fn size(words: &[Lexeme]) -> Result<(Option<i64>, &[Lexeme]), Failure<Syntax>>
     ensures { Sees (λ x. (x.0, x.1.now)) result (reader.size_at words.now) }
 {
     if !begins_with_sign(words, Sign::LeftParen) {
@@ -79,7 +79,7 @@ fn size(words: &[Lexeme]) -> Result<(Option<i64>, &[Lexeme]), ReadError>
 }
 
 #[tactic(auto, unfolding(crate::specs::Reader::type_word_at))]
-fn type_word(words: &[Lexeme]) -> Result<(TypeWord, &[Lexeme]), ReadError>
+fn type_word(words: &[Lexeme]) -> Result<(TypeWord, &[Lexeme]), Failure<Syntax>>
     ensures { Sees (λ x. (x.0, x.1.now)) result (reader.type_word_at words.now) }
 {
     match words {
@@ -90,12 +90,12 @@ fn type_word(words: &[Lexeme]) -> Result<(TypeWord, &[Lexeme]), ReadError>
         [first, rest @ ..] if is_keyword(first, "TEXT") => Ok((TypeWord::Text, rest)),
         [first, rest @ ..] if is_keyword(first, "VARCHAR") => Ok((TypeWord::VarChar, rest)),
         [first, rest @ ..] if is_keyword(first, "CHAR") => Ok((TypeWord::Char, rest)),
-        _ => Err(ReadError::Syntax),
+        _ => Err(Failure::Fault(Syntax)),
     }
 }
 
 #[tactic(auto, unfolding(crate::specs::Reader::type_at))]
-fn type_text(words: &[Lexeme]) -> Result<(TypeText, &[Lexeme]), ReadError>
+fn type_text(words: &[Lexeme]) -> Result<(TypeText, &[Lexeme]), Failure<Syntax>>
     ensures { Sees (λ x. (x.0, x.1.now)) result (reader.type_at words.now) }
 {
     let (word, rest) = type_word(words)?;
@@ -104,7 +104,7 @@ fn type_text(words: &[Lexeme]) -> Result<(TypeText, &[Lexeme]), ReadError>
 }
 
 #[tactic(auto, unfolding(crate::specs::Reader::not_null_at))]
-fn not_null(words: &[Lexeme]) -> Result<(ColumnRule, &[Lexeme]), ReadError>
+fn not_null(words: &[Lexeme]) -> Result<(ColumnRule, &[Lexeme]), Failure<Syntax>>
     ensures { Sees (λ x. (x.0, x.1.now)) result (reader.not_null_at words.now) }
 {
     let rest = past_keyword(words, "NOT")?;
@@ -113,7 +113,7 @@ fn not_null(words: &[Lexeme]) -> Result<(ColumnRule, &[Lexeme]), ReadError>
 }
 
 #[tactic(auto, unfolding(crate::specs::Reader::primary_key_at))]
-fn primary_key(words: &[Lexeme]) -> Result<(ColumnRule, &[Lexeme]), ReadError>
+fn primary_key(words: &[Lexeme]) -> Result<(ColumnRule, &[Lexeme]), Failure<Syntax>>
     ensures { Sees (λ x. (x.0, x.1.now)) result (reader.primary_key_at words.now) }
 {
     let rest = past_keyword(words, "PRIMARY")?;
@@ -122,7 +122,7 @@ fn primary_key(words: &[Lexeme]) -> Result<(ColumnRule, &[Lexeme]), ReadError>
 }
 
 #[tactic(auto, unfolding(crate::specs::Reader::references_at))]
-fn references(alloc: Global, words: &[Lexeme]) -> Result<(ColumnRule, &[Lexeme]), ReadError>
+fn references(alloc: Global, words: &[Lexeme]) -> Result<(ColumnRule, &[Lexeme]), Failure<Syntax>>
     ensures { Sees (λ x. (x.0, x.1.now)) result (reader.references_at words.now) }
 {
     let rest = past_keyword(words, "REFERENCES")?;
@@ -133,7 +133,7 @@ fn references(alloc: Global, words: &[Lexeme]) -> Result<(ColumnRule, &[Lexeme])
 
 /// A rule of a column.
 #[tactic(auto, unfolding(crate::specs::Reader::rule_at))]
-fn rule(alloc: Global, words: &[Lexeme]) -> Result<(ColumnRule, &[Lexeme]), ReadError>
+fn rule(alloc: Global, words: &[Lexeme]) -> Result<(ColumnRule, &[Lexeme]), Failure<Syntax>>
     ensures { Sees (λ x. (x.0, x.1.now)) result (reader.rule_at words.now) }
 {
     if begins_with_keyword(words, "NOT") {
@@ -177,7 +177,7 @@ fn rules(
     alloc: Global,
     words: &[Lexeme],
     most: usize,
-) -> Result<(List<ColumnRule>, &[Lexeme]), ReadError>
+) -> Result<(List<ColumnRule>, &[Lexeme]), Failure<Syntax>>
     ensures { Sees (λ x. (x.0, x.1.now)) result (reader.rules_at most words.now) }
 {
     let mut found = List::new(alloc);
@@ -194,7 +194,7 @@ fn rules(
 }
 
 #[tactic(auto, unfolding(crate::specs::Reader::column_at))]
-fn column(alloc: Global, words: &[Lexeme]) -> Result<(ColumnText, &[Lexeme]), ReadError>
+fn column(alloc: Global, words: &[Lexeme]) -> Result<(ColumnText, &[Lexeme]), Failure<Syntax>>
     ensures { Sees (λ x. (x.0, x.1.now)) result (reader.column_at words.now) }
 {
     let (name, rest) = Name::read(alloc, words)?;
@@ -209,7 +209,7 @@ fn column(alloc: Global, words: &[Lexeme]) -> Result<(ColumnText, &[Lexeme]), Re
 }
 
 #[tactic(auto, unfolding(crate::specs::Reader::primary_at))]
-fn primary(alloc: Global, words: &[Lexeme]) -> Result<(TableRule, &[Lexeme]), ReadError>
+fn primary(alloc: Global, words: &[Lexeme]) -> Result<(TableRule, &[Lexeme]), Failure<Syntax>>
     ensures { Sees (λ x. (x.0, x.1.now)) result (reader.primary_at words.now) }
 {
     let rest = past_keyword(words, "PRIMARY")?;
@@ -219,7 +219,7 @@ fn primary(alloc: Global, words: &[Lexeme]) -> Result<(TableRule, &[Lexeme]), Re
 }
 
 #[tactic(auto, unfolding(crate::specs::Reader::unique_at))]
-fn unique(alloc: Global, words: &[Lexeme]) -> Result<(TableRule, &[Lexeme]), ReadError>
+fn unique(alloc: Global, words: &[Lexeme]) -> Result<(TableRule, &[Lexeme]), Failure<Syntax>>
     ensures { Sees (λ x. (x.0, x.1.now)) result (reader.unique_at words.now) }
 {
     let rest = past_keyword(words, "UNIQUE")?;
@@ -228,7 +228,7 @@ fn unique(alloc: Global, words: &[Lexeme]) -> Result<(TableRule, &[Lexeme]), Rea
 }
 
 #[tactic(auto, unfolding(crate::specs::Reader::foreign_at))]
-fn foreign(alloc: Global, words: &[Lexeme]) -> Result<(TableRule, &[Lexeme]), ReadError>
+fn foreign(alloc: Global, words: &[Lexeme]) -> Result<(TableRule, &[Lexeme]), Failure<Syntax>>
     ensures { Sees (λ x. (x.0, x.1.now)) result (reader.foreign_at words.now) }
 {
     let rest = past_keyword(words, "FOREIGN")?;
@@ -246,7 +246,7 @@ fn foreign(alloc: Global, words: &[Lexeme]) -> Result<(TableRule, &[Lexeme]), Re
 }
 
 #[tactic(auto, unfolding(crate::specs::Reader::table_rule_at))]
-fn table_rule(alloc: Global, words: &[Lexeme]) -> Result<(TableRule, &[Lexeme]), ReadError>
+fn table_rule(alloc: Global, words: &[Lexeme]) -> Result<(TableRule, &[Lexeme]), Failure<Syntax>>
     ensures { Sees (λ x. (x.0, x.1.now)) result (reader.table_rule_at words.now) }
 {
     if begins_with_keyword(words, "PRIMARY") {
@@ -260,7 +260,7 @@ fn table_rule(alloc: Global, words: &[Lexeme]) -> Result<(TableRule, &[Lexeme]),
 
 /// CONSTRAINT and a name, or nothing.
 #[tactic(auto, unfolding(crate::specs::Reader::label_at))]
-fn label(alloc: Global, words: &[Lexeme]) -> Result<(Option<Name>, &[Lexeme]), ReadError>
+fn label(alloc: Global, words: &[Lexeme]) -> Result<(Option<Name>, &[Lexeme]), Failure<Syntax>>
     ensures { Sees (λ x. (x.0, x.1.now)) result (reader.label_at words.now) }
 {
     if !begins_with_keyword(words, "CONSTRAINT") {
@@ -272,7 +272,7 @@ fn label(alloc: Global, words: &[Lexeme]) -> Result<(Option<Name>, &[Lexeme]), R
 }
 
 #[tactic(auto, unfolding(crate::specs::Reader::constraint_at))]
-fn constraint(alloc: Global, words: &[Lexeme]) -> Result<(Constraint, &[Lexeme]), ReadError>
+fn constraint(alloc: Global, words: &[Lexeme]) -> Result<(Constraint, &[Lexeme]), Failure<Syntax>>
     ensures { Sees (λ x. (x.0, x.1.now)) result (reader.constraint_at words.now) }
 {
     let (label, rest) = label(alloc, words)?;
@@ -299,7 +299,7 @@ fn begins_constraint(words: &[Lexeme]) -> bool
 }
 
 #[tactic(auto, unfolding(crate::specs::Reader::item_at))]
-fn item(alloc: Global, words: &[Lexeme]) -> Result<(TableItem, &[Lexeme]), ReadError>
+fn item(alloc: Global, words: &[Lexeme]) -> Result<(TableItem, &[Lexeme]), Failure<Syntax>>
     ensures { Sees (λ x. (x.0, x.1.now)) result (reader.item_at words.now) }
 {
     if begins_constraint(words) {
@@ -315,13 +315,13 @@ impl Element for TableItem {
 
     ghost read_at = { item_at };
 
-    fn read(alloc: Global, words: &[Lexeme]) -> Result<(TableItem, &[Lexeme]), ReadError> {
+    fn read(alloc: Global, words: &[Lexeme]) -> Result<(TableItem, &[Lexeme]), Failure<Syntax>> {
         item(alloc, words)
     }
 }
 
 #[tactic(auto, unfolding(crate::specs::Reader::table_at))]
-fn table(alloc: Global, words: &[Lexeme]) -> Result<(TableText, &[Lexeme]), ReadError>
+fn table(alloc: Global, words: &[Lexeme]) -> Result<(TableText, &[Lexeme]), Failure<Syntax>>
     ensures { Sees (λ x. (x.0, x.1.now)) result (reader.table_at words.now) }
 {
     let rest = past_keyword(words, "CREATE")?;
@@ -339,13 +339,13 @@ impl Element for TableText {
 
     ghost read_at = { table_at };
 
-    fn read(alloc: Global, words: &[Lexeme]) -> Result<(TableText, &[Lexeme]), ReadError> {
+    fn read(alloc: Global, words: &[Lexeme]) -> Result<(TableText, &[Lexeme]), Failure<Syntax>> {
         table(alloc, words)
     }
 }
 
 /// All of the words as tables, one after the other.
-pub fn tables(alloc: Global, words: &[Lexeme]) -> Result<List<TableText>, ReadError>
+pub fn tables(alloc: Global, words: &[Lexeme]) -> Result<List<TableText>, Failure<Syntax>>
     ensures { Gives result (reader.tables_at words.now) }
 {
     all::<TableText>(alloc, words)

@@ -1,0 +1,47 @@
+//! Why a file is no schema.
+ghost use Rattle.std.specs.Prelude.{◌≡◌};
+ghost use Rattle.ba_sql_ddl.specs.declared.fault.DdlFault.TheVariants as faults;
+
+use ba_grammar::Syntax;
+use ba_lex::LexFault;
+use ba_model::{SchemaFault, Str};
+
+/// Why a file is no schema. Of several faults the first of this order is told.
+#[derive(Debug, Drop)]
+pub enum DdlFault {
+    /// The file has no tokens.
+    Lex(LexFault),
+    /// The first word that isn't supported, in upper case.
+    Unsupported(Str),
+    /// The grammar has no such words.
+    Syntax,
+    /// The first column that is neither NOT NULL nor in a PRIMARY KEY: its table's name and its
+    /// own.
+    Nullable(Str, Str),
+    /// The tables are no schema.
+    Schema(SchemaFault),
+}
+
+impl From<LexFault> for DdlFault {
+    ghost from_gives = { λ fault told. told ≡ faults.Lex fault };
+
+    fn from(fault: LexFault) -> DdlFault {
+        DdlFault::Lex(fault)
+    }
+}
+
+impl From<Syntax> for DdlFault {
+    ghost from_gives = { λ _ told. told ≡ faults.Syntax };
+
+    fn from(_: Syntax) -> DdlFault {
+        DdlFault::Syntax
+    }
+}
+
+impl From<SchemaFault> for DdlFault {
+    ghost from_gives = { λ fault told. told ≡ faults.Schema fault };
+
+    fn from(fault: SchemaFault) -> DdlFault {
+        DdlFault::Schema(fault)
+    }
+}
