@@ -11,8 +11,8 @@ use Rattle.ba_policy.specs.declared.error.Kept.{Kept}
 use Rattle.ba_policy.specs.declared.error.Kept.TheVariants as kept
 use Rattle.ba_policy.specs.declared.error.PolicyFault.{PolicyFault}
 use Rattle.ba_policy.specs.declared.error.PolicyFault.TheVariants as policy
-use Rattle.ba_sql_ddl.specs.declared.error.DdlFault.{DdlFault}
-use Rattle.ba_sql_ddl.specs.declared.error.DdlFault.TheVariants as ddl
+use Rattle.ba_sql_ddl.specs.declared.fault.DdlFault.{DdlFault}
+use Rattle.ba_sql_ddl.specs.declared.fault.DdlFault.TheVariants as ddl
 use Rattle.ba_sql_query.specs.declared.fault.ReadQueryFault.{ReadQueryFault}
 use Rattle.ba_sql_query.specs.declared.fault.ReadQueryFault.TheVariants as query
 use Rattle.ba_tables.specs.declared.broken.TablesFault.{TablesFault}

@@ -1,9 +1,9 @@
-//! What stands at the front of words: names, words, lists.
+//! What stands at the front of words: names and lists.
 
 use super::cases::{Reading, Told, all_are_so};
-use ba_grammar::{Element, ReadError, all, any_word, lexemes, listed, name, number};
+use ba_grammar::{Element, Syntax, all, lexemes, listed, name, number};
 use ba_lex::{Lexeme, tokens};
-use ba_model::List;
+use ba_model::{Failure, List};
 use std::alloc::{AllocError, Global};
 use std::fmt::Write;
 use std::test::Fail;
@@ -22,13 +22,13 @@ struct Count {
 }
 
 impl Element for Count {
-    ghost use Rattle.ba_grammar.specs.Errors.{◌>>=◌};
+    ghost use Rattle.ba_model.specs.Readings.{◌>>=◌};
     ghost use Rattle.ba_grammar.specs.Front.{number_at};
     ghost use Rattle.std.specs.Prelude.{Ok};
 
     ghost read_at = { λ words. number_at words >>= λ n. Ok (record { count = n.0 }, n.1) };
 
-    fn read(_alloc: Global, words: &[Lexeme]) -> Result<(Count, &[Lexeme]), ReadError> {
+    fn read(_alloc: Global, words: &[Lexeme]) -> Result<(Count, &[Lexeme]), Failure<Syntax>> {
         let (count, rest) = number(words)?;
         Ok((Count { count }, rest))
     }
@@ -44,7 +44,6 @@ impl Reading for Fronts {
         let words = words.as_slice();
         match what {
             "name" => write!(told, "{:?}", name(alloc, words, &["FROM", "END"])),
-            "word" => write!(told, "{:?}", any_word(alloc, words)),
             "listed" => write!(told, "{:?}", listed::<Count>(alloc, words)),
             _ => write!(told, "{:?}", all::<Count>(alloc, words)),
         }
@@ -57,9 +56,6 @@ name frOm x
 name END
 name 5
 name
-word from 5 => Ok((Str { text: "from" }, [Number(5)]))
-word 5
-word "a"
 listed 1,-2; => Ok((List { items: [Count { count: 1 }, Count { count: -2 }] }, [Sign(Semicolon)]))
 listed 4 5 => Ok((List { items: [Count { count: 4 }] }, [Number(5)]))
 listed
@@ -72,5 +68,5 @@ all 1,2"#;
 
 #[test]
 fn fronts_of_words(rt: HostRuntime) -> Result<(), Fail> {
-    all_are_so(&rt, &Fronts, LINES, "Err(Syntax)")
+    all_are_so(&rt, &Fronts, LINES, "Err(Fault(Syntax))")
 }

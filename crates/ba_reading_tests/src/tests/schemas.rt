@@ -5,8 +5,8 @@
 use super::cases::{Reading, Told, all_are_so};
 use super::faults::write_ddl_fault;
 use super::standard::kind_word;
-use ba_model::{Column, Link, List, Schema, Table};
-use ba_sql_ddl::{DdlError, read_schema};
+use ba_model::{Column, Failure, Link, List, Schema, Table};
+use ba_sql_ddl::read_schema;
 use std::alloc::{AllocError, Global};
 use std::fmt::Write;
 use std::test::Fail;
@@ -81,8 +81,8 @@ impl Reading for Schemas {
     fn tell(&self, alloc: Global, text: &str, told: &mut String) -> Told {
         match read_schema(alloc, text.as_bytes()) {
             Ok(schema) => write_schema(told, &schema),
-            Err(DdlError::NoMemory) => Err(AllocError),
-            Err(DdlError::Fault(fault)) => write_ddl_fault(alloc, fault, told),
+            Err(Failure::NoMemory) => Err(AllocError),
+            Err(Failure::Fault(fault)) => write_ddl_fault(alloc, fault, told),
         }
     }
 }

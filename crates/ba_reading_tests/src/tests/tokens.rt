@@ -2,8 +2,8 @@
 
 use super::cases::{Reading, Told, all_are_so, bytes_of};
 use super::faults::write_lex_fault;
-use ba_lex::{LexError, Lexeme, Token, tokens, tokens_of_bytes};
-use ba_model::{List, Str};
+use ba_lex::{LexFault, Lexeme, Token, tokens, tokens_of_bytes};
+use ba_model::{Failure, List, Str};
 use std::alloc::{AllocError, Global};
 use std::fmt::Write;
 use std::test::Fail;
@@ -31,7 +31,11 @@ fn write_token(told: &mut String, n: usize, token: &Token) -> Told {
     write_lexeme(told, &token.lexeme)
 }
 
-fn write_tokens(alloc: Global, read: Result<List<Token>, LexError>, told: &mut String) -> Told {
+fn write_tokens(
+    alloc: Global,
+    read: Result<List<Token>, Failure<LexFault>>,
+    told: &mut String,
+) -> Told {
     match read {
         Ok(list) => {
             for (n, token) in list.as_slice().iter().enumerate() {
@@ -39,8 +43,8 @@ fn write_tokens(alloc: Global, read: Result<List<Token>, LexError>, told: &mut S
             }
             Ok(())
         }
-        Err(LexError::NoMemory) => Err(AllocError),
-        Err(LexError::Fault(fault)) => write_lex_fault(alloc, fault, told),
+        Err(Failure::NoMemory) => Err(AllocError),
+        Err(Failure::Fault(fault)) => write_lex_fault(alloc, fault, told),
     }
 }
 
