@@ -5,13 +5,11 @@ ghost use Rattle.ba_facts.specs.Laws.{with_lesson};
 ghost use Rattle.ba_facts.specs.Shown.{Absurd, Refutes, Shows, TheSame};
 
 use crate::knowledge::Knowledge;
+use crate::number::number_after;
 use crate::term::{Fact, Lesson, Side, Term, TermAtom};
 use ba_model::{Column, Duplicate, Kind, List, Shared};
 use std::alloc::{AllocError, Global};
 use std::mem;
-
-/// How many unknowns a branch may have, so that each has a number of 32 bits.
-const MOST_UNKNOWNS: usize = 0xffff_ffff;
 
 /// A case of a proof: facts about two databases, what is known of their terms, and the goal row,
 /// which is a row of the question on side One. The kinds are those of the parameters and variables.
@@ -39,7 +37,7 @@ impl Branch {
     }
 
     /// Adds a row of a table on a side, with a new unknown for each column. Without memory nothing
-    /// changes; more than 2^32 unknowns are told as want of memory.
+    /// changes; 2^32 unknowns or more are told as want of memory ([`number_after`]).
     pub fn add_fact(
         &mut self,
         alloc: Global,
@@ -55,9 +53,7 @@ impl Branch {
         ensures err { OnErr result (self.new ≡ self.old) }
     {
         let first = self.known.unknowns().len();
-        if first > MOST_UNKNOWNS || columns.len() > MOST_UNKNOWNS - first {
-            return Err(AllocError);
-        }
+        number_after(first, columns.len())?;
         let terms = unknown_terms(alloc, first, columns.len())?;
         let fact = Fact {
             side,

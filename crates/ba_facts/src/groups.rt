@@ -53,7 +53,7 @@ impl Groups {
     {
         match &mut self.classes {
             Some(classes) => classes.merge(a, b),
-            None => Err(AllocError),
+            None => unreachable!(),
         }
     }
 

@@ -163,8 +163,19 @@ fn copy_lessons(
     ensures { IfOk result (λ it. it.items ≡ lessons.now) }
 {
     let mut copies = Vec::new(alloc);
+    add_lessons(alloc, lessons, &mut copies)?;
+    Ok(copies)
+}
+
+fn add_lessons(
+    alloc: Global,
+    lessons: &[Shared<Lesson>],
+    copies: &mut Vec<Shared<Lesson>>,
+) -> Result<(), AllocError>
+    ensures { OnOk result (copies.new.items ≡ copies.old.items ++ lessons.now) }
+{
     for lesson in lessons {
         copies.push(lesson.copy(alloc)?)?;
     }
-    Ok(copies)
+    Ok(())
 }

@@ -1,4 +1,5 @@
 ghost use Rattle.std.specs.Prelude.{◌≡◌, ◌≤◌, ◌↔◌, IfOk, IsTrue, length, map, option_copied, option_map, slice_get};
+ghost use Rattle.ba_model.specs.declared.limits.TheConstants.{MAX_PART_TABLES};
 ghost use Rattle.ba_facts.specs.Known.{seen};
 ghost use Rattle.ba_facts.specs.Matches.{AreMatches, IsAnswered, IsLiveAtom, IsLiveOf, IsShown, IsUndecided, LeastRound, row_of, term_of, terms_at};
 
@@ -18,7 +19,7 @@ impl Branch {
     /// The mappings of the part's tables to facts of a side that are live: each `=` of the part is
     /// shown of the facts' terms, and no other atom is refuted. Each has its first atom that isn't
     /// shown. They rise by the facts' numbers from left to right. A fact or an atom in a mapping
-    /// whose number isn't below 2^32 is told as want of memory.
+    /// whose number isn't below 2^32 is told as want of memory ([`crate::number_of`]).
     pub fn matches(
         &self,
         alloc: Global,
@@ -117,7 +118,7 @@ impl Branch {
     /// Whether some facts of the side show all atoms of the part and give a head that is the same
     /// as a row, which is given as operands over other facts.
     pub fn is_answered(&self, part: &Part, side: Side, operands: &[Operand], facts: &[u32]) -> bool
-        requires { length part.now.from ≤ 8 }
+        requires { length part.now.from ≤ MAX_PART_TABLES }
         ensures { IsTrue result ↔ IsAnswered self.now side part.now (row_of self.now facts.now operands.now) }
     {
         let search = Search {
@@ -140,7 +141,7 @@ impl Branch {
         row: Option<&List<Term>>,
         atom: &TermAtom,
     ) -> Option<u32>
-        requires { length part.now.from ≤ 8 }
+        requires { length part.now.from ≤ MAX_PART_TABLES }
         ensures { LeastRound self.now (IsLiveAtom self.now side part.now (option_copied row.entry) atom.now) result }
     {
         let search = Search {

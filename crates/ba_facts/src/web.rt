@@ -1,5 +1,5 @@
 //! Numbered terms with their classes, marks and order.
-ghost use Rattle.std.specs.Prelude.{◌≡◌, ◌≢◌, ℕ, ℤ, pos, ◌<◌, ◌≤◌, ◌++◌, ◌∷◌, [], length, slice_get, slice_set, IsTrue, ◌↔◌, IfOk, OnOk, OnErr, Some, MatchOption};
+ghost use Rattle.std.specs.Prelude.{◌≡◌, ◌≢◌, ℕ, ℤ, pos, ◌+◌, ◌<◌, ◌≤◌, ◌^◌, ◌++◌, ◌∷◌, [], length, slice_get, slice_set, IsTrue, ◌↔◌, IfErr, IfOk, OnOk, OnErr, Some, MatchOption};
 ghost use Rattle.ba_classes.specs.Merged.{IsLabel};
 ghost use Rattle.ba_facts.specs.Known.{Known, DifferentLiterals, OneClass, ShownGap, ShownNotNull, seen};
 ghost use Rattle.ba_facts.specs.Knowing.{IsClashing, IsRising, IsThere, LessonIsThere};
@@ -17,6 +17,7 @@ use crate::groups::Groups;
 use crate::marking::{deny, mark_of, set_mark};
 use crate::marks::{Literals, Mark, Place, own_not_null, own_place};
 use crate::names::Names;
+use crate::number::number_after;
 use crate::rises::{agreed, raise, replace, rises};
 use crate::shared_order::SharedOrder;
 use crate::term::{Lesson, Sort, TermAtom, TermRef};
@@ -33,6 +34,16 @@ pub(crate) struct Web {
     order: SharedOrder,
     /// Whether some class has two literals.
     several: bool,
+}
+
+/// The number of the term that comes after so many: the order has a node for each, and one more. It
+/// takes no memory: exactly a number without such a node is told as want of memory.
+fn next_number(count: usize) -> Result<u32, AllocError>
+    ensures value { IfOk result (λ n. (n ≡ count) × (1 + count < 2 ^ 32)) }
+    ensures past { IfErr result (λ _. 2 ^ 32 ≤ 1 + count) }
+{
+    let next = number_after(count, 1)?;
+    Ok(next - 1)
 }
 
 impl Web {
@@ -80,13 +91,9 @@ impl Web {
         ensures kept { (k : Known) →
             k.unknowns ≡ unknowns.now → IsThere k (seen term.entry) → IsWeb k self.old → IsWeb k self.new }
     {
-        let count = self.names.len();
-        if count >= u32::MAX as usize {
-            return Err(AllocError);
-        }
-        let number = count as u32;
+        let number = next_number(self.names.len())?;
         self.classes.make_room(alloc, number)?;
-        self.marks.truncate(count);
+        self.marks.truncate(number as usize);
         self.marks.push(Mark::own(unknowns, number, term))?;
         self.names.add(term)?;
         Ok(number)

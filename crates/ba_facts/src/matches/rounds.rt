@@ -1,6 +1,7 @@
 //! The least round of the facts of a part under which an atom is one of the part's.
 ghost use Rattle.std.specs.Prelude.{◌≡◌, ◌↔◌, ◌+◌, ◌≤◌, [], Any, IsTrue, Some, length, map, option_copied, option_map, slice_get, unwrap_or};
 ghost use Rattle.std.specs.List.{AllZip};
+ghost use Rattle.ba_model.specs.declared.limits.TheConstants.{MAX_PART_TABLES};
 ghost use Rattle.arrayvec.specs.ArrayVec.{array_vec_len};
 ghost use Rattle.ba_facts.specs.Known.{seen};
 ghost use Rattle.ba_facts.specs.Matches.{AreTheSame, GivesAtom, HeadIs, LeastRound, round_of, row_of, term_of, terms_at};
@@ -9,7 +10,7 @@ ghost use Rattle.ba_facts.specs.Searching.{HasAtom, HasAtomFrom, lesser};
 use crate::matches::search::Search;
 use crate::term::{Term, TermAtom, TermRef};
 use arrayvec::ArrayVec;
-use ba_model::{Atom, List, Operand, Same};
+use ba_model::{Atom, List, MAX_PART_TABLES, Operand, Same};
 
 /// An atom, and a row that the head has to be the same as, if there is one.
 #[derive(Clone, Copy)]
@@ -24,10 +25,10 @@ impl<'a> Search<'a> {
     pub fn least_from(
         &self,
         from: &[u32],
-        chosen: &mut ArrayVec<usize, 8>,
+        chosen: &mut ArrayVec<usize, MAX_PART_TABLES>,
         given: &GivenAtom<'_>,
     ) -> Option<u32>
-        requires { array_vec_len chosen.old + length from.now ≤ 8 }
+        requires { array_vec_len chosen.old + length from.now ≤ MAX_PART_TABLES }
         ensures chosen { chosen.new.items ≡ chosen.old.items }
         ensures least { LeastRound self.now.branch.now (HasAtomFrom self.now.branch.now self.now.side self.now.part.now self.now.wanted (option_copied given.now.row) given.now.atom.now from.now chosen.old.items) result }
     {

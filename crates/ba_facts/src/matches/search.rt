@@ -1,14 +1,16 @@
 //! The search for facts of a side, one for each table of a part.
 ghost use Rattle.std.specs.Prelude.{◌≡◌, ◌↔◌, ◌+◌, ◌≤◌, [], IfOk, IsTrue, OnOk, length, map};
 ghost use Rattle.std.specs.List.{AllZip};
+ghost use Rattle.ba_model.specs.declared.limits.TheConstants.{MAX_PART_TABLES};
 ghost use Rattle.arrayvec.specs.ArrayVec.{array_vec_len};
 ghost use Rattle.ba_facts.specs.Matches.{AreTheSame, IsFactOf, IsUndecided, row_of, term_of, terms_at};
 ghost use Rattle.ba_facts.specs.Searching.{AddsThose, Completes, IsAnsweredFrom};
 
 use crate::branch::Branch;
+use crate::number::number_of;
 use crate::term::{Mapping, Side};
 use arrayvec::ArrayVec;
-use ba_model::{List, Operand, Part};
+use ba_model::{List, MAX_PART_TABLES, Operand, Part};
 use std::alloc::{AllocError, Global};
 
 /// What an atom has to be: `Live`, an `=` that is shown or another that isn't refuted, or `Shown`.
@@ -66,8 +68,13 @@ impl<'a> Search<'a> {
 
     /// Whether the chosen facts and one fact of each further table give a head that is the same as
     /// the row.
-    pub fn finds(&self, from: &[u32], chosen: &mut ArrayVec<usize, 8>, row: &GivenRow<'_>) -> bool
-        requires { array_vec_len chosen.old + length from.now ≤ 8 }
+    pub fn finds(
+        &self,
+        from: &[u32],
+        chosen: &mut ArrayVec<usize, MAX_PART_TABLES>,
+        row: &GivenRow<'_>,
+    ) -> bool
+        requires { array_vec_len chosen.old + length from.now ≤ MAX_PART_TABLES }
         ensures chosen { chosen.new.items ≡ chosen.old.items }
         ensures found { IsTrue result ↔ IsAnsweredFrom self.now.branch.now self.now.side self.now.part.now self.now.wanted (row_of self.now.branch.now row.now.facts.now row.now.operands.now) from.now chosen.old.items }
     {
@@ -116,10 +123,7 @@ impl<'a> Search<'a> {
     {
         match self.branch.first_hidden(self.part.conds.as_slice(), facts) {
             None => Ok(None),
-            Some(number) => match u32::try_from(number) {
-                Ok(number) => Ok(Some(number)),
-                Err(_) => Err(AllocError),
-            },
+            Some(number) => Ok(Some(number_of(number)?)),
         }
     }
 
@@ -182,10 +186,7 @@ fn numbers_of(alloc: Global, chosen: &[usize]) -> Result<List<u32>, AllocError>
 {
     let mut numbers = Vec::new(alloc);
     for number in chosen {
-        match u32::try_from(*number) {
-            Ok(number) => numbers.push(number)?,
-            Err(_) => return Err(AllocError),
-        }
+        numbers.push(number_of(*number)?)?;
     }
     Ok(List::from_vec(numbers))
 }
