@@ -13,8 +13,8 @@ use Rattle.ba_kernel.specs.Courses.{AllClosed, ProblemFits, Runs, Slots, Takes, 
 use Rattle.ba_kernel.specs.Replays.{Closes, HasFault, RefusesAt, ReplaysHaveOneEnd}
 use Rattle.ba_kernel.specs.Tests.{IsRefusedAt, open_at}
 use Rattle.ba_kernel.specs.declared.problem.Problem.{Problem}
-use Rattle.ba_kernel.specs.declared.replay.ReplayFault.{ReplayFault}
-use Rattle.ba_kernel.specs.declared.replay.ReplayFault.TheVariants.{Refused, Open}
+use Rattle.ba_kernel.specs.declared.replaying.ReplayFault.{ReplayFault}
+use Rattle.ba_kernel.specs.declared.replaying.ReplayFault.TheVariants.{Refused, Open}
 use Rattle.ba_kernel.specs.declared.step.Step.{Step}
 use Rattle.ba_kernel.specs.declared.step.StepFault.{StepFault}
 

@@ -4,13 +4,14 @@ use Rattle.std.specs.Iterator.{Yields}
 use Rattle.std.specs.Prelude.{Option, Some, Err, slice_get}
 use Rattle.std.specs.Vec.Iter.{into_iter_items, into_iter_steps}
 use Rattle.std.specs.declared.vec.IntoIter.{IntoIter}
+use Rattle.ba_model.specs.declared.failure.Failure.{Failure}
+use Rattle.ba_model.specs.declared.failure.Failure.TheVariants.{NoMemory, Fault}
 use Rattle.ba_kernel.specs.Courses.{AllClosed, Runs, branch_of}
-use Rattle.ba_kernel.specs.Replays.{Closes, IsNextRefused, RefusesAt, Replays, StaysOpen}
-use Rattle.ba_kernel.specs.Tests.{Course, IsCourse, IsRefusedAt, open_at}
+use Rattle.ba_kernel.specs.Replays.{Closes, IsNextRefused, RefusesAt, Replays, StaysOpen, WantsMemory}
+use Rattle.ba_kernel.specs.Tests.{Course, IsCourse, IsPassed, IsRefusedAt, open_at}
 use Rattle.ba_kernel.specs.declared.problem.Problem.{Problem}
-use Rattle.ba_kernel.specs.declared.replay.ReplayError.{ReplayError}
-use Rattle.ba_kernel.specs.declared.replay.ReplayError.TheVariants.{NoMemory, Fault}
-use Rattle.ba_kernel.specs.declared.replay.ReplayFault.TheVariants.{Refused, Open}
+use Rattle.ba_kernel.specs.declared.replaying.ReplayFault.{ReplayFault}
+use Rattle.ba_kernel.specs.declared.replaying.ReplayFault.TheVariants.{Refused, Open}
 use Rattle.ba_kernel.specs.declared.step.Step.{Step}
 use Rattle.ba_kernel.specs.declared.step.StepFault.{StepFault}
 
@@ -51,12 +52,18 @@ refused_next c rest step number fault course number_is refused =
       refused = refused;
     }
 
-error_next : (c : Course) (rest : List Step) (step : Step) (e : ReplayError) → IsNextRefused c step e → Replays c.problem (c.steps ++ step ∷ rest) (Err e)
-error_next c rest step NoMemory h = tt
+-- memory is wanting for the next step of a course
+wanting_next : (c : Course) (rest : List Step) (step : Step) → IsCourse c → IsPassed c step → WantsMemory c.problem (c.steps ++ step ∷ rest)
+wanting_next c rest step course passed =
+    WantsMemory.for_step {slots = c.slots} {step = step} (length c.steps) (subst (λ xs. Runs c.problem xs c.slots) (sym (front_is c.steps (step ∷ rest))) course.runs)
+    (next_at c.steps rest step) passed
+
+error_next : (c : Course) (rest : List Step) (step : Step) (e : Failure ReplayFault) → IsNextRefused c step e → Replays c.problem (c.steps ++ step ∷ rest) (Err e)
+error_next c rest step NoMemory (course, passed) = wanting_next c rest step course passed
 error_next c rest step (Fault Open) h = absurd h
 error_next c rest step (Fault (Refused number fault)) (course, number_is, refused) = refused_next c rest step number fault course number_is refused
 
-pub refused : (c : Course) (p : Problem) (steps yielded rest : List Step) (step : Step) (e : ReplayError) → c.problem ≡ p → c.steps ≡ yielded →
+pub refused : (c : Course) (p : Problem) (steps yielded rest : List Step) (step : Step) (e : Failure ReplayFault) → c.problem ≡ p → c.steps ≡ yielded →
     steps ≡ yielded ++ step ∷ rest → IsNextRefused c step e → Replays p steps (Err e)
 refused c p steps yielded rest step e of so_far whole h =
     let all : c.steps ++ step ∷ rest ≡ steps = ap (λ xs. xs ++ step ∷ rest) so_far ∙ sym whole in

@@ -1,12 +1,12 @@
 -- What steps come to where they are taken in turn from a problem's start.
-use Rattle.std.specs.Prelude.{◌≡◌, ℕ, List, length, take, Some, slice_get, Result, Ok, Err}
+use Rattle.std.specs.Prelude.{◌≡◌, ◌≢◌, ℕ, List, [], length, take, Some, slice_get, Result, Ok, Err}
+use Rattle.ba_model.specs.declared.failure.Failure.{Failure}
+use Rattle.ba_model.specs.declared.failure.Failure.TheVariants.{NoMemory, Fault}
 use Rattle.ba_kernel.specs.Courses.{AllClosed, ProblemFits, Runs, Slots, branch_of}
-use Rattle.ba_kernel.specs.Tests.{Course, IsCourse, IsRefused, IsRefusedAt, Proof, open_at}
+use Rattle.ba_kernel.specs.Tests.{Course, IsCourse, IsPassed, IsRefused, IsRefusedAt, PassesAt, Proof, open_at}
 use Rattle.ba_kernel.specs.declared.problem.Problem.{Problem}
-use Rattle.ba_kernel.specs.declared.replay.ReplayError.{ReplayError}
-use Rattle.ba_kernel.specs.declared.replay.ReplayError.TheVariants.{NoMemory, Fault}
-use Rattle.ba_kernel.specs.declared.replay.ReplayFault.{ReplayFault}
-use Rattle.ba_kernel.specs.declared.replay.ReplayFault.TheVariants.{Refused, Open}
+use Rattle.ba_kernel.specs.declared.replaying.ReplayFault.{ReplayFault}
+use Rattle.ba_kernel.specs.declared.replaying.ReplayFault.TheVariants.{Refused, Open}
 use Rattle.ba_kernel.specs.declared.step.Step.{Step}
 use Rattle.ba_kernel.specs.declared.step.StepFault.{StepFault}
 
@@ -34,10 +34,16 @@ abbrev pub HasFault : Problem → List Step → ReplayFault → Type 0
 HasFault p steps (Refused number fault) = RefusesAt p steps number fault
 HasFault p steps Open = StaysOpen p steps
 
--- the answer is the proof that the steps are, or a fault that they have; or want of memory
-abbrev pub Replays : Problem → List Step → Result Proof ReplayError → Type 0
+-- memory is wanting: for the start, which takes none where the goal has no part, or for a step that passes its tests after those before it
+pub data WantsMemory (p : Problem) (steps : List Step) : Type 0 where
+  for_start : p.goal.parts ≢ [] → WantsMemory p steps
+  for_step : {slots : Slots} {step : Step} (number : ℕ) → Runs p (take number steps) slots → slice_get steps number ≡ Some step →
+      PassesAt p (open_at slots (branch_of step)) step → WantsMemory p steps
+
+-- the answer is the proof that the steps are, or a fault that they have; or memory is wanting
+abbrev pub Replays : Problem → List Step → Result Proof (Failure ReplayFault) → Type 0
 Replays p steps (Ok proof) = Closes p steps × (proof ≡ record { problem = p; steps = steps })
-Replays p steps (Err NoMemory) = Unit {0}
+Replays p steps (Err NoMemory) = WantsMemory p steps
 Replays p steps (Err (Fault fault)) = HasFault p steps fault
 
 -- ---- the law
@@ -52,8 +58,8 @@ ReplaysHaveOneEnd = (p : Problem) (steps : List Step) → ProblemFits p → HasO
 
 -- ---- one step
 
--- the next step of a course is refused with the fault, which has its number; or memory is wanting
-abbrev pub IsNextRefused : Course → Step → ReplayError → Type 0
-IsNextRefused c step NoMemory = Unit {0}
+-- the next step of a course is refused with the fault, which has its number; or memory is wanting for it, and it passes its tests
+abbrev pub IsNextRefused : Course → Step → Failure ReplayFault → Type 0
+IsNextRefused c step NoMemory = IsCourse c × IsPassed c step
 IsNextRefused c step (Fault Open) = ⊥
 IsNextRefused c step (Fault (Refused number fault)) = IsCourse c × (number ≡ length c.steps) × IsRefused c step fault

@@ -2,6 +2,9 @@
 use Rattle.std.specs.Prelude.{◌≡◌, ℕ, ◌+◌, ◌*◌, List, [], ◌∷◌, All, length, map, Option, Some, None, slice_get, option_and_then, Result, Ok, Err, ⊤, ◌≤◌}
 use Rattle.std.specs.List.{AllZip, zip}
 use Rattle.ba_model.specs.Fit.{kinds_of}
+use Rattle.ba_model.specs.declared.failure.Failure.{Failure}
+use Rattle.ba_model.specs.declared.failure.Failure.TheVariants.{NoMemory, Fault}
+use Rattle.ba_model.specs.declared.limits.TheConstants.{MAX_BUDGET, MAX_PARTS}
 use Rattle.ba_model.specs.declared.query.Part.{Part}
 use Rattle.ba_model.specs.declared.schema.Kind.{Kind}
 use Rattle.ba_model.specs.declared.schema.Link.{Link}
@@ -26,8 +29,6 @@ use Rattle.ba_kernel.specs.declared.problem.Problem.{Problem}
 use Rattle.ba_kernel.specs.declared.problem.ProblemEntry.{ProblemEntry}
 use Rattle.ba_kernel.specs.declared.step.Step.{Step}
 use Rattle.ba_kernel.specs.declared.step.Step.TheVariants as steps
-use Rattle.ba_kernel.specs.declared.step.StepError.{StepError}
-use Rattle.ba_kernel.specs.declared.step.StepError.TheVariants.{NoMemory, Fault}
 use Rattle.ba_kernel.specs.declared.step.StepFault.{StepFault}
 use Rattle.ba_kernel.specs.declared.step.StepFault.TheVariants.{NoBranch, BadRule, NotAbsurd}
 
@@ -118,11 +119,11 @@ pub record Course : Type 0 where
   pub steps : List Step
   pub slots : Slots
 
--- the problem fits, the steps are at most 100,000 and are accepted from its start, and it and each of them gave at most 32 numbers
+-- the problem fits, the steps are within the limit and are accepted from its start, and the start and each step gave a number for each part of a query at most
 pub record IsCourse (c : Course) : Type 0 where
   pub fits : ProblemFits c.problem
-  pub few : length c.steps ≤ 100000
-  pub numbers : length c.slots ≤ 32 * (1 + length c.steps)
+  pub few : length c.steps ≤ MAX_BUDGET
+  pub numbers : length c.slots ≤ MAX_PARTS * (1 + length c.steps)
   pub runs : Runs c.problem c.steps c.slots
 
 -- the branch of the number, if it is open
@@ -137,9 +138,17 @@ IsRefusedAt p (Some b) step fault = Refuses p b step fault
 abbrev pub IsRefused : Course → Step → StepFault → Type 0
 IsRefused c step fault = IsRefusedAt c.problem (open_at c.slots (branch_of step)) step fault
 
--- the error is want of memory, or this fault of the step
-abbrev pub IsErrorOf : Course → Step → StepError → Type 0
-IsErrorOf c step NoMemory = Unit {0}
+-- there is a branch, and the step passes its tests on it
+abbrev pub PassesAt : Problem → Option Branch → Step → Type 0
+PassesAt p None step = ⊥
+PassesAt p (Some b) step = Passes p b step
+
+abbrev pub IsPassed : Course → Step → Type 0
+IsPassed c step = PassesAt c.problem (open_at c.slots (branch_of step)) step
+
+-- memory is wanting for a step that passes its tests, or the step has this fault
+abbrev pub IsErrorOf : Course → Step → Failure StepFault → Type 0
+IsErrorOf c step NoMemory = IsPassed c step
 IsErrorOf c step (Fault fault) = IsRefused c step fault
 
 -- there is a branch, and the step leads to the cases
@@ -156,10 +165,10 @@ abbrev pub other_cases : List Branch → List (Option Branch)
 other_cases [] = []
 other_cases (b ∷ others) = map Some others
 
--- a problem and steps that are accepted from its start, leave no branch open, and are at most 100,000; each instance of the problem is strongly compliant
+-- a problem and steps that are accepted from its start, leave no branch open, and are within the limit; each instance of the problem is strongly compliant
 pub record IsProved (p : Problem) (taken : List Step) : Type 0 where
   pub strong : StrongAll p
-  pub few : length taken ≤ 100000
+  pub few : length taken ≤ MAX_BUDGET
   pub slots : Slots
   pub runs : Runs p taken slots
   pub closed : AllClosed slots

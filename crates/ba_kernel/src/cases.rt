@@ -14,11 +14,11 @@ use crate::cases::entry::{entry_cases, rule_cases, view_cases};
 use crate::cases::equal::{key_cases, link_cases, split_cases};
 use crate::problem::Problem;
 use crate::step::Step;
-use ba_facts::branch::Branch;
+use ba_facts::Branch;
 use std::alloc::{AllocError, Global};
 
-/// The cases that a step, which passes its tests, makes of a branch: they take its place. More than
-/// 2^32 facts or unknowns, or a round past 32 bits, are told as want of memory.
+/// The cases that a step, which passes its tests, makes of a branch: they take its place. Facts,
+/// unknowns or rounds past the numbers of 32 bits are told as want of memory.
 pub fn cases_of(
     alloc: Global,
     problem: &Problem,

@@ -2,8 +2,7 @@
 ghost use Rattle.std.specs.Prelude.{◌≡◌, ◌<◌, Some, length, slice_get};
 ghost use Rattle.std.specs.Option.{option_copied};
 
-use ba_facts::branch::Branch;
-use ba_facts::term::Fact;
+use ba_facts::{Branch, Fact};
 
 /// The fact of the number, which is there.
 pub fn fact_at(branch: &Branch, number: usize) -> &Fact

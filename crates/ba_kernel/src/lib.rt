@@ -1,7 +1,7 @@
 //! The proof kernel: problems, the steps of a derivation, and what a derivation proves.
 //!
-//! A [`search::Search`] keeps the cases of a proof as branches, and keeps in its type that every
-//! two databases that break strong compliance fit one of them. A [`proved::Proved`] is a search that
+//! A [`Search`] keeps the cases of a proof as branches, and keeps in its type that every
+//! two databases that break strong compliance fit one of them. A [`Proved`] is a search that
 //! has none left (the condition is that of Blockaid, OSDI 2022).
 #![tactic(auto)]
 
@@ -10,9 +10,15 @@ mod fact;
 pub mod laws;
 mod news;
 mod passes;
-pub mod problem;
-pub mod proved;
-pub mod replay;
-pub mod search;
+mod problem;
+mod proved;
+mod replaying;
+mod search;
 mod start;
-pub mod step;
+mod step;
+
+pub use problem::{Problem, ProblemEntry};
+pub use proved::Proved;
+pub use replaying::{ReplayFault, replay};
+pub use search::Search;
+pub use step::{Step, StepFault};

@@ -15,7 +15,7 @@ use crate::news::split::told_split;
 use crate::passes::tested;
 use crate::problem::Problem;
 use crate::step::Step;
-use ba_facts::branch::Branch;
+use ba_facts::Branch;
 
 /// The round of the step, if it is new: it passes its tests on the branch and tells it what it
 /// doesn't have yet.

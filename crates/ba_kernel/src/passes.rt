@@ -14,7 +14,7 @@ use crate::passes::row::{test_key, test_link};
 use crate::passes::split::test_split;
 use crate::problem::Problem;
 use crate::step::{Step, StepFault};
-use ba_facts::branch::Branch;
+use ba_facts::Branch;
 
 /// Whether the step passes its tests on a branch, or else the fault of the first that fails.
 pub fn tested(problem: &Problem, branch: &Branch, step: &Step) -> Result<(), StepFault>

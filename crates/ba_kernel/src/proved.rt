@@ -1,4 +1,5 @@
 ghost use Rattle.std.specs.Prelude.{◌≡◌, ◌≤◌, length};
+ghost use Rattle.ba_model.specs.declared.limits.TheConstants.{MAX_BUDGET};
 ghost use Rattle.ba_kernel.specs.Courses.{AllClosed, ProblemFits, Runs};
 ghost use Rattle.ba_kernel.specs.Problems.{StrongAll};
 ghost use Rattle.ba_kernel.specs.Tests.{IsProved};
@@ -6,15 +7,15 @@ ghost use Rattle.ba_kernel.specs.Tests.{IsProved};
 use crate::laws::closed_is_strong;
 use crate::problem::Problem;
 use crate::step::Step;
-use ba_facts::branch::Branch;
+use ba_facts::Branch;
 use ba_model::List;
 use std::marker::Model;
 
 /// A problem and steps that prove it.
 ///
-/// The type keeps that the steps are at most 100,000, are accepted from the problem's start and
+/// The type keeps that the steps are at most [`ba_model::MAX_BUDGET`], are accepted from the problem's start and
 /// leave no branch open, and that every instance of the problem is strongly compliant. Nothing but
-/// [`crate::search::Search::close`] makes one.
+/// [`crate::Search::close`] makes one.
 #[derive(Drop)]
 pub struct Proved {
     problem: Problem,
@@ -39,7 +40,7 @@ impl Proved {
         slots: Vec<Option<Branch>>,
     ) -> Proved
         requires fits { ProblemFits problem }
-        requires few { length steps ≤ 100000 }
+        requires few { length steps ≤ MAX_BUDGET }
         requires runs { Runs problem steps slots.items }
         requires closed { AllClosed slots.items }
         ensures { result ≡ record { problem = problem; steps = steps } }

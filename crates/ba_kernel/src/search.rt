@@ -1,8 +1,9 @@
-ghost use Rattle.std.specs.Prelude.{◌≡◌, ◌∷◌, ◌++◌, ◌<◌, ◌^◌, ◌↔◌, [], length, map, IfOk, IfErr, IsOk, IsTrue, OnOk, OnErr};
+ghost use Rattle.std.specs.Prelude.{◌≡◌, ◌≢◌, ◌∷◌, ◌++◌, ◌<◌, ◌^◌, ◌↔◌, [], length, map, IfOk, IfErr, IsOk, IsTrue, OnOk, OnErr};
 ghost use Rattle.std.specs.Option.{option_copied};
+ghost use Rattle.ba_model.specs.declared.limits.TheConstants.{MAX_BUDGET};
 ghost use Rattle.ba_kernel.specs.Courses.{AllClosed, IsStart, ProblemFits, Takes, after, branch_of};
 ghost use Rattle.ba_kernel.specs.News.{IsNewAt, IsNewRound};
-ghost use Rattle.ba_kernel.specs.Tests.{IsCourse, IsErrorOf, LeadsAt, first_case, open_at, other_cases};
+ghost use Rattle.ba_kernel.specs.Tests.{IsCourse, IsErrorOf, IsPassed, LeadsAt, first_case, open_at, other_cases};
 
 use crate::cases::cases_of;
 use crate::laws::runs_are_tidy;
@@ -11,9 +12,9 @@ use crate::passes::tested;
 use crate::problem::Problem;
 use crate::proved::Proved;
 use crate::start::start_branches;
-use crate::step::{Step, StepError, StepFault};
-use ba_facts::branch::Branch;
-use ba_model::List;
+use crate::step::{Step, StepFault};
+use ba_facts::Branch;
+use ba_model::{Failure, List};
 use std::alloc::{AllocError, Global};
 use std::marker::Model;
 
@@ -42,12 +43,14 @@ impl Model for Search {
 
 impl Search {
     /// The start of a problem's derivation: for each part of the goal a branch, in which the part
-    /// gives the goal row on side One and what is assumed is true.
+    /// gives the goal row on side One and what is assumed is true. It takes no memory where the goal
+    /// has no part.
     pub fn start(alloc: Global, problem: Problem) -> Result<Search, AllocError>
         requires { ProblemFits problem }
         ensures problem { IfOk result (λ it. it.problem ≡ problem) }
         ensures steps { IfOk result (λ it. it.steps ≡ []) }
         ensures slots { IfOk result (λ it. IsStart problem it.slots) }
+        ensures err { IfErr result (λ _. problem.goal.parts ≢ []) }
     {
         let slots = start_branches(alloc, &problem)?;
         Ok(Search {
@@ -60,10 +63,11 @@ impl Search {
     /// Takes a step, if it passes its tests.
     ///
     /// The cases that it leads to take the branch's place: the first keeps its number, and the others
-    /// get the next ones. Else `Fault` says which test fails first, or `NoMemory` that there is no
-    /// memory for the cases; then the search is as before, and the step is dropped.
-    pub fn apply(&mut self, alloc: Global, step: Step) -> Result<(), StepError>
-        requires { length self.old.steps < 100000 }
+    /// get the next ones. Else `Fault` says which test fails first, or `NoMemory` that the step passes
+    /// its tests and there is no memory for the cases; then the search is as before, and the step is
+    /// dropped.
+    pub fn apply(&mut self, alloc: Global, step: Step) -> Result<(), Failure<StepFault>>
+        requires { length self.old.steps < MAX_BUDGET }
         ensures taken { OnOk result (Takes self.old.problem self.old.slots step self.new.slots) }
         ensures steps { OnOk result (self.new.steps ≡ self.old.steps ++ step ∷ []) }
         ensures problem { OnOk result (self.new.problem ≡ self.old.problem) }
@@ -76,23 +80,24 @@ impl Search {
     }
 
     // The cases that a step leads to, if it passes its tests on an open branch.
-    fn cases(&self, alloc: Global, step: &Step) -> Result<Vec<Branch>, StepError>
+    fn cases(&self, alloc: Global, step: &Step) -> Result<Vec<Branch>, Failure<StepFault>>
         ensures ok { IfOk result (λ cases. LeadsAt self.now.problem (open_at self.now.slots (branch_of step.now)) step.now cases.items) }
+        ensures passed { IfOk result (λ _. IsPassed self.now step.now) }
         ensures err { IfErr result (IsErrorOf self.now step.now) }
     {
         runs_are_tidy();
         match self.branch(step.branch()) {
             Some(branch) => match tested(&self.problem, branch, step) {
                 Ok(()) => Ok(cases_of(alloc, &self.problem, branch, step)?),
-                Err(fault) => Err(StepError::Fault(fault)),
+                Err(fault) => Err(Failure::Fault(fault)),
             },
-            None => Err(StepError::Fault(StepFault::NoBranch)),
+            None => Err(Failure::Fault(StepFault::NoBranch)),
         }
     }
 
     // Puts the cases that a step leads to in its branch's place. Without memory nothing changes.
     fn put(&mut self, alloc: Global, step: Step, cases: Vec<Branch>) -> Result<(), AllocError>
-        requires few { length self.old.steps < 100000 }
+        requires few { length self.old.steps < MAX_BUDGET }
         requires leads { LeadsAt self.old.problem (open_at self.old.slots (branch_of step)) step cases.items }
         ensures slots { OnOk result (self.new.slots ≡ after self.old.slots (branch_of step) cases.items) }
         ensures steps { OnOk result (self.new.steps ≡ self.old.steps ++ step ∷ []) }
@@ -134,7 +139,8 @@ impl Search {
         &self.problem
     }
 
-    /// The steps that were accepted, the first one first. They are at most 100,000, and leave these
+    /// The steps that were accepted, the first one first. They are at most
+    /// [`ba_model::MAX_BUDGET`], and leave these
     /// branches.
     pub fn steps(&self) -> &List<Step>
         ensures is { result.now ≡ self.now.steps }

@@ -1,5 +1,5 @@
 //! The branches of a problem's start.
-ghost use Rattle.std.specs.Prelude.{◌≡◌, IfOk, map};
+ghost use Rattle.std.specs.Prelude.{◌≡◌, ◌≢◌, [], IfErr, IfOk, map};
 ghost use Rattle.std.specs.List.{AllZip};
 ghost use Rattle.ba_model.specs.Fit.{kinds_of};
 ghost use Rattle.ba_kernel.specs.Courses.{IsStart, IsStartOf, ProblemFits, nothing_known};
@@ -8,19 +8,19 @@ ghost use Rattle.ba_kernel.specs.Tidy.{IsPartOf};
 use crate::cases::build::{add_facts, assume_all, numbers_from};
 use crate::cases::terms::operand_row;
 use crate::problem::Problem;
-use ba_facts::branch::Branch;
-use ba_facts::term::Side;
+use ba_facts::{Branch, Side};
 use ba_model::{Kind, List, Parameter, Part, Shared};
 use std::alloc::{AllocError, Global};
 
 /// For each part of the goal a branch, in which the part gives the goal row and what is assumed is
-/// true. More than 2^32 unknowns are told as want of memory.
+/// true. 2^32 unknowns or more are told as want of memory.
 pub fn start_branches(alloc: Global, problem: &Problem) -> Result<Vec<Option<Branch>>, AllocError>
     requires { ProblemFits problem.now }
-    ensures { IfOk result (λ slots. IsStart problem.now slots.items) }
+    ensures start { IfOk result (λ slots. IsStart problem.now slots.items) }
+    ensures err { IfErr result (λ _. problem.now.goal.parts ≢ []) }
 {
     let mut slots = Vec::new(alloc);
-    for part in problem.goal.parts.as_slice() {
+    for part in problem.goal_parts() {
         slots.push(Some(part_start(alloc, problem, part)?))?;
     }
     Ok(slots)
@@ -32,7 +32,6 @@ fn part_start(alloc: Global, problem: &Problem, part: &Part) -> Result<Branch, A
     requires part { IsPartOf problem.now part.now }
     ensures { IfOk result (IsStartOf problem.now part.now) }
 {
-    let schema = &problem.policy.schema;
     let numbers = numbers_from(alloc, 0, part.from.len())?;
     let facts = numbers.as_slice();
     let from = part.from.as_slice();
@@ -40,7 +39,7 @@ fn part_start(alloc: Global, problem: &Problem, part: &Part) -> Result<Branch, A
     let head = part.head.as_slice();
     let assumed = problem.assumed.as_slice();
     let mut new = nothing(alloc, problem)?;
-    add_facts(alloc, schema, &mut new, Side::One, 0, from)?;
+    add_facts(alloc, problem, &mut new, Side::One, 0, from)?;
     let goal = operand_row(alloc, &new, facts, head)?;
     assume_all(alloc, &mut new, facts, conds)?;
     assume_all(alloc, &mut new, &[], assumed)?;
@@ -52,27 +51,19 @@ fn part_start(alloc: Global, problem: &Problem, part: &Part) -> Result<Branch, A
 fn nothing(alloc: Global, problem: &Problem) -> Result<Branch, AllocError>
     ensures { IfOk result (λ it. it ≡ nothing_known problem.now) }
 {
-    let params = param_kinds(alloc, problem.policy.params.as_slice())?;
+    let params = param_kinds(alloc, problem.params())?;
     let vars = copy_kinds(alloc, problem.vars.as_slice())?;
-    Branch::new(alloc, params, vars)
+    Branch::new(alloc, List::from_vec(params), vars)
 }
 
-fn param_kinds(alloc: Global, params: &[Parameter]) -> Result<List<Kind>, AllocError>
-    ensures { IfOk result (λ kinds. kinds ≡ kinds_of params.now) }
+fn param_kinds(alloc: Global, params: &[Parameter]) -> Result<Vec<Kind>, AllocError>
+    ensures { IfOk result (λ kinds. kinds.items ≡ kinds_of params.now) }
 {
-    let mut kinds = Vec::new(alloc);
-    for param in params {
-        kinds.push(param.kind)?;
-    }
-    Ok(List::from_vec(kinds))
+    params.iter().map(|param| param.kind).collect(alloc)
 }
 
 fn copy_kinds(alloc: Global, kinds: &[Kind]) -> Result<List<Kind>, AllocError>
     ensures { IfOk result (λ other. other ≡ kinds.now) }
 {
-    let mut all = Vec::new(alloc);
-    for kind in kinds {
-        all.push(*kind)?;
-    }
-    Ok(List::from_vec(all))
+    Ok(List::from_vec(Vec::from_slice(alloc, kinds)?))
 }

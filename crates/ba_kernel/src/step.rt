@@ -2,12 +2,9 @@
 
 ghost use Rattle.std.specs.Prelude.{◌≡◌};
 ghost use Rattle.ba_kernel.specs.Courses.{branch_of};
-ghost use Rattle.ba_kernel.specs.declared.step.StepError.TheVariants.{NoMemory};
 
-use ba_facts::term::TermAtom;
+use ba_facts::TermAtom;
 use ba_model::List;
-use std::alloc::{AllocError, AllocFailed};
-use thiserror::Error;
 
 /// A step on an open branch.
 #[derive(Debug, Drop)]
@@ -76,31 +73,6 @@ pub enum StepFault {
     /// The head differs from the goal row in the column of this number.
     HeadDiffers(u64),
     NotAbsurd,
-}
-
-/// Why a step wasn't taken: want of memory, or a fault of its own.
-#[derive(Debug, Drop, Error)]
-pub enum StepError {
-    #[error("out of memory")]
-    NoMemory,
-    #[error("step refused")]
-    Fault(StepFault),
-}
-
-impl From<AllocError> for StepError {
-    ghost from_gives = { λ _ e. e ≡ NoMemory };
-
-    fn from(_e: AllocError) -> StepError {
-        StepError::NoMemory
-    }
-}
-
-impl<T: Drop> From<AllocFailed<T>> for StepError {
-    ghost from_gives = { λ _ e. e ≡ NoMemory };
-
-    fn from(_e: AllocFailed<T>) -> StepError {
-        StepError::NoMemory
-    }
 }
 
 impl Step {

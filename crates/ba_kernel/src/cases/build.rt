@@ -1,20 +1,19 @@
 //! The case of a part: a branch with its facts and lessons added.
 ghost use Rattle.std.specs.Prelude.{◌≡◌, All, IfOk, OnOk, length, map};
 ghost use Rattle.std.specs.List.{AllZip, range_with_len, zip};
-ghost use Rattle.ba_model.specs.SchemaFaults.{columns_of};
 ghost use Rattle.ba_kernel.specs.Effects.{IsCase, lesson_of, rows_at, same_of, with_facts};
 ghost use Rattle.ba_kernel.specs.Tidy.{FactsAreThere, HasTerm, HasTerms, IsPartFor, IsReady, Learns, TermsAreThere};
 
 use crate::cases::terms::operand_term;
-use ba_facts::branch::Branch;
-use ba_facts::term::{Side, Term, TermAtom};
-use ba_model::{Atom, Column, Duplicate, Operand, Part, Schema};
+use crate::problem::Problem;
+use ba_facts::{Branch, Side, Term, TermAtom, number_after};
+use ba_model::{Atom, Duplicate, Operand, Part};
 use std::alloc::{AllocError, Global};
 
 /// For each of the parts the case where it gives the row.
 pub fn part_cases(
     alloc: Global,
-    schema: &Schema,
+    problem: &Problem,
     old: &Branch,
     side: Side,
     round: u32,
@@ -22,12 +21,12 @@ pub fn part_cases(
     parts: &[Part],
 ) -> Result<Vec<Branch>, AllocError>
     requires ready { IsReady old.now row.now }
-    requires fits { All (IsPartFor schema.now (length row.now)) parts.now }
-    ensures { IfOk result (λ cases. AllZip (IsCase schema.now old.now side round row.now) parts.now cases.items) }
+    requires fits { All (IsPartFor problem.now.policy.schema (length row.now)) parts.now }
+    ensures { IfOk result (λ cases. AllZip (IsCase problem.now.policy.schema old.now side round row.now) parts.now cases.items) }
 {
     let mut cases = Vec::new(alloc);
     for part in parts {
-        cases.push(part_case(alloc, schema, old, side, round, part, row)?)?;
+        cases.push(part_case(alloc, problem, old, side, round, part, row)?)?;
     }
     Ok(cases)
 }
@@ -36,7 +35,7 @@ pub fn part_cases(
 /// and its head the same as the row. Facts past the numbers of 32 bits are told as want of memory.
 pub fn part_case(
     alloc: Global,
-    schema: &Schema,
+    problem: &Problem,
     old: &Branch,
     side: Side,
     round: u32,
@@ -44,28 +43,44 @@ pub fn part_case(
     row: &[Term],
 ) -> Result<Branch, AllocError>
     requires ready { IsReady old.now row.now }
-    requires fits { IsPartFor schema.now (length row.now) part.now }
-    ensures { IfOk result (IsCase schema.now old.now side round row.now part.now) }
+    requires fits { IsPartFor problem.now.policy.schema (length row.now) part.now }
+    ensures { IfOk result (IsCase problem.now.policy.schema old.now side round row.now part.now) }
 {
-    let numbers = numbers_from(alloc, old.facts.len(), part.from.len())?;
+    let mut new = old.copy(alloc)?;
+    add_part(alloc, problem, &mut new, side, round, part, row)?;
+    Ok(new)
+}
+
+/// Adds a fact for each of the part's tables, its atoms, and that its head is the same as the row.
+fn add_part(
+    alloc: Global,
+    problem: &Problem,
+    new: &mut Branch,
+    side: Side,
+    round: u32,
+    part: &Part,
+    row: &[Term],
+) -> Result<(), AllocError>
+    requires ready { IsReady new.old row.now }
+    requires fits { IsPartFor problem.now.policy.schema (length row.now) part.now }
+    ensures { OnOk result (IsCase problem.now.policy.schema new.old side round row.now part.now new.new) }
+{
+    let numbers = numbers_from(alloc, new.facts.len(), part.from.len())?;
     let facts = numbers.as_slice();
     let from = part.from.as_slice();
     let conds = part.conds.as_slice();
     let head = part.head.as_slice();
-    let mut new = old.copy(alloc)?;
-    add_facts(alloc, schema, &mut new, side, round, from)?;
-    assume_all(alloc, &mut new, facts, conds)?;
-    equate_all(alloc, &mut new, facts, head, row)?;
-    Ok(new)
+    add_facts(alloc, problem, new, side, round, from)?;
+    assume_all(alloc, new, facts, conds)?;
+    equate_all(alloc, new, facts, head, row)?;
+    Ok(())
 }
 
 /// So many numbers, on from the first.
 pub fn numbers_from(alloc: Global, first: usize, count: usize) -> Result<Vec<u32>, AllocError>
     ensures { IfOk result (λ numbers. numbers.items ≡ range_with_len first count) }
 {
-    if first > 0xffff_ffff || count > 0xffff_ffff - first {
-        return Err(AllocError);
-    }
+    number_after(first, count)?;
     let mut numbers = Vec::new(alloc);
     for i in 0..count {
         numbers.push((first + i) as u32)?;
@@ -73,29 +88,19 @@ pub fn numbers_from(alloc: Global, first: usize, count: usize) -> Result<Vec<u32
     Ok(numbers)
 }
 
-/// The columns of the table, of which there are none where it isn't there.
-pub fn columns_of(schema: &Schema, table: u32) -> &[Column]
-    ensures { result.now ≡ columns_of schema.now.tables table }
-{
-    match schema.tables.find(table as usize) {
-        Some(it) => it.columns.as_slice(),
-        None => &[],
-    }
-}
-
 /// Adds a row of each table in turn.
 pub fn add_facts(
     alloc: Global,
-    schema: &Schema,
+    problem: &Problem,
     new: &mut Branch,
     side: Side,
     round: u32,
     from: &[u32],
 ) -> Result<(), AllocError>
-    ensures { OnOk result (new.new ≡ with_facts schema.now side round new.old from.now) }
+    ensures { OnOk result (new.new ≡ with_facts problem.now.policy.schema side round new.old from.now) }
 {
     for table in from {
-        new.add_fact(alloc, side, *table, columns_of(schema, *table), round)?;
+        new.add_fact(alloc, side, *table, problem.columns(*table), round)?;
     }
     Ok(())
 }

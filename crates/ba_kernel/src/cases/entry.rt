@@ -10,9 +10,8 @@ use crate::cases::rounds::{entry_round, next_round};
 use crate::cases::terms::operand_row;
 use crate::fact::fact_at;
 use crate::problem::Problem;
-use ba_facts::branch::Branch;
-use ba_facts::term::Side;
-use ba_model::{Part, Schema};
+use ba_facts::{Branch, Side};
+use ba_model::Part;
 use std::alloc::{AllocError, Global};
 
 /// For each part of the entry's query the case where it gives the entry's row on side One.
@@ -29,12 +28,11 @@ pub fn entry_cases(
 {
     let it = problem.entries.get(entry as usize);
     let operands = it.row.as_slice();
-    let parts = it.query.parts.as_slice();
+    let parts = it.parts();
     let terms = operand_row(alloc, branch, &[], operands)?;
     let row = terms.as_slice();
     let round = entry_round(problem, operands);
-    let schema = &problem.policy.schema;
-    part_cases(alloc, schema, branch, Side::One, round, row, parts)
+    part_cases(alloc, problem, branch, Side::One, round, row, parts)
 }
 
 /// For each part of the view the case where it gives on side Two the row that the facts give.
@@ -51,11 +49,10 @@ pub fn view_cases(
     requires passes { ViewPasses problem.now branch.now view part facts.now }
     ensures { IfOk result (λ cases. ViewLeads problem.now branch.now view part facts.now cases.items) }
 {
-    let it = problem.policy.views.get(view as usize);
+    let it = problem.view_at(view);
     let of = it.query.parts.get(part as usize);
     let parts = it.query.parts.as_slice();
-    let schema = &problem.policy.schema;
-    next_cases(alloc, schema, branch, Side::Two, of, facts, parts)
+    next_cases(alloc, problem, branch, Side::Two, of, facts, parts)
 }
 
 /// For each part of the rule's right query the case where it gives, on the same side, the row that
@@ -73,18 +70,17 @@ pub fn rule_cases(
     requires passes { RulePasses problem.now branch.now rule part facts.now }
     ensures { IfOk result (λ cases. RuleLeads problem.now branch.now rule part facts.now cases.items) }
 {
-    let schema = &problem.policy.schema;
-    let it = schema.rules.get(rule as usize);
+    let it = problem.rule_at(rule);
     let left = it.left.parts.get(part as usize);
     let parts = it.right.parts.as_slice();
     let first = fact_at(branch, facts[0] as usize);
-    next_cases(alloc, schema, branch, first.side, left, facts, parts)
+    next_cases(alloc, problem, branch, first.side, left, facts, parts)
 }
 
 /// For each of the parts the case where it gives the row that the facts give, a round later.
 fn next_cases(
     alloc: Global,
-    schema: &Schema,
+    problem: &Problem,
     branch: &Branch,
     side: Side,
     part: &Part,
@@ -93,12 +89,12 @@ fn next_cases(
 ) -> Result<Vec<Branch>, AllocError>
     requires there { FactsAreThere branch.now }
     requires terms { All (HasTerm (rows_at branch.now facts.now)) part.now.head }
-    requires fits { All (IsPartFor schema.now (length part.now.head)) parts.now }
-    ensures { IfOk result (λ cases. AreNext schema.now branch.now side part.now facts.now parts.now cases.items) }
+    requires fits { All (IsPartFor problem.now.policy.schema (length part.now.head)) parts.now }
+    ensures { IfOk result (λ cases. AreNext problem.now.policy.schema branch.now side part.now facts.now parts.now cases.items) }
 {
     let operands = part.head.as_slice();
     let terms = operand_row(alloc, branch, facts, operands)?;
     let row = terms.as_slice();
     let round = next_round(branch, facts)?;
-    part_cases(alloc, schema, branch, side, round, row, parts)
+    part_cases(alloc, problem, branch, side, round, row, parts)
 }

@@ -6,12 +6,10 @@ ghost use Rattle.ba_kernel.specs.Effects.{KeyLeads, LinkLeads, SplitFits, SplitL
 ghost use Rattle.ba_kernel.specs.Tests.{IsTidy, KeyPasses, LinkPasses};
 ghost use Rattle.ba_kernel.specs.Tidy.{HasColumns, Learns, TermsAreThere, same_pair};
 
-use crate::cases::build::columns_of;
 use crate::cases::rounds::round_after;
 use crate::fact::fact_at;
 use crate::problem::Problem;
-use ba_facts::branch::Branch;
-use ba_facts::term::{Term, TermAtom};
+use ba_facts::{Branch, Term, TermAtom};
 use ba_model::{Duplicate, Op};
 use std::alloc::{AllocError, Global};
 
@@ -71,11 +69,10 @@ pub fn link_cases(
     requires passes { LinkPasses problem.now.policy.schema branch.now link fact }
     ensures { IfOk result (λ cases. LinkLeads problem.now branch.now link fact cases.items) }
 {
-    let schema = &problem.policy.schema;
     let f = fact_at(branch, fact as usize);
-    let table = schema.tables.get(f.table as usize);
+    let table = problem.table_at(f.table);
     let it = table.links.get(link as usize);
-    let target = columns_of(schema, it.target);
+    let target = problem.columns(it.target);
     let round = round_after(f.round)?;
     let mut new = branch.copy(alloc)?;
     new.add_fact(alloc, f.side, it.target, target, round)?;

@@ -1,30 +1,33 @@
 //! The rounds of new facts.
-ghost use Rattle.std.specs.Prelude.{◌≡◌, ◌↔◌, ◌+◌, Any, IfOk, IsTrue, max, option_map, slice_get, unwrap_or};
+ghost use Rattle.std.specs.Prelude.{◌≡◌, ◌↔◌, ◌+◌, ◌≤◌, ◌^◌, Any, IfErr, IfOk, IsTrue, max, option_map, slice_get, unwrap_or};
 ghost use Rattle.ba_model.specs.declared.query.Operand.TheVariants.{Val};
 ghost use Rattle.ba_facts.specs.Matches.{round_of};
 ghost use Rattle.ba_kernel.specs.Effects.{IsEntryRound, IsSide};
 ghost use Rattle.ba_kernel.specs.Tidy.{HasLiteral, IsLiteral, IsLiteralOfSome};
 
 use crate::problem::Problem;
-use ba_facts::branch::Branch;
-use ba_model::{Atom, Operand, Part, Query, Same, Value};
+use ba_facts::Branch;
+use ba_model::{Atom, Operand, Part, Same, Value};
 use std::alloc::AllocError;
 
-/// One more than the greatest round of the facts. A round past 32 bits is told as want of memory.
+/// One more than the greatest round of the facts, in 32 bits. No memory is taken for it: exactly a
+/// round past 32 bits is told as want of memory.
 pub fn next_round(branch: &Branch, facts: &[u32]) -> Result<u32, AllocError>
-    ensures { IfOk result (λ round. round ≡ 1 + round_of branch.now facts.now) }
+    ensures value { IfOk result (λ round. round ≡ 1 + round_of branch.now facts.now) }
+    ensures past { IfErr result (λ _. 2 ^ 32 ≤ 1 + round_of branch.now facts.now) }
 {
     round_after(greatest_round(branch, facts))
 }
 
-/// The round after this one.
+/// The round after this one, in 32 bits.
 pub fn round_after(round: u32) -> Result<u32, AllocError>
-    ensures { IfOk result (λ next. next ≡ 1 + round) }
+    ensures value { IfOk result (λ next. next ≡ 1 + round) }
+    ensures past { IfErr result (λ _. 2 ^ 32 ≤ 1 + round) }
 {
-    if round == 0xffff_ffff {
-        return Err(AllocError);
+    match round.checked_add(1) {
+        Some(next) => Ok(next),
+        None => Err(AllocError),
     }
-    Ok(round + 1)
 }
 
 /// The greatest round of the facts, or 0.
@@ -57,24 +60,21 @@ fn fact_round(branch: &Branch, number: u32) -> u32
 pub fn entry_round(problem: &Problem, row: &[Operand]) -> u32
     ensures { IsEntryRound problem.now row.now result }
 {
-    if shares_literal(&problem.goal, row) {
-        1
-    } else {
-        2
-    }
+    if shares_literal(problem, row) { 1 } else { 2 }
 }
 
-fn shares_literal(goal: &Query, row: &[Operand]) -> bool
-    ensures { IsTrue result ↔ Any (IsLiteralOfSome goal.now) row.now }
+fn shares_literal(problem: &Problem, row: &[Operand]) -> bool
+    ensures { IsTrue result ↔ Any (IsLiteralOfSome problem.now.goal) row.now }
 {
-    row.iter().any(|operand| is_literal_of_some(goal, operand))
+    row.iter()
+        .any(|operand| is_literal_of_some(problem, operand))
 }
 
-fn is_literal_of_some(goal: &Query, operand: &Operand) -> bool
-    ensures { IsTrue result ↔ IsLiteralOfSome goal.now operand.now }
+fn is_literal_of_some(problem: &Problem, operand: &Operand) -> bool
+    ensures { IsTrue result ↔ IsLiteralOfSome problem.now.goal operand.now }
 {
     match operand {
-        Operand::Val(value) => is_literal_of(goal.parts.as_slice(), value),
+        Operand::Val(value) => is_literal_of(problem.goal_parts(), value),
         _ => false,
     }
 }

@@ -5,8 +5,7 @@ ghost use Rattle.ba_facts.specs.Known.{seen};
 ghost use Rattle.ba_facts.specs.Matches.{row_of, term_of};
 ghost use Rattle.ba_kernel.specs.Tidy.{HasTerm};
 
-use ba_facts::branch::Branch;
-use ba_facts::term::{Term, TermRef};
+use ba_facts::{Branch, Term, TermRef};
 use ba_model::{Duplicate, Operand};
 use std::alloc::{AllocError, Global};
 

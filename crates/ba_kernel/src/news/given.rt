@@ -7,8 +7,7 @@ ghost use Rattle.ba_model.specs.Fit.{PartWithin};
 
 use crate::passes::mapping::side_of;
 use crate::problem::Problem;
-use ba_facts::branch::Branch;
-use ba_facts::term::Side;
+use ba_facts::{Branch, Side};
 use ba_model::{Operand, Part};
 
 /// Whether the entry's row is given on side One.
@@ -19,7 +18,7 @@ pub fn entry_is_met(problem: &Problem, branch: &Branch, entry: u64) -> bool
     let Some(it) = problem.entries.find(entry as usize) else {
         return false;
     };
-    let parts = it.query.parts.as_slice();
+    let parts = it.parts();
     is_given(branch, Side::One, parts, it.row.as_slice(), &[])
 }
 
@@ -29,7 +28,7 @@ pub fn rule_is_met(problem: &Problem, branch: &Branch, rule: u32, part: u32, fac
     requires { ProblemFits problem.now }
     ensures { IsTrue result ↔ RuleIsMet problem.now branch.now rule part facts.now }
 {
-    let Some(it) = problem.policy.schema.rules.find(rule as usize) else {
+    let Some(it) = problem.rule(rule) else {
         return false;
     };
     let Some(left) = it.left.parts.find(part as usize) else {
@@ -47,7 +46,7 @@ pub fn view_is_met(problem: &Problem, branch: &Branch, view: u32, part: u32, fac
     requires { ProblemFits problem.now }
     ensures { IsTrue result ↔ ViewIsMet problem.now branch.now view part facts.now }
 {
-    let Some(it) = problem.policy.views.find(view as usize) else {
+    let Some(it) = problem.view(view) else {
         return false;
     };
     let Some(of) = it.query.parts.find(part as usize) else {

@@ -7,8 +7,7 @@ ghost use Rattle.ba_kernel.specs.News.{AreEqualIn, KeyIsMet, LinkIsMet};
 
 use crate::passes::row::link_of;
 use crate::problem::Problem;
-use ba_facts::branch::Branch;
-use ba_facts::term::{Fact, Term};
+use ba_facts::{Branch, Fact, Term};
 use ba_model::{Link, Op};
 
 /// Whether the two facts' terms are the same, column by column.

@@ -9,8 +9,7 @@ ghost use Rattle.ba_model.specs.Fit.{PartWithin};
 
 use crate::passes::split::neither_null;
 use crate::problem::Problem;
-use ba_facts::branch::Branch;
-use ba_facts::term::{Side, Term, TermAtom};
+use ba_facts::{Branch, Side, Term, TermAtom};
 use ba_model::{List, Op, Part, Rule, View};
 
 /// The round of a split by the atom, if it tells the branch what it doesn't have: the atom may tell
@@ -54,9 +53,9 @@ fn split_round(problem: &Problem, branch: &Branch, atom: &TermAtom) -> Option<u3
     requires { ProblemFits problem.now }
     ensures { LeastRound branch.now (IsCandidate problem.now branch.now atom.now) result }
 {
-    let views = views_round(branch, problem.policy.views.as_slice(), atom);
-    let rules = rules_round(branch, problem.policy.schema.rules.as_slice(), atom);
-    let parts = problem.goal.parts.as_slice();
+    let views = views_round(branch, problem.views(), atom);
+    let rules = rules_round(branch, problem.rules(), atom);
+    let parts = problem.goal_parts();
     let goal = parts_round(branch, parts, Side::Two, Some(&branch.goal), atom);
     lesser(lesser(views, goal), rules)
 }

@@ -4,7 +4,7 @@ ghost use Rattle.ba_kernel.specs.Effects.{rows_at};
 ghost use Rattle.ba_facts.specs.Matches.{AreTheSame, row_of, term_of};
 ghost use Rattle.ba_kernel.specs.Tests.{FirstDifferent};
 
-use ba_facts::branch::Branch;
+use ba_facts::Branch;
 use ba_model::Operand;
 
 /// The first column in which the head over the facts isn't the same as the goal row.

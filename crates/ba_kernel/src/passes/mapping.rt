@@ -6,8 +6,7 @@ ghost use Rattle.ba_kernel.specs.Refusals.{FactsRefuse, SomeSide};
 ghost use Rattle.ba_kernel.specs.Tests.{FactsPass, FirstWithout, Tested};
 
 use crate::step::StepFault;
-use ba_facts::branch::Branch;
-use ba_facts::term::Side;
+use ba_facts::{Branch, Side};
 use ba_model::Part;
 
 /// Whether the facts are the part's on the side and show each of its atoms.

@@ -7,8 +7,7 @@ use crate::passes::head::first_different;
 use crate::passes::mapping::{first_hidden, side_of, test_facts};
 use crate::problem::Problem;
 use crate::step::StepFault;
-use ba_facts::branch::Branch;
-use ba_facts::term::Side;
+use ba_facts::{Branch, Side};
 use ba_model::Part;
 
 /// Whether the facts are those of a part of the rule's left query, on one side, and show its atoms.
@@ -60,7 +59,7 @@ pub fn test_goal(
     requires { IsTidy problem.now branch.now }
     ensures { Tested (GoalPasses problem.now branch.now part facts.now) (GoalRefuses problem.now branch.now part facts.now) result }
 {
-    let Some(it) = problem.goal.parts.find(part as usize) else {
+    let Some(it) = problem.goal_part(part) else {
         return Err(StepFault::BadRule);
     };
     test_facts(branch, Side::Two, it, facts)?;
@@ -74,7 +73,7 @@ pub fn test_goal(
 fn rule_part(problem: &Problem, rule: u32, part: u32) -> Option<&Part>
     ensures { MatchOption result (¬ (SomeRulePart problem.now rule part)) (λ it. IsRulePart problem.now rule part it.now) }
 {
-    match problem.policy.schema.rules.find(rule as usize) {
+    match problem.rule(rule) {
         Some(of) => of.left.parts.find(part as usize),
         None => None,
     }
@@ -84,7 +83,7 @@ fn rule_part(problem: &Problem, rule: u32, part: u32) -> Option<&Part>
 fn view_part(problem: &Problem, view: u32, part: u32) -> Option<&Part>
     ensures { MatchOption result (¬ (SomeViewPart problem.now view part)) (λ it. IsViewPart problem.now view part it.now) }
 {
-    match problem.policy.views.find(view as usize) {
+    match problem.view(view) {
         Some(of) => of.query.parts.find(part as usize),
         None => None,
     }

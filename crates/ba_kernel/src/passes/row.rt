@@ -7,8 +7,7 @@ ghost use Rattle.ba_kernel.specs.Tests.{FirstWithout, KeyPasses, LinkPasses, Tes
 use crate::fact::find_fact;
 use crate::problem::Problem;
 use crate::step::StepFault;
-use ba_facts::branch::Branch;
-use ba_facts::term::{Fact, Term};
+use ba_facts::{Branch, Fact, Term};
 use ba_model::{Link, List, Op};
 
 /// Whether the two facts are of one side and table and are shown equal on the table's key.
@@ -71,7 +70,7 @@ fn pair_of(branch: &Branch, left: u32, right: u32) -> Option<(&Fact, &Fact)>
 fn key_of<'a>(problem: &'a Problem, fact: &Fact, key: u32) -> Option<&'a List<u32>>
     ensures { MatchOption result (¬ (SomeKey problem.now fact.now key)) (λ columns. IsKeyOf problem.now.policy.schema fact.now key columns.now) }
 {
-    match problem.policy.schema.tables.find(fact.table as usize) {
+    match problem.table(fact.table) {
         Some(table) => table.keys.find(key as usize),
         None => None,
     }
@@ -81,7 +80,7 @@ fn key_of<'a>(problem: &'a Problem, fact: &Fact, key: u32) -> Option<&'a List<u3
 pub fn link_of<'a>(problem: &'a Problem, fact: &Fact, link: u32) -> Option<&'a Link>
     ensures { MatchOption result (¬ (SomeLink problem.now fact.now link)) (λ it. IsLinkOf problem.now.policy.schema fact.now link it.now) }
 {
-    match problem.policy.schema.tables.find(fact.table as usize) {
+    match problem.table(fact.table) {
         Some(table) => table.links.find(link as usize),
         None => None,
     }

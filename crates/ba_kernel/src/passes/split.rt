@@ -8,8 +8,7 @@ ghost use Rattle.ba_facts.specs.Shown.{NeitherNull};
 ghost use Rattle.ba_kernel.specs.Tests.{AreOfKind, SomeKind, Tested};
 
 use crate::step::StepFault;
-use ba_facts::branch::Branch;
-use ba_facts::term::{Term, TermAtom};
+use ba_facts::{Branch, Term, TermAtom};
 use ba_model::{Kind, Op, Same, Value};
 
 /// Whether the atom may be split.

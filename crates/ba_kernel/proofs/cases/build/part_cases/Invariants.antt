@@ -5,4 +5,4 @@ use Rattle.ba_kernel.proofs.cases.build.part_cases.Given as goal
 
 -- the cases so far are those of the parts so far
 abbrev pub invariant-loop-part : goal.invariant-loop-part
-invariant-loop-part l = AllZip (IsCase l.schema l.old l.side l.round l.row) (take l.part-index l.parts) l.cases.items
+invariant-loop-part l = AllZip (IsCase l.problem.policy.schema l.old l.side l.round l.row) (take l.part-index l.parts) l.cases.items

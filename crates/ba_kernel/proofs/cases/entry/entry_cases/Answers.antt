@@ -21,7 +21,7 @@ pub part_cases-requires-clause-fits : goal.part_cases-requires-clause-fits
 part_cases-requires-clause-fits c =
     let gives = head_gives c.args.branch.now [] c.get-it.result.now.row c.as_slice-operands.result.now c.in_ok-terms.terms.items c.as_slice-row.result.now
     c.as_slice-operands.ensures c.in_ok-terms.ensures c.as_slice-row.ensures.value in
-    subst (All (IsPartFor c.args.problem.now.policy.schema (length c.as_slice-row.result.now))) (sym c.as_slice-parts.ensures)
+    subst (All (IsPartFor c.args.problem.now.policy.schema (length c.as_slice-row.result.now))) (sym c.parts-parts.ensures)
     (entry_parts c.args.problem.now c.args.entry c.get-it.result.now c.requires.fits c.get-it.ensures c.as_slice-row.result.now gives)
 
 pub returns : goal.returns
@@ -30,9 +30,9 @@ returns c =
     let b = c.args.branch.now in
     let row = c.as_slice-row.result.now in
     IfOk-weaker c.part_cases.result
-    (λ cases. AllZip (IsCase p.policy.schema b One c.entry_round-round.result row) c.as_slice-parts.result.now cases.items)
+    (λ cases. AllZip (IsCase p.policy.schema b One c.entry_round-round.result row) c.parts-parts.result.now cases.items)
     (λ cases. EntryLeads p b c.args.entry cases.items)
     (λ cases h. entry_leads p c.args.entry c.get-it.result.now c.requires.fits c.get-it.ensures b c.as_slice-operands.result.now c.in_ok-terms.terms.items row
-    c.entry_round-round.result c.as_slice-parts.result.now cases.items c.as_slice-operands.ensures c.in_ok-terms.ensures c.as_slice-row.ensures.value
-    c.entry_round-round.ensures c.as_slice-parts.ensures h)
+    c.entry_round-round.result c.parts-parts.result.now cases.items c.as_slice-operands.ensures c.in_ok-terms.ensures c.as_slice-row.ensures.value
+    c.entry_round-round.ensures c.parts-parts.ensures h)
     c.part_cases.ensures

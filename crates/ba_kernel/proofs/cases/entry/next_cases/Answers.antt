@@ -13,16 +13,16 @@ part_cases-requires-clause-ready c =
 pub part_cases-requires-clause-fits : goal.part_cases-requires-clause-fits
 part_cases-requires-clause-fits c =
     fits_row c.args.branch.now c.args.facts.now c.args.part.now.head c.as_slice-operands.result.now c.in_ok-terms.terms.items c.as_slice-row.result.now
-    c.as_slice-operands.ensures c.in_ok-terms.ensures c.as_slice-row.ensures.value c.args.schema.now c.args.parts.now c.requires.fits
+    c.as_slice-operands.ensures c.in_ok-terms.ensures c.as_slice-row.ensures.value c.args.problem.now.policy.schema c.args.parts.now c.requires.fits
 
 pub returns : goal.returns
 returns c =
-    let s = c.args.schema.now in
+    let s = c.args.problem.now.policy.schema in
     let b = c.args.branch.now in
     let row = c.as_slice-row.result.now in
     let gives = head_gives b c.args.facts.now c.args.part.now.head c.as_slice-operands.result.now c.in_ok-terms.terms.items row
     c.as_slice-operands.ensures c.in_ok-terms.ensures c.as_slice-row.ensures.value in
     IfOk-weaker c.part_cases.result (λ cases. AllZip (IsCase s b c.args.side c.in_ok-round.round row) c.args.parts.now cases.items)
     (λ cases. AreNext s b c.args.side c.args.part.now c.args.facts.now c.args.parts.now cases.items)
-    (λ cases h. next_is s b c.args.side c.in_ok-round.round c.args.part.now c.args.facts.now row c.args.parts.now cases.items gives c.in_ok-round.ensures h)
+    (λ cases h. next_is s b c.args.side c.in_ok-round.round c.args.part.now c.args.facts.now row c.args.parts.now cases.items gives c.in_ok-round.ensures.value h)
     c.part_cases.ensures

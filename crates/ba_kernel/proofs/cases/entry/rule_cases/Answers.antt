@@ -8,19 +8,19 @@ use Rattle.ba_kernel.proofs.cases.entry.rule_cases.Goals as goal
 
 pub fact_at-first-requires : goal.fact_at-first-requires
 fact_at-first-requires c =
-    rule_first c.args.problem.now c.args.branch.now c.requires.fits c.requires.tidy c.args.rule c.args.part c.args.facts.now c.get-it.result.now
-    c.get-left.result.now c.get-it.ensures c.get-left.ensures c.requires.passes
+    rule_first c.args.problem.now c.args.branch.now c.requires.fits c.requires.tidy c.args.rule c.args.part c.args.facts.now c.rule_at-it.result.now
+    c.get-left.result.now c.rule_at-it.ensures c.get-left.ensures c.requires.passes
 
 pub next_cases-requires-clause-terms : goal.next_cases-requires-clause-terms
 next_cases-requires-clause-terms c =
-    rule_terms c.args.problem.now c.args.branch.now c.requires.fits c.requires.tidy c.args.rule c.args.part c.args.facts.now c.get-it.result.now
-    c.get-left.result.now c.get-it.ensures c.get-left.ensures c.requires.passes
+    rule_terms c.args.problem.now c.args.branch.now c.requires.fits c.requires.tidy c.args.rule c.args.part c.args.facts.now c.rule_at-it.result.now
+    c.get-left.result.now c.rule_at-it.ensures c.get-left.ensures c.requires.passes
 
 pub next_cases-requires-clause-fits : goal.next_cases-requires-clause-fits
 next_cases-requires-clause-fits c =
     subst (All (IsPartFor c.args.problem.now.policy.schema (length c.get-left.result.now.head))) (sym c.as_slice-parts.ensures)
-    (rule_parts c.args.problem.now c.args.branch.now c.requires.fits c.requires.tidy c.args.rule c.args.part c.args.facts.now c.get-it.result.now
-    c.get-left.result.now c.get-it.ensures c.get-left.ensures c.requires.passes)
+    (rule_parts c.args.problem.now c.args.branch.now c.requires.fits c.requires.tidy c.args.rule c.args.part c.args.facts.now c.rule_at-it.result.now
+    c.get-left.result.now c.rule_at-it.ensures c.get-left.ensures c.requires.passes)
 
 pub returns : goal.returns
 returns c =
@@ -29,7 +29,7 @@ returns c =
     IfOk-weaker c.next_cases.result
     (λ cases. AreNext p.policy.schema b c.fact_at-first.result.now.side c.get-left.result.now c.args.facts.now c.as_slice-parts.result.now cases.items)
     (λ cases. RuleLeads p b c.args.rule c.args.part c.args.facts.now cases.items)
-    (λ cases h. rule_leads p b c.requires.fits c.requires.tidy c.args.rule c.args.part c.args.facts.now c.get-it.result.now c.get-left.result.now
-    c.get-it.ensures c.get-left.ensures c.requires.passes c.fact_at-first.result.now c.as_slice-parts.result.now cases.items c.fact_at-first.ensures
+    (λ cases h. rule_leads p b c.requires.fits c.requires.tidy c.args.rule c.args.part c.args.facts.now c.rule_at-it.result.now c.get-left.result.now
+    c.rule_at-it.ensures c.get-left.ensures c.requires.passes c.fact_at-first.result.now c.as_slice-parts.result.now cases.items c.fact_at-first.ensures
     c.as_slice-parts.ensures h)
     c.next_cases.ensures

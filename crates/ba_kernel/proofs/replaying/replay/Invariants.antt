@@ -1,5 +1,5 @@
 use Rattle.std.proofs.Common.{◌≡◌}
-use Rattle.ba_kernel.proofs.replay.replay.Given as goal
+use Rattle.ba_kernel.proofs.replaying.replay.Given as goal
 
 -- the steps so far were taken from the problem's start
 abbrev pub invariant-loop-step : goal.invariant-loop-step

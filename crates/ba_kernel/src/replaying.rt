@@ -1,16 +1,15 @@
 //! Steps that are taken from a problem's start, one after another.
 ghost use Rattle.std.specs.Prelude.{◌≡◌, ◌≤◌, ◌<◌, ◌∷◌, ◌++◌, [], IfErr, OnOk, length};
+ghost use Rattle.ba_model.specs.declared.limits.TheConstants.{MAX_BUDGET};
 ghost use Rattle.ba_kernel.specs.Courses.{ProblemFits};
 ghost use Rattle.ba_kernel.specs.Replays.{IsNextRefused, Replays};
-ghost use Rattle.ba_kernel.specs.declared.replay.ReplayError.TheVariants.{NoMemory};
 
 use crate::problem::Problem;
 use crate::proved::Proved;
 use crate::search::Search;
-use crate::step::{Step, StepError, StepFault};
-use ba_model::List;
-use std::alloc::{AllocError, Global};
-use thiserror::Error;
+use crate::step::{Step, StepFault};
+use ba_model::{Failure, List};
+use std::alloc::Global;
 
 /// Why steps prove nothing.
 #[derive(Clone, Copy, Debug, PartialEq, Eq)]
@@ -21,32 +20,20 @@ pub enum ReplayFault {
     Open,
 }
 
-/// Want of memory, or a fault of the steps.
-#[derive(Debug, Drop, Error)]
-pub enum ReplayError {
-    #[error("out of memory")]
-    NoMemory,
-    #[error("no proof")]
-    Fault(ReplayFault),
-}
-
-impl From<AllocError> for ReplayError {
-    ghost from_gives = { λ _ e. e ≡ NoMemory };
-
-    fn from(_e: AllocError) -> ReplayError {
-        ReplayError::NoMemory
-    }
-}
-
 /// The proof that the steps are: each is accepted, one after another from the problem's start, and
 /// in the end no branch is open.
 ///
 /// Else `Refused` tells the first step that isn't accepted and its fault, or `Open` that all are
 /// accepted and a branch is open. Steps have one such end
-/// ([`crate::laws::replays_have_one_end`]). `NoMemory` leaves nothing behind.
-pub fn replay(alloc: Global, problem: Problem, steps: List<Step>) -> Result<Proved, ReplayError>
+/// ([`crate::laws::replays_have_one_end`]). `NoMemory` tells that memory was wanting for the start,
+/// or for a step that isn't refused after those before it; it leaves nothing behind.
+pub fn replay(
+    alloc: Global,
+    problem: Problem,
+    steps: List<Step>,
+) -> Result<Proved, Failure<ReplayFault>>
     requires fits { ProblemFits problem }
-    requires few { length steps ≤ 100000 }
+    requires few { length steps ≤ MAX_BUDGET }
     ensures { Replays problem steps result }
 {
     let mut search = Search::start(alloc, problem)?;
@@ -55,13 +42,13 @@ pub fn replay(alloc: Global, problem: Problem, steps: List<Step>) -> Result<Prov
     }
     match search.close() {
         Ok(proved) => Ok(proved),
-        Err(_) => Err(ReplayError::Fault(ReplayFault::Open)),
+        Err(_) => Err(Failure::Fault(ReplayFault::Open)),
     }
 }
 
 /// Takes the next step, or tells its number with its fault.
-fn take_next(alloc: Global, search: &mut Search, step: Step) -> Result<(), ReplayError>
-    requires { length search.old.steps < 100000 }
+fn take_next(alloc: Global, search: &mut Search, step: Step) -> Result<(), Failure<ReplayFault>>
+    requires { length search.old.steps < MAX_BUDGET }
     ensures problem { OnOk result (search.new.problem ≡ search.old.problem) }
     ensures steps { OnOk result (search.new.steps ≡ search.old.steps ++ step ∷ []) }
     ensures fault { IfErr result (IsNextRefused search.old step) }
@@ -69,9 +56,7 @@ fn take_next(alloc: Global, search: &mut Search, step: Step) -> Result<(), Repla
     let number = search.steps().len() as u32;
     match search.apply(alloc, step) {
         Ok(()) => Ok(()),
-        Err(StepError::NoMemory) => Err(ReplayError::NoMemory),
-        Err(StepError::Fault(fault)) => {
-            Err(ReplayError::Fault(ReplayFault::Refused { number, fault }))
-        }
+        Err(Failure::NoMemory) => Err(Failure::NoMemory),
+        Err(Failure::Fault(fault)) => Err(Failure::Fault(ReplayFault::Refused { number, fault })),
     }
 }

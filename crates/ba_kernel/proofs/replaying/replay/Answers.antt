@@ -4,7 +4,7 @@ use Rattle.std.proofs.lemmas.Iterator.Consumers.{YieldsList-end}
 use Rattle.std.proofs.lemmas.List.{map-id}
 use Rattle.std.proofs.lemmas.Result.{err_from_is_err_and}
 use Rattle.ba_kernel.proofs.ReplayLemmas.{given_next, refused, stays_open}
-use Rattle.ba_kernel.proofs.replay.replay.Goals as goal
+use Rattle.ba_kernel.proofs.replaying.replay.Goals as goal
 
 pub returns-in_err-take_next : goal.returns-in_err-take_next
 returns-in_err-take_next c =
