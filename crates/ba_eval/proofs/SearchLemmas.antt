@@ -137,18 +137,11 @@ module _ (c : Context) (d : RowSet) (part : Part) where
   pruned from chosen (k, atom, below, is, fails) r (more, are, g) =
       fails_on c chosen more atom fails (All-contains (Holds c (chosen ++ more)) part.conds atom g.conds (k, below, is))
 
--- the row that the part gives from one row for each place is put at the end
-pub adds_head : (c : Context) (chosen : List (List Value)) (part : Part) (old new : List (List Value)) (row : List Value) → new ≡ old ++ row ∷ [] → All (Holds c chosen) part.conds → map (value_of c chosen) part.head ≡ map Some row → Adds (Gives c chosen part) old new
-adds_head c chosen part old new row e conds head =
-    subst (Adds (Gives c chosen part) old) (sym e)
-    (record {
-      kept = λ r h. Contains-append_left old (row ∷ []) r h;
-      added = λ r g. subst (Contains (old ++ row ∷ [])) (one_head row r (sym head ∙ g.head)) (Contains-push old row);
-      only = λ r h. elim (Contains-push_cases old row r h) [
-        | inl before ↦ inl before
-        | inr same ↦ inr (subst (Gives c chosen part) same (let g : Gives c chosen part row = record { conds = conds; head = head } in g))
-      ];
-    })
+-- the row that the part gives from one row for each place was added
+pub adds_head : (c : Context) (chosen : List (List Value)) (part : Part) (old new : List (List Value)) (row : List Value) → All (Holds c chosen) part.conds → map (value_of c chosen) part.head ≡ map Some row → Adds (λ r. r ≡ row) old new → Adds (Gives c chosen part) old new
+adds_head c chosen part old new row conds head h =
+    let given : Gives c chosen part row = record { conds = conds; head = head } in
+    adds_same (λ r is. subst (Gives c chosen part) (sym is) given) (λ r g. sym (one_head row r (sym head ∙ g.head))) h
 
 -- one row more is chosen
 pub one_chosen : {A : Type 0} (now : A → List Value) (before items all : List A) (x : A) → all ≡ items ++ x ∷ [] → items ≡ before → map now all ≡ map now before ++ now x ∷ []

@@ -42,3 +42,8 @@ pub record IsRisingListOf (found rows : List (List Value)) : Type 0 where
   pub rising : IsStrictlySortedBy row_cmp rows
   pub kept : (r : List Value) → Contains found r → Contains rows r
   pub only : (r : List Value) → Contains rows r → Contains found r
+
+-- the lists have the same rows
+pub record SameRows (old new : List (List Value)) : Type 0 where
+  pub kept : (r : List Value) → Contains old r → Contains new r
+  pub only : (r : List Value) → Contains new r → Contains old r

@@ -1,12 +1,14 @@
 //! The answer of a query over a database, by nested loops over the tables of each part.
 #![tactic(auto)]
 
+mod found;
 mod part;
 
 ghost use Rattle.std.specs.Prelude.{◌↔◌, [], IsTrue, IfOk};
 ghost use Rattle.ba_model.specs.Meaning.{InAnswer, IsAnswer};
-ghost use Rattle.ba_eval.specs.Search.{Adds, IsRisingListOf};
+ghost use Rattle.ba_eval.specs.Search.{Adds};
 
+use crate::found::Found;
 use crate::part::Search;
 use ba_model::{Context, List, Query, Row, RowSet};
 use std::alloc::{AllocError, Global};
@@ -23,7 +25,7 @@ pub fn answer(
     ensures { IfOk result (λ list. IsAnswer query.now ctx.now rows.now list) }
 {
     let found = all_rows(alloc, rows, ctx, query)?;
-    Ok(in_order(found))
+    Ok(found.in_order())
 }
 
 /// Whether the row is one of the query's. The search ends at the first part and the first rows that give it.
@@ -48,28 +50,14 @@ pub fn contains(
 }
 
 /// The rows that the parts give, in the order of the loops.
-fn all_rows(
-    alloc: Global,
-    rows: &RowSet,
-    ctx: &Context,
-    query: &Query,
-) -> Result<Vec<Row>, AllocError>
-    ensures { IfOk result (λ found. Adds (InAnswer query.now ctx.now rows.now) [] found.items) }
+fn all_rows(alloc: Global, rows: &RowSet, ctx: &Context, query: &Query) -> Result<Found, AllocError>
+    ensures { IfOk result (λ found. Adds (InAnswer query.now ctx.now rows.now) [] found) }
 {
-    let mut found = Vec::new(alloc);
+    let mut found = Found::new(alloc);
     for part in query.parts.as_slice() {
         let mut chosen = Vec::new(alloc);
         let search = Search { rows, ctx, part };
         search.gather(alloc, part.from.as_slice(), &mut chosen, &mut found)?;
     }
     Ok(found)
-}
-
-/// The strictly rising list of the rows.
-fn in_order(mut found: Vec<Row>) -> List<Row>
-    ensures { IsRisingListOf found.items result }
-{
-    found.sort_unstable();
-    found.dedup();
-    List::from_vec(found)
 }

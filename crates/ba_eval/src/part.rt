@@ -3,6 +3,7 @@ ghost use Rattle.std.specs.Prelude.{◌≡◌, ◌↔◌, IsTrue, IfOk, OnOk, Al
 ghost use Rattle.ba_model.specs.Meaning.{value_of, rows_of, Holds, Gives};
 ghost use Rattle.ba_eval.specs.Search.{Adds, Fails, GivesFrom, IsHead};
 
+use crate::found::Found;
 use ba_model::{Atom, Context, Duplicate, List, Operand, Part, Row, RowSet, Same, Value};
 use std::alloc::{AllocError, Global};
 
@@ -21,10 +22,10 @@ impl<'a> Search<'a> {
         alloc: Global,
         from: &[u32],
         chosen: &mut Vec<&'a Row>,
-        found: &mut Vec<Row>,
+        found: &mut Found,
     ) -> Result<(), AllocError>
         ensures chosen { OnOk result (chosen.new.items ≡ chosen.old.items) }
-        ensures found { OnOk result (Adds (GivesFrom self.now.ctx.now self.now.rows.now self.now.part.now from.now (map (λ row. row.now) chosen.old.items)) found.old.items found.new.items) }
+        ensures found { OnOk result (Adds (GivesFrom self.now.ctx.now self.now.rows.now self.now.part.now from.now (map (λ row. row.now) chosen.old.items)) found.old found.new) }
     {
         match from.split_first() {
             None => self.add_row(alloc, chosen, found),
@@ -76,19 +77,16 @@ impl<'a> Search<'a> {
         &self,
         alloc: Global,
         chosen: &[&'a Row],
-        found: &mut Vec<Row>,
+        found: &mut Found,
     ) -> Result<(), AllocError>
-        ensures { OnOk result (Adds (Gives self.now.ctx.now (map (λ row. row.now) chosen.now) self.now.part.now) found.old.items found.new.items) }
+        ensures { OnOk result (Adds (Gives self.now.ctx.now (map (λ row. row.now) chosen.now) self.now.part.now) found.old found.new) }
     {
         if !all_hold(self.part.conds.as_slice(), self.ctx, chosen) {
             return Ok(());
         }
         let head = make_head(alloc, self.part.head.as_slice(), self.ctx, chosen)?;
         match head {
-            Some(row) => {
-                found.push(row)?;
-                Ok(())
-            }
+            Some(row) => found.add(row),
             None => Ok(()),
         }
     }

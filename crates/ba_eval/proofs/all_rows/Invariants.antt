@@ -5,4 +5,4 @@ use Rattle.ba_eval.proofs.all_rows.Given as goal
 
 -- what was found comes by the parts so far
 abbrev pub invariant-loop-part : goal.invariant-loop-part
-invariant-loop-part l = Adds (BySome (InPart l.ctx l.rows) (take l.part-index l.part-items)) [] l.found.items
+invariant-loop-part l = Adds (BySome (InPart l.ctx l.rows) (take l.part-index l.part-items)) [] l.found

@@ -10,5 +10,5 @@ decreases-gather l = length l.from.now
 abbrev pub invariant-loop-row : goal.invariant-loop-row
 invariant-loop-row l = record {
   chosen : l.chosen.items ≡ l.fn.chosen.items;
-  found : Adds (BySome (FromRow l.self.ctx.now l.self.rows.now l.self.part.now l.rest (map (λ row. row.now) l.fn.chosen.items)) (take l.row-index l.row-items)) l.fn.found.items l.found.items;
+  found : Adds (BySome (FromRow l.self.ctx.now l.self.rows.now l.self.part.now l.rest (map (λ row. row.now) l.fn.chosen.items)) (take l.row-index l.row-items)) l.fn.found l.found;
 }
