@@ -100,7 +100,7 @@ links_hold table number d rows (link ∷ links) h =
     let p = or_none (option_map (λ row. LinkBroken table number row) (position_from (dangles link (rows_of d link.target)) 1 rows)) (broken_link table (number + 1) d rows links) h in
     All-cons (LinkHolds d rows) link links (link_holds d rows link (map_none (λ row. LinkBroken table number row) (position_from (dangles link (rows_of d link.target)) 1 rows) p.0)) (links_hold table (number + 1) d rows links p.1)
 
-tables_conform : (number : ℕ) (d : RowSet) (tables : List Table) (lists : List (List (List Value))) → broken_table number d tables lists ≡ None → AllZip (λ table list. All (RowFits table) list) tables lists → AllZip (TableConforms d) tables lists
+pub tables_conform : (number : ℕ) (d : RowSet) (tables : List Table) (lists : List (List (List Value))) → broken_table number d tables lists ≡ None → AllZip (λ table list. All (RowFits table) list) tables lists → AllZip (TableConforms d) tables lists
 unfolding broken_table
 tables_conform number d [] [] h fit = tt
 tables_conform number d [] (rows ∷ lists) h fit = absurd fit

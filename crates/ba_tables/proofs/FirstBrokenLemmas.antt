@@ -169,7 +169,7 @@ link_is_first s d n table rows number row link place keys link_is found earlier 
         let mine = same_element table.links k number other link level (subst (λ x. slice_get x.links k ≡ Some other) one is) link_is in
         dangling_least d rows link row i found (subst (λ x. BreaksLink d rows x i) mine (subst (λ x. BreaksLink d x other i) two breaks)) less
 
-first_broken : (s : Schema) (d : RowSet) (fault : TablesFault) → broken_table 0 d s.tables d.tables ≡ Some fault → IsFirstBroken s d fault
+pub first_broken : (s : Schema) (d : RowSet) (fault : TablesFault) → broken_table 0 d s.tables d.tables ≡ Some fault → IsFirstBroken s d fault
 first_broken s d fault e = by (table_first 0 d s.tables d.tables fault e)
   where
     by : FirstTable 0 d s.tables d.tables fault → IsFirstBroken s d fault

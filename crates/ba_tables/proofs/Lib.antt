@@ -14,3 +14,4 @@ pub mod PositionLemmas
 pub mod RecordLemmas
 pub mod RowsLemmas
 pub mod SpellLemmas
+pub mod UnbrokenLemmas

@@ -1,15 +1,20 @@
 -- A schema and rows of its tables.
-use Rattle.std.specs.Prelude.{All}
+use Rattle.std.specs.Prelude.{All, List}
 use Rattle.std.specs.List.{AllZip}
 use Rattle.ba_model.specs.Conform.{RowFits}
 use Rattle.ba_model.specs.declared.schema.Schema.{Schema}
 use Rattle.ba_model.specs.declared.value.RowSet.{RowSet}
+use Rattle.ba_model.specs.declared.value.Value.{Value}
 
 -- what callers see of tables
 pub record TableSet : Type 0 where
   pub schema : Schema
   pub rows : RowSet
 
--- for each table of the schema there is one list, of rows that fit the table
+-- for each table there is one list, of rows that fit the table
+abbrev pub ListsFit : List Table → List (List (List Value)) → Type 0
+ListsFit tables lists = AllZip (λ table list. All (RowFits table) list) tables lists
+
+-- the same of a schema's tables
 pub record RowsFit (schema : Schema) (rows : RowSet) : Type 0 where
-  pub tables : AllZip (λ table list. All (RowFits table) list) schema.tables rows.tables
+  pub tables : ListsFit schema.tables rows.tables
