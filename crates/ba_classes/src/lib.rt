@@ -7,9 +7,12 @@
 #![tactic(auto)]
 
 mod best;
-pub mod classes;
+mod classes;
 mod grid;
 mod image;
 pub mod laws;
-pub mod order;
+mod order;
 mod row;
+
+pub use classes::Classes;
+pub use order::{Difference, Order};

@@ -2,4 +2,6 @@
 #![tactic(auto)]
 
 pub mod laws;
-pub mod trace;
+mod trace;
+
+pub use trace::{Trace, TraceEntry};

@@ -23,7 +23,7 @@ use Rattle.ba_model.specs.declared.schema.Schema.{Schema}
 use Rattle.ba_model.specs.declared.value.RowSet.{RowSet}
 use Rattle.ba_model.specs.declared.value.Value.{Value}
 use Rattle.ba_direct.specs.Cover.{CoverCovers, CoveredIsStrong, CoversBy, CoversPart, HasImage, IsImage, IsKnown, Maps, MapsAtom, PartCovered, SameConstant, constant_of}
-use Rattle.ba_direct.specs.declared.cover.PartCover.{PartCover}
+use Rattle.ba_direct.specs.declared.covers.PartCover.{PartCover}
 use Rattle.ba_direct.proofs.PlaceLemmas.{Placed, Placed-there, Placed-back, choice_length, choice_moved, rows_at, tables_back, way_back}
 
 constant_value : (c : Context) (rows : List (List Value)) (x : Operand) (v : Value) → constant_of c x ≡ Some v → value_of c rows x ≡ Some v

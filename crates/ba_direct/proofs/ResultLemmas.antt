@@ -13,8 +13,8 @@ use Rattle.ba_direct.proofs.CoverLemmas.{cover_covers, covered_is_strong}
 use Rattle.ba_direct.proofs.PlaceLemmas.{as_many_tables}
 use Rattle.ba_direct.specs.Cover.{AlwaysStrong, CoversBy, CoversPart, IsCover, IsFirst, IsFirstCover, PartCovered}
 use Rattle.ba_direct.specs.Search.{IsFirstBy, IsFirstFrom, NoneBy, NoneFrom, only_of}
-use Rattle.ba_direct.specs.declared.cover.Cover.{Cover}
-use Rattle.ba_direct.specs.declared.cover.PartCover.{PartCover}
+use Rattle.ba_direct.specs.declared.covers.Cover.{Cover}
+use Rattle.ba_direct.specs.declared.covers.PartCover.{PartCover}
 
 only_is : {X : Type 0} (xs : List X) (x : X) → Some x ≡ only_of xs → xs ≡ x ∷ []
 only_is [] x e = cc

@@ -17,8 +17,8 @@ use Rattle.ba_model.specs.declared.query.Operand.TheVariants.{Col, Val, Param, V
 use Rattle.ba_model.specs.declared.query.Part.{Part}
 use Rattle.ba_model.specs.declared.query.Query.{Query}
 use Rattle.ba_model.specs.declared.value.Value.{Value}
-use Rattle.ba_direct.specs.declared.cover.Cover.{Cover}
-use Rattle.ba_direct.specs.declared.cover.PartCover.{PartCover}
+use Rattle.ba_direct.specs.declared.covers.Cover.{Cover}
+use Rattle.ba_direct.specs.declared.covers.PartCover.{PartCover}
 
 -- A pairing lists, for each table of a view's part, a place in the query's part.
 

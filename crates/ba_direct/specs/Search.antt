@@ -7,7 +7,7 @@ use Rattle.ba_model.specs.declared.policy.Context.{Context}
 use Rattle.ba_model.specs.declared.policy.Policy.{Policy}
 use Rattle.ba_model.specs.declared.query.Part.{Part}
 use Rattle.ba_direct.specs.Cover.{CoversBy, CoversPart}
-use Rattle.ba_direct.specs.declared.cover.PartCover.{PartCover}
+use Rattle.ba_direct.specs.declared.covers.PartCover.{PartCover}
 
 -- the element of a list that has one
 abbrev pub only_of : {X : Type 0} → List X → Option X

@@ -1,8 +1,11 @@
 //! Direct cover: a query that single views of the policy answer, part by part.
 #![tactic(auto)]
 
-pub mod cover;
+mod covers;
 pub mod laws;
 mod pairing;
-pub mod search;
+mod search;
 mod test;
+
+pub use covers::{Cover, PartCover};
+pub use search::{cover, is_cover};

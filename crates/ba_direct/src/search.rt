@@ -4,7 +4,7 @@ ghost use Rattle.std.specs.Prelude.{◌≡◌, ◌<◌, ◌↔◌, IsTrue, IfOk,
 ghost use Rattle.ba_direct.specs.Cover.{AlwaysStrong, Covered, CoversPart, IsCover, IsFirst, IsFirstCover, PartCovered};
 ghost use Rattle.ba_direct.specs.Search.{IsFirstBy, NoneBy, only_of};
 
-use crate::cover::{Cover, PartCover};
+use crate::covers::{Cover, PartCover};
 use crate::pairing::{covers_by, pair};
 use ba_model::{Context, List, Part, Policy, Query};
 use std::alloc::{AllocError, Global};

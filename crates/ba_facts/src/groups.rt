@@ -2,7 +2,7 @@
 ghost use Rattle.std.specs.Prelude.{◌≡◌, ◌<◌, ◌≤◌, ◌↔◌, [], ◌∷◌, ◌++◌, IsTrue, IfOk, OnOk, OnErr};
 ghost use Rattle.ba_classes.specs.Merged.{Connected, IsLabel};
 
-use ba_classes::classes::Classes;
+use ba_classes::Classes;
 use std::alloc::{AllocError, Global};
 use std::marker::Model;
 

@@ -1,7 +1,7 @@
 //! The order of a web, which copies of the web share.
 ghost use Rattle.std.specs.Prelude.{◌≡◌, pos, neg_ℤ, ◌≤ℤ◌, ◌^◌, ◌++◌, ◌∷◌, [], IfOk, OnOk, OnErr};
 
-use ba_classes::order::Order;
+use ba_classes::Order;
 use ba_model::{Duplicate, Shared};
 use std::alloc::{AllocError, Global};
 use std::marker::Model;

@@ -8,7 +8,7 @@ ghost use Rattle.ba_kernel.specs.Asked.{QuestionFits};
 ghost use Rattle.ba_kernel.specs.Courses.{ProblemFits};
 ghost use Rattle.ba_kernel.specs.Problems.{entries_of, param_is, problem_of};
 
-use ba_comply::trace::{Trace, TraceEntry};
+use ba_comply::{Trace, TraceEntry};
 use ba_facts::number_of;
 use ba_model::{
     Atom, Column, Context, Duplicate, Kind, List, Op, Operand, Parameter, Part, Policy, Query,

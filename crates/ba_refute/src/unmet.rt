@@ -5,7 +5,7 @@ ghost use Rattle.ba_refute.specs.Counterexamples.{IsPairStored, IsRising, TellsF
 use crate::clause::{Clause, Counterexample};
 use crate::conform::conforms;
 use crate::within::{is_within, shows};
-use ba_comply::trace::Trace;
+use ba_comply::Trace;
 use ba_eval::contains;
 use ba_model::{Context, Policy, Query};
 use std::alloc::{AllocError, Global};

@@ -4,7 +4,7 @@ ghost use Rattle.ba_comply.specs.Comply.{Shows, Within};
 ghost use Rattle.ba_model.specs.Meaning.{InAnswer};
 ghost use Rattle.ba_refute.specs.Counterexamples.{IsShown, RowsPass, ViewsWithin};
 
-use ba_comply::trace::{Trace, TraceEntry};
+use ba_comply::{Trace, TraceEntry};
 use ba_eval::{answer, contains};
 use ba_model::{Context, Policy, Query, Row, RowSet, View};
 use std::alloc::{AllocError, Global};

@@ -3,6 +3,7 @@ use Rattle.std.specs.Prelude.{All, List}
 use Rattle.std.specs.List.{AllZip}
 use Rattle.ba_model.specs.Conform.{RowFits}
 use Rattle.ba_model.specs.declared.schema.Schema.{Schema}
+use Rattle.ba_model.specs.declared.schema.Table.{Table}
 use Rattle.ba_model.specs.declared.value.RowSet.{RowSet}
 use Rattle.ba_model.specs.declared.value.Value.{Value}
 

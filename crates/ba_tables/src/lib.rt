@@ -2,7 +2,7 @@
 #![tactic(auto)]
 
 mod broken;
-mod conform;
+mod conforming;
 mod fault;
 mod field;
 mod file;
@@ -12,7 +12,7 @@ mod lines;
 mod tables;
 
 pub use broken::{TablesFault, broken_table};
-pub use conform::conform;
+pub use conforming::conform;
 pub use fault::TableFault;
 pub use file::{read_table, rows_of_file};
 pub use tables::Tables;

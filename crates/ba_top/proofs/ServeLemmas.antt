@@ -8,7 +8,7 @@ use Rattle.std.specs.Prelude.{IfSome, MatchOption, Option, Some, slice_get}
 use Rattle.ba_comply.specs.Comply.{AnswerEverywhere, Records}
 use Rattle.ba_comply.specs.declared.trace.TraceEntry.{TraceEntry}
 use Rattle.ba_direct.specs.Cover.{AlwaysStrong, Covered, IsCover}
-use Rattle.ba_direct.specs.declared.cover.Cover.{Cover as Covering}
+use Rattle.ba_direct.specs.declared.covers.Cover.{Cover as Covering}
 use Rattle.ba_model.specs.Fit.{ContextFits, kinds_of}
 use Rattle.ba_model.specs.Meaning.{IsAnswer}
 use Rattle.ba_model.specs.declared.policy.Context.{Context}

@@ -4,7 +4,7 @@ use Rattle.std.specs.List.{AllZip, flat_map, list_any}
 use Rattle.ba_comply.specs.Comply.{Agree, Records}
 use Rattle.ba_comply.specs.declared.trace.TraceEntry.{TraceEntry}
 use Rattle.ba_direct.specs.Cover.{Covered, IsCover}
-use Rattle.ba_direct.specs.declared.cover.Cover.{Cover as Covering}
+use Rattle.ba_direct.specs.declared.covers.Cover.{Cover as Covering}
 use Rattle.ba_model.specs.Conform.{Conforms, RowFits}
 use Rattle.ba_model.specs.Fit.{PolicyFits}
 use Rattle.ba_model.specs.Meaning.{IsAnswer}

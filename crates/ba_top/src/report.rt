@@ -1,6 +1,6 @@
 //! What a run reads, does and answers.
 
-use ba_direct::cover::Cover;
+use ba_direct::Cover;
 use ba_model::{List, Policy, Query, Row, Str};
 use ba_sql_query::ReadQueryFault;
 use ba_tables::tables::Tables;

@@ -10,7 +10,7 @@ ghost use Rattle.ba_top.specs.declared.report.Entry.{Entry as Answered};
 
 use crate::report::{By, Entry, Input, Journal, Reply, Why};
 use ba_comply::laws::answer_everywhere;
-use ba_direct::search::cover;
+use ba_direct::cover;
 use ba_eval::answer;
 use ba_model::{Context, Duplicate, List, Query, Str};
 use ba_outside::Gate;

@@ -1,8 +1,7 @@
 //! Covers that are found and refused.
 
 use super::written::{Handle, context, field, null_query, policy, policy_of, query};
-use ba_direct::cover::Cover;
-use ba_direct::search::{cover, is_cover};
+use ba_direct::{Cover, cover, is_cover};
 use ba_model::{Duplicate, Op, Policy, Query};
 use std::alloc::AllocError;
 

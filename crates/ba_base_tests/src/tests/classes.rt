@@ -1,8 +1,7 @@
 //! Terms and facts about differences.
 
 use super::written::{Handle, field, number, numbers};
-use ba_classes::classes::Classes;
-use ba_classes::order::Order;
+use ba_classes::{Classes, Order};
 
 /// Terms 0 to 4, of which 1, 3 and 4 are merged.
 fn merged(rt: &impl Handle) -> Classes {

@@ -1,7 +1,7 @@
 //! Traces of a request.
 
 use super::written::{Handle, one, value};
-use ba_comply::trace::{Trace, TraceEntry};
+use ba_comply::{Trace, TraceEntry};
 use ba_model::{List, Query, Shared};
 
 fn entry(rt: &impl Handle, word: &str) -> TraceEntry {

@@ -1,5 +1,5 @@
 use Rattle.std.proofs.Common.{length}
-use Rattle.ba_tables.proofs.conform.+lists_fit.Given as goal
+use Rattle.ba_tables.proofs.conforming.+lists_fit.Given as goal
 
 abbrev pub decreases-lists_fit : goal.decreases-lists_fit
 decreases-lists_fit l = length l.tables.now

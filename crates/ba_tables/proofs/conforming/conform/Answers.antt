@@ -3,7 +3,7 @@ use Rattle.std.proofs.lemmas.Slice.Zip.{AllZip-long}
 use Rattle.std.specs.List.{All}
 use Rattle.ba_model.specs.Conform.{RowFits}
 use Rattle.ba_tables.proofs.UnbrokenLemmas.{conform_tested, conform_unfit, fit_test, is_true, none_test}
-use Rattle.ba_tables.proofs.conform.conform.Goals as goal
+use Rattle.ba_tables.proofs.conforming.conform.Goals as goal
 
 pub returns-then-not-lists_fit : goal.returns-then-not-lists_fit
 returns-then-not-lists_fit c =

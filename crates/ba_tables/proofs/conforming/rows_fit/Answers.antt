@@ -3,7 +3,7 @@ use Rattle.std.proofs.lemmas.List.{take_all}
 use Rattle.std.proofs.lemmas.List.Elements.{All-more}
 use Rattle.ba_model.specs.Conform.{RowFits}
 use Rattle.ba_tables.proofs.UnbrokenLemmas.{fits_seen, is_true}
-use Rattle.ba_tables.proofs.conform.rows_fit.Goals as goal
+use Rattle.ba_tables.proofs.conforming.rows_fit.Goals as goal
 
 pub loop-row-preserved : goal.loop-row-preserved
 loop-row-preserved c =
