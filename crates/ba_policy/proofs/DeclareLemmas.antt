@@ -9,12 +9,12 @@ use Rattle.std.proofs.lemmas.Map.Views.{Contains-from_any, list_any-from_Contain
 use Rattle.std.proofs.lemmas.Slice.Eq.{bytes_eq-Decides}
 use Rattle.ba_lex.specs.declared.token.Lexeme.{Lexeme}
 use Rattle.ba_model.proofs.DistinctLemmas.{repeats}
+use Rattle.ba_model.specs.Readings.{◌>>=◌}
 use Rattle.ba_model.specs.declared.policy.Parameter.{Parameter}
 use Rattle.ba_model.specs.declared.policy.View.{View}
 use Rattle.ba_model.specs.declared.query.Query.{Query}
 use Rattle.ba_model.specs.declared.schema.Kind.{Kind}
 use Rattle.ba_model.specs.declared.schema.Schema.{Schema}
-use Rattle.ba_policy.specs.Faults.{◌>>=◌}
 use Rattle.ba_policy.specs.Laws.{AllDiffer, Declare, IsOfStatement, IsViewOf, Refuses, params_in, views_in}
 use Rattle.ba_policy.specs.Meaning.{added, all_added, nothing, param_added, parameter, same_name, view_added, with_param, with_query, with_view}
 use Rattle.ba_policy.specs.Statements.{StatementText}

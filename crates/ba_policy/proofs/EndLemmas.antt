@@ -1,12 +1,11 @@
 -- The words up to the next `;`, as the loop finds them.
 use Rattle.std.proofs.Common.{◌≡◌, ℕ, ◌+◌, ◌<◌, ◌≤◌, true, false, List, [], ◌∷◌, ◌++◌, length, take, drop, get_or, Ok, Err, refl, sym, ap, ◌∙◌, append_assoc}
 use Rattle.std.proofs.lemmas.List.{append-nil, drop_all, drop_more, take_more}
-use Rattle.ba_grammar.specs.Errors.{◌>>=◌}
-use Rattle.ba_grammar.specs.Front.{Read, is_sign}
-use Rattle.ba_grammar.specs.declared.error.Syntax.TheVariants.{Syntax as syntax}
+use Rattle.ba_grammar.specs.Front.{Read, is_sign, syntax}
 use Rattle.ba_grammar.proofs.SeveralLemmas.{onto}
 use Rattle.ba_lex.specs.declared.token.Lexeme.{Lexeme}
 use Rattle.ba_lex.specs.declared.token.Sign.TheVariants.{Semicolon}
+use Rattle.ba_model.specs.Readings.{◌>>=◌}
 use Rattle.ba_policy.specs.Reader.{up_to_end}
 
 onto_nothing : {X : Type 0} (read : Read (List X)) → onto [] read ≡ read

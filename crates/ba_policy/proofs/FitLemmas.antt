@@ -1,11 +1,13 @@
 -- Queries fit more parameters too.
 use Rattle.std.proofs.Common.{◌≡◌, ℕ, zero, suc, List, [], ◌∷◌, ◌++◌, map, slice_get, All, Option, Some, None, Result, Ok, Err, Bool, true, false, refl, sym, ap, subst, ◌∙◌, arith}
 use Rattle.std.specs.List.{AllByRecursion, list_any}
-use Rattle.std.specs.Result.{IfOk}
+use Rattle.std.specs.Result.{OnOk}
 use Rattle.std.proofs.lemmas.List.{map-append}
 use Rattle.std.proofs.lemmas.List.Elements.{All-from_recursion, recursion_from_All}
 use Rattle.std.proofs.lemmas.Option.{slice_get_past}
 use Rattle.ba_model.specs.Fit.{AtomFits, IsQuery, PartFits, QueryFits, kind_of, kinds_of}
+use Rattle.ba_model.specs.Readings.{Sees}
+use Rattle.ba_model.specs.declared.failure.Failure.{Failure}
 use Rattle.ba_model.specs.declared.policy.Parameter.{Parameter}
 use Rattle.ba_model.specs.declared.policy.View.{View}
 use Rattle.ba_model.specs.declared.query.Atom.{Atom}
@@ -15,10 +17,8 @@ use Rattle.ba_model.specs.declared.query.Part.{Part}
 use Rattle.ba_model.specs.declared.query.Query.{Query}
 use Rattle.ba_model.specs.declared.schema.Kind.{Kind}
 use Rattle.ba_model.specs.declared.schema.Schema.{Schema}
-use Rattle.ba_policy.specs.Faults.{Gives}
 use Rattle.ba_policy.specs.Meaning.{DraftFits, param_added, parameter, same_name, with_param}
 use Rattle.ba_policy.specs.declared.draft.Draft.{Draft}
-use Rattle.ba_policy.specs.declared.error.PolicyError.{PolicyError}
 use Rattle.ba_policy.specs.declared.error.PolicyFault.{PolicyFault}
 use Rattle.ba_policy.specs.declared.error.PolicyFault.TheVariants.{DuplicateParam}
 
@@ -98,13 +98,6 @@ added_param_fits s d e name kind h fits = at (list_any (same_name name) d.param_
     at false g = subst (DraftFits s) (drafts (with_param d name kind) e (rw g at h)) (param_fits s d name kind fits)
     at true g = let wrong : ◌≡◌ {A = Result Draft PolicyFault} (Err (DuplicateParam name)) (Ok e) = rw g at h in cc
 
-put : {A : Type 0} (P : A → Type 0) (xs : List A) (x : A) → AllByRecursion P xs → P x → AllByRecursion P (xs ++ x ∷ [])
-put P [] x h p = (p, tt)
-put P (y ∷ ys) x h p = (h.0, put P ys x h.1 p)
-
-pub view_fits : (s : Schema) (params : List Parameter) (views : List View) (v : View) → All (λ it. IsQuery s (kinds_of params) [] it.query) views → IsQuery s (kinds_of params) [] v.query → All (λ it. IsQuery s (kinds_of params) [] it.query) (views ++ v ∷ [])
-view_fits s params views v h q = All-from_recursion (Fits s (kinds_of params)) (views ++ v ∷ []) (put (Fits s (kinds_of params)) views v (recursion_from_All (Fits s (kinds_of params)) views h) q)
-
-pub param_given : (s : Schema) (d : Draft) (name : List ℕ) (kind : Kind) (r : Result Draft PolicyError) → Gives r (param_added d name kind) → DraftFits s d → IfOk r (DraftFits s)
-param_given s d name kind (Ok e) h fits = added_param_fits s d e name kind h fits
-param_given s d name kind (Err e) h fits = tt
+pub param_given : (s : Schema) (d e : Draft) (name : List ℕ) (kind : Kind) (r : Result (Unit {0}) (Failure PolicyFault)) → Sees (λ u. e) r (param_added d name kind) → DraftFits s d → OnOk r (DraftFits s e)
+param_given s d e name kind (Ok u) h fits = added_param_fits s d e name kind h fits
+param_given s d e name kind (Err f) h fits = tt

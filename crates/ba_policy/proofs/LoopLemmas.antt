@@ -3,13 +3,13 @@ use Rattle.std.proofs.Common.{◌≡◌, ℕ, ◌+◌, ◌<◌, ◌≤◌, List,
 use Rattle.std.proofs.lemmas.List.{drop_all, drop_more}
 use Rattle.std.proofs.lemmas.List.Elements.{All-nil}
 use Rattle.ba_model.specs.Fit.{IsQuery, kinds_of}
+use Rattle.ba_model.specs.Readings.{◌>>=◌, Fails}
+use Rattle.ba_model.specs.declared.failure.Failure.{Failure}
+use Rattle.ba_model.specs.declared.failure.Failure.TheVariants.{NoMemory, Fault}
 use Rattle.ba_model.specs.declared.schema.Schema.{Schema}
-use Rattle.ba_policy.specs.Faults.{◌>>=◌, Fails}
 use Rattle.ba_policy.specs.Meaning.{DraftFits, added, all_added, nothing}
 use Rattle.ba_policy.specs.Statements.{seen}
 use Rattle.ba_policy.specs.declared.draft.Draft.{Draft}
-use Rattle.ba_policy.specs.declared.error.PolicyError.{PolicyError}
-use Rattle.ba_policy.specs.declared.error.PolicyError.TheVariants.{NoMemory, Fault}
 use Rattle.ba_policy.specs.declared.error.PolicyFault.{PolicyFault}
 use Rattle.ba_policy.specs.declared.statement.Statement.{Statement}
 
@@ -29,7 +29,7 @@ pub adding_more : (schema : Schema) (d e : Draft) (statements : List Statement) 
 adding_more schema d e statements i s at lt is h fits =
     record { so_far = sym (split schema d statements i s lt is ∙ ap (λ (r : Result Draft PolicyFault). r >>= λ x. all_added schema x (map seen (drop (i + 1) statements))) h) ∙ at.so_far; fits = fits }
 
-pub adding_fails : (schema : Schema) (d : Draft) (statements : List Statement) (i : ℕ) (s : Statement) (err : PolicyError) → Adding schema d statements i → i < length statements → s ≡ get_or statements i s → Fails err (added schema d (seen s)) → Fails err (all_added schema nothing (map seen statements))
+pub adding_fails : (schema : Schema) (d : Draft) (statements : List Statement) (i : ℕ) (s : Statement) (err : Failure PolicyFault) → Adding schema d statements i → i < length statements → s ≡ get_or statements i s → Fails err (added schema d (seen s)) → Fails err (all_added schema nothing (map seen statements))
 adding_fails schema d statements i s NoMemory at lt is h = tt
 adding_fails schema d statements i s (Fault f) at lt is h =
     sym at.so_far ∙ split schema d statements i s lt is ∙ ap (λ (r : Result Draft PolicyFault). r >>= λ x. all_added schema x (map seen (drop (i + 1) statements))) h

@@ -7,7 +7,6 @@ use Rattle.std.proofs.lemmas.Bool.{false_from_ne_true}
 use Rattle.std.proofs.lemmas.List.{length-append}
 use Rattle.std.proofs.lemmas.List.Elements.{All-from_recursion, recursion_from_All}
 use Rattle.std.proofs.lemmas.Slice.Eq.{bytes_eq-Decides}
-use Rattle.ba_grammar.specs.Errors.{◌>>=◌}
 use Rattle.ba_grammar.specs.Front.{Read, all, any_at, begins, is_keyword, is_sign, past}
 use Rattle.ba_grammar.specs.Items.{AreSpelled, Item, Spells}
 use Rattle.ba_grammar.specs.Items.Item.{any, keyword, sign}
@@ -17,6 +16,7 @@ use Rattle.ba_lex.specs.Word.{is_word}
 use Rattle.ba_lex.specs.declared.token.Lexeme.{Lexeme}
 use Rattle.ba_lex.specs.declared.token.Lexeme.TheVariants.{Sign as SignWord}
 use Rattle.ba_lex.specs.declared.token.Sign.TheVariants.{Semicolon}
+use Rattle.ba_model.specs.Readings.{◌>>=◌}
 use Rattle.ba_model.specs.declared.schema.Kind.{Kind}
 use Rattle.ba_model.specs.declared.schema.Kind.TheVariants.{Int as IntKind, Text as TextKind}
 use Rattle.ba_policy.specs.Reader.{kind_at, param_at, statement_at, statements_at, up_to_end, view_at}

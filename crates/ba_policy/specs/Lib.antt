@@ -1,4 +1,3 @@
-pub mod Faults
 pub mod Statements
 pub mod Reader
 pub mod Meaning

@@ -1,15 +1,16 @@
 -- What statements declare, in order.
-use Rattle.std.specs.Prelude.{ℕ, Bool, nat_eq, nat_lt, List, [], ◌∷◌, ◌++◌, length, All, Result, Ok, Err, if◌then◌else◌}
+use Rattle.std.specs.Prelude.{ℕ, Bool, nat_eq, nat_lt, List, [], ◌∷◌, ◌++◌, length, All, Option, Some, None, Result, Ok, Err, if◌then◌else◌}
 use Rattle.std.specs.Cmp.Lexicographic.{pointwise}
 use Rattle.std.specs.List.{list_any}
 use Rattle.ba_lex.specs.declared.token.Lexeme.{Lexeme}
 use Rattle.ba_model.specs.Fit.{IsQuery, kinds_of}
+use Rattle.ba_model.specs.Readings.{◌>>=◌}
+use Rattle.ba_model.specs.declared.limits.TheConstants.{MAX_PARAMS, MAX_VIEWS}
 use Rattle.ba_model.specs.declared.policy.Parameter.{Parameter}
 use Rattle.ba_model.specs.declared.policy.Policy.{Policy}
 use Rattle.ba_model.specs.declared.query.Query.{Query}
 use Rattle.ba_model.specs.declared.schema.Kind.{Kind}
 use Rattle.ba_model.specs.declared.schema.Schema.{Schema}
-use Rattle.ba_policy.specs.Faults.{◌>>=◌}
 use Rattle.ba_policy.specs.Statements.{StatementText}
 use Rattle.ba_policy.specs.Statements.StatementText.{param, view}
 use Rattle.ba_policy.specs.declared.draft.Draft.{Draft}
@@ -53,12 +54,21 @@ abbrev pub all_added : Schema → Draft → List StatementText → Result Draft 
 all_added schema d [] = Ok d
 all_added schema d (s ∷ ss) = added schema d s >>= λ e. all_added schema e ss
 
--- at most 128 views and 16 parameters
+-- more than MAX_VIEWS views, or else more than MAX_PARAMS parameters
+abbrev pub excess : Draft → Option PolicyFault
+excess d =
+    if nat_lt MAX_VIEWS (length d.views) then Some (TooMany Views MAX_VIEWS)
+    else (if nat_lt MAX_PARAMS (length d.params) then Some (TooMany Params MAX_PARAMS) else None)
+
+abbrev pub policy : Schema → Draft → Policy
+policy schema d = record { schema = schema; params = d.params; views = d.views; keys = [] }
+
+abbrev pub unless : Option PolicyFault → Policy → Result Policy PolicyFault
+unless None p = Ok p
+unless (Some f) p = Err f
+
 abbrev pub finished : Schema → Draft → Result Policy PolicyFault
-finished schema d =
-    if nat_lt 128 (length d.views) then Err (TooMany Views 128)
-    else (if nat_lt 16 (length d.params) then Err (TooMany Params 16)
-    else Ok (record { schema = schema; params = d.params; views = d.views; keys = [] }))
+finished schema d = unless (excess d) (policy schema d)
 
 -- the queries so far fit the schema and the parameters so far, and are within the limits
 pub record DraftFits (schema : Schema) (d : Draft) : Type 0 where

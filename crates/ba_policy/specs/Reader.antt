@@ -1,11 +1,10 @@
 -- Statements read from the left.
 use Rattle.std.specs.Prelude.{List, [], ◌∷◌, length, Result, Ok, Err, codes, if◌then◌else◌}
-use Rattle.ba_grammar.specs.Errors.{◌>>=◌}
-use Rattle.ba_grammar.specs.Front.{Read, all, any_at, begins, is_keyword, is_sign, past}
+use Rattle.ba_grammar.specs.Front.{Read, all, any_at, begins, is_keyword, is_sign, past, syntax}
 use Rattle.ba_grammar.specs.declared.error.Syntax.{Syntax}
-use Rattle.ba_grammar.specs.declared.error.Syntax.TheVariants.{Syntax as syntax}
 use Rattle.ba_lex.specs.declared.token.Lexeme.{Lexeme}
 use Rattle.ba_lex.specs.declared.token.Sign.TheVariants.{Semicolon}
+use Rattle.ba_model.specs.Readings.{◌>>=◌}
 use Rattle.ba_model.specs.declared.schema.Kind.{Kind}
 use Rattle.ba_model.specs.declared.schema.Kind.TheVariants.{Int as IntKind, Text as TextKind}
 use Rattle.ba_policy.specs.Statements.{StatementText}

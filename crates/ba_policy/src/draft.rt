@@ -1,25 +1,23 @@
 //! What statements declare, in order.
-ghost use Rattle.std.specs.Prelude.{◌≡◌, ◌≤◌, [], IfOk, length, map};
+ghost use Rattle.std.specs.Prelude.{◌≡◌, ◌≤◌, [], IfOk, OnOk, length, map};
 ghost use Rattle.ba_model.specs.Fit.{PolicyFits};
-ghost use Rattle.ba_policy.specs.Faults.{Gives};
-ghost use Rattle.ba_policy.specs.Meaning.{DraftFits, added, all_added, finished, nothing, param_added, view_added};
+ghost use Rattle.ba_model.specs.Readings.{Gives, Sees};
+ghost use Rattle.ba_model.specs.declared.limits.TheConstants.{MAX_PARAMS, MAX_VIEWS};
+ghost use Rattle.ba_policy.specs.Meaning.{DraftFits, added, all_added, excess, finished, nothing, param_added, view_added};
 ghost use Rattle.ba_policy.specs.Statements.{seen};
 
-use crate::error::{Kept, PolicyError, PolicyFault};
+use crate::error::{Kept, PolicyFault};
 use crate::names::Names;
 use crate::statement::Statement;
 use ba_lex::Lexeme;
-use ba_model::{Duplicate, Kind, List, Parameter, Policy, Schema, Shared, Str, View};
-use ba_sql_query::{ReadQueryError, read_words};
+use ba_model::{
+    Duplicate, Failure, Kind, List, MAX_PARAMS, MAX_VIEWS, Parameter, Policy, Schema, Shared, Str,
+    View,
+};
+use ba_sql_query::read_words;
 use std::alloc::Global;
 
-/// How many views a policy may have.
-const MOST_VIEWS: usize = 128;
-
-/// How many parameters a policy may have.
-const MOST_PARAMS: usize = 16;
-
-/// The parameters and views so far, and their names.
+/// The parameters and views so far, and their names. After a refusal it is of no use.
 #[derive(Drop)]
 pub struct Draft {
     params: List<Parameter>,
@@ -39,61 +37,62 @@ fn new_draft(alloc: Global) -> Draft
     }
 }
 
-fn with_param(alloc: Global, draft: Draft, name: &Str, kind: Kind) -> Result<Draft, PolicyError>
-    ensures { Gives result (param_added draft name.now kind) }
+fn add_param(
+    alloc: Global,
+    draft: &mut Draft,
+    name: &Str,
+    kind: Kind,
+) -> Result<(), Failure<PolicyFault>>
+    ensures { Sees (λ _. draft.new) result (param_added draft.old name.now kind) }
 {
-    let mut draft = draft;
     let is_new = draft.param_names.add(alloc, name)?;
     let name = name.copy(alloc)?;
     if !is_new {
-        return Err(PolicyError::Fault(PolicyFault::DuplicateParam(name)));
+        return Err(Failure::Fault(PolicyFault::DuplicateParam(name)));
     }
     draft.params.push(Parameter { name, kind })?;
-    Ok(draft)
+    Ok(())
 }
 
-fn with_view(
+fn add_view(
     alloc: Global,
     schema: &Schema,
-    draft: Draft,
+    draft: &mut Draft,
     name: &Str,
     words: &[Lexeme],
-) -> Result<Draft, PolicyError>
-    requires { DraftFits schema.now draft }
-    ensures exact { Gives result (view_added schema.now draft name.now words.now) }
-    ensures fits { IfOk result (DraftFits schema.now) }
+) -> Result<(), Failure<PolicyFault>>
+    requires { DraftFits schema.now draft.old }
+    ensures exact { Sees (λ _. draft.new) result (view_added schema.now draft.old name.now words.now) }
+    ensures fits { OnOk result (DraftFits schema.now draft.new) }
 {
-    let mut draft = draft;
     let is_new = draft.view_names.add(alloc, name)?;
     let name = name.copy(alloc)?;
     if !is_new {
-        return Err(PolicyError::Fault(PolicyFault::DuplicateView(name)));
+        return Err(Failure::Fault(PolicyFault::DuplicateView(name)));
     }
     match read_words(alloc, schema, &draft.params, words) {
         Ok(query) => {
             draft.views.push(View { name, query })?;
-            Ok(draft)
+            Ok(())
         }
-        Err(ReadQueryError::NoMemory) => Err(PolicyError::NoMemory),
-        Err(ReadQueryError::Fault(fault)) => {
-            Err(PolicyError::Fault(PolicyFault::View(name, fault)))
-        }
+        Err(Failure::NoMemory) => Err(Failure::NoMemory),
+        Err(Failure::Fault(fault)) => Err(Failure::Fault(PolicyFault::View(name, fault))),
     }
 }
 
 fn add(
     alloc: Global,
     schema: &Schema,
-    draft: Draft,
+    draft: &mut Draft,
     statement: &Statement<'_>,
-) -> Result<Draft, PolicyError>
-    requires { DraftFits schema.now draft }
-    ensures exact { Gives result (added schema.now draft (seen statement.now)) }
-    ensures fits { IfOk result (DraftFits schema.now) }
+) -> Result<(), Failure<PolicyFault>>
+    requires { DraftFits schema.now draft.old }
+    ensures exact { Sees (λ _. draft.new) result (added schema.now draft.old (seen statement.now)) }
+    ensures fits { OnOk result (DraftFits schema.now draft.new) }
 {
     match *statement {
-        Statement::Param { name, kind } => with_param(alloc, draft, name, kind),
-        Statement::View { name, words } => with_view(alloc, schema, draft, name, words),
+        Statement::Param { name, kind } => add_param(alloc, draft, name, kind),
+        Statement::View { name, words } => add_view(alloc, schema, draft, name, words),
     }
 }
 
@@ -102,36 +101,50 @@ pub fn draft_of(
     alloc: Global,
     schema: &Schema,
     statements: &[Statement<'_>],
-) -> Result<Draft, PolicyError>
+) -> Result<Draft, Failure<PolicyFault>>
     ensures exact { Gives result (all_added schema.now nothing (map seen statements.now)) }
     ensures fits { IfOk result (DraftFits schema.now) }
 {
     let mut draft = new_draft(alloc);
     for statement in statements {
-        draft = add(alloc, schema, draft, statement)?;
+        add(alloc, schema, &mut draft, statement)?;
     }
     Ok(draft)
 }
 
+// The fault of the count that is above its limit, if one is.
+fn excess(draft: &Draft) -> Option<PolicyFault>
+    ensures { result ≡ excess draft.now }
+{
+    if draft.views.len() > MAX_VIEWS {
+        return Some(PolicyFault::TooMany {
+            what: Kept::Views,
+            limit: MAX_VIEWS as u64,
+        });
+    }
+    if draft.params.len() > MAX_PARAMS {
+        return Some(PolicyFault::TooMany {
+            what: Kept::Params,
+            limit: MAX_PARAMS as u64,
+        });
+    }
+    None
+}
+
 /// The policy, if its counts are within the limits.
-pub fn finish(alloc: Global, schema: &Shared<Schema>, draft: Draft) -> Result<Policy, PolicyError>
+pub fn finish(
+    alloc: Global,
+    schema: &Shared<Schema>,
+    draft: Draft,
+) -> Result<Policy, Failure<PolicyFault>>
     requires { DraftFits schema.now draft }
     ensures exact { Gives result (finished schema.now draft) }
     ensures fits { IfOk result PolicyFits }
-    ensures views { IfOk result (λ policy. length policy.views ≤ 128) }
-    ensures params { IfOk result (λ policy. length policy.params ≤ 16) }
+    ensures views { IfOk result (λ policy. length policy.views ≤ MAX_VIEWS) }
+    ensures params { IfOk result (λ policy. length policy.params ≤ MAX_PARAMS) }
 {
-    if draft.views.len() > MOST_VIEWS {
-        return Err(PolicyError::Fault(PolicyFault::TooMany {
-            what: Kept::Views,
-            limit: 128,
-        }));
-    }
-    if draft.params.len() > MOST_PARAMS {
-        return Err(PolicyError::Fault(PolicyFault::TooMany {
-            what: Kept::Params,
-            limit: 16,
-        }));
+    if let Some(fault) = excess(&draft) {
+        return Err(Failure::Fault(fault));
     }
     let schema = schema.copy(alloc)?;
     Ok(Policy {

@@ -1,14 +1,11 @@
 //! Why a file is no policy.
 ghost use Rattle.std.specs.Prelude.{◌≡◌};
-ghost use Rattle.ba_policy.specs.Faults.{of_lexer, of_reader};
-ghost use Rattle.ba_policy.specs.declared.error.PolicyError.TheVariants.{NoMemory};
+ghost use Rattle.ba_policy.specs.declared.error.PolicyFault.TheVariants as faults;
 
-use ba_grammar::ReadError;
-use ba_lex::{LexError, LexFault};
+use ba_grammar::Syntax;
+use ba_lex::LexFault;
 use ba_model::Str;
 use ba_sql_query::ReadQueryFault;
-use std::alloc::{AllocError, AllocFailed};
-use thiserror::Error;
 
 /// What a policy has a limited number of.
 #[derive(Clone, Copy, Debug, PartialEq, Eq)]
@@ -34,49 +31,18 @@ pub enum PolicyFault {
     TooMany { what: Kept, limit: u64 },
 }
 
-/// Want of memory, or a fault of the file.
-#[derive(Debug, Drop, Error)]
-pub enum PolicyError {
-    #[error("out of memory")]
-    NoMemory,
-    #[error("no policy")]
-    Fault(PolicyFault),
-}
+impl From<LexFault> for PolicyFault {
+    ghost from_gives = { λ f fault. fault ≡ faults.Lex f };
 
-impl From<AllocError> for PolicyError {
-    ghost from_gives = { λ _ e. e ≡ NoMemory };
-
-    fn from(_e: AllocError) -> PolicyError {
-        PolicyError::NoMemory
+    fn from(fault: LexFault) -> PolicyFault {
+        PolicyFault::Lex(fault)
     }
 }
 
-impl<T: Drop> From<AllocFailed<T>> for PolicyError {
-    ghost from_gives = { λ _ e. e ≡ NoMemory };
+impl From<Syntax> for PolicyFault {
+    ghost from_gives = { λ _ fault. fault ≡ faults.Syntax };
 
-    fn from(_e: AllocFailed<T>) -> PolicyError {
-        PolicyError::NoMemory
-    }
-}
-
-impl From<LexError> for PolicyError {
-    ghost from_gives = { λ e policy. policy ≡ of_lexer e };
-
-    fn from(e: LexError) -> PolicyError {
-        match e {
-            LexError::NoMemory => PolicyError::NoMemory,
-            LexError::Fault(fault) => PolicyError::Fault(PolicyFault::Lex(fault)),
-        }
-    }
-}
-
-impl From<ReadError> for PolicyError {
-    ghost from_gives = { λ e policy. policy ≡ of_reader e };
-
-    fn from(e: ReadError) -> PolicyError {
-        match e {
-            ReadError::NoMemory => PolicyError::NoMemory,
-            ReadError::Syntax => PolicyError::Fault(PolicyFault::Syntax),
-        }
+    fn from(_: Syntax) -> PolicyFault {
+        PolicyFault::Syntax
     }
 }

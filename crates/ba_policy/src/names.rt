@@ -38,7 +38,6 @@ impl Names {
         ensures names { OnOk result (self.new ≡ insert_key same_name self.old name.now) }
     {
         let name = name.copy(alloc)?;
-        let (_, is_new) = self.set.insert_full(name)?;
-        Ok(is_new)
+        Ok(self.set.insert(name)?)
     }
 }

@@ -1,26 +1,23 @@
 //! Policies.
 ghost use Rattle.std.specs.Prelude.{◌≡◌, ◌≤◌, IfOk, length};
-ghost use Rattle.ba_lex.specs.Tokens.{file_tokens_of};
 ghost use Rattle.ba_model.specs.Fit.{PolicyFits};
-ghost use Rattle.ba_policy.specs.Faults.{Gives};
+ghost use Rattle.ba_model.specs.Readings.{Gives};
+ghost use Rattle.ba_model.specs.declared.limits.TheConstants.{MAX_PARAMS, MAX_VIEWS};
 ghost use Rattle.ba_policy.specs.Meaning.{all_added, finished, nothing};
 ghost use Rattle.ba_policy.specs.Reading.{policy_of, policy_of_statements, words_of};
 
 use crate::draft::{draft_of, finish};
-use crate::error::PolicyError;
+use crate::error::PolicyFault;
 use crate::statement::statements;
 use ba_grammar::lexemes;
 use ba_lex::{Lexeme, tokens_of_bytes};
-use ba_model::{List, Policy, Schema, Shared};
+use ba_model::{Failure, List, MAX_PARAMS, MAX_TEXT_BYTES, MAX_VIEWS, Policy, Schema, Shared};
 use std::alloc::Global;
 
-/// How many bytes a policy may have.
-const MOST_BYTES: usize = 1_048_576;
-
-fn words_of(alloc: Global, bytes: &[u8]) -> Result<List<Lexeme>, PolicyError>
-    ensures { Gives result (words_of (file_tokens_of 1048576 bytes.now)) }
+fn words_of(alloc: Global, bytes: &[u8]) -> Result<List<Lexeme>, Failure<PolicyFault>>
+    ensures { Gives result (words_of bytes.now) }
 {
-    let tokens = tokens_of_bytes(alloc, bytes, MOST_BYTES)?;
+    let tokens = tokens_of_bytes(alloc, bytes, MAX_TEXT_BYTES).map_err(Failure::widen)?;
     Ok(lexemes(alloc, tokens)?)
 }
 
@@ -43,15 +40,15 @@ pub fn read_policy(
     alloc: Global,
     schema: &Shared<Schema>,
     bytes: &[u8],
-) -> Result<Policy, PolicyError>
+) -> Result<Policy, Failure<PolicyFault>>
     ensures exact { Gives result (policy_of schema.now bytes.now) }
     ensures same { IfOk result (λ policy. policy.schema ≡ schema.now) }
     ensures fits { IfOk result PolicyFits }
-    ensures views { IfOk result (λ policy. length policy.views ≤ 128) }
-    ensures params { IfOk result (λ policy. length policy.params ≤ 16) }
+    ensures views { IfOk result (λ policy. length policy.views ≤ MAX_VIEWS) }
+    ensures params { IfOk result (λ policy. length policy.params ≤ MAX_PARAMS) }
 {
     let words = words_of(alloc, bytes)?;
-    let statements = statements(alloc, words.as_slice())?;
+    let statements = statements(alloc, words.as_slice()).map_err(Failure::widen)?;
     let draft = draft_of(alloc, schema, statements.as_slice())?;
     finish(alloc, schema, draft)
 }

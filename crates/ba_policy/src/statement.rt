@@ -1,13 +1,13 @@
 //! Statements, as a policy writes them.
 ghost use Rattle.std.specs.Prelude.{◌≡◌, length, map};
-ghost use Rattle.ba_grammar.specs.Errors.{Sees};
 ghost use Rattle.ba_grammar.specs.Front.{any_at};
+ghost use Rattle.ba_model.specs.Readings.{Sees};
 ghost use Rattle.ba_policy.specs.Reader as reader;
 ghost use Rattle.ba_policy.specs.Statements.{seen};
 
-use ba_grammar::{ReadError, begins_with_keyword, is_keyword, is_sign, past_keyword, past_sign};
+use ba_grammar::{Syntax, begins_with_keyword, is_keyword, is_sign, past_keyword, past_sign};
 use ba_lex::{Lexeme, Sign};
-use ba_model::{Kind, List, Str};
+use ba_model::{Failure, Kind, List, Str};
 use std::alloc::Global;
 
 /// A statement of a policy.
@@ -21,28 +21,28 @@ pub enum Statement<'a> {
 
 /// Any word.
 #[tactic(auto, unfolding(ba_grammar::specs::Front::any_at))]
-fn word(words: &[Lexeme]) -> Result<(&Str, &[Lexeme]), ReadError>
+fn word(words: &[Lexeme]) -> Result<(&Str, &[Lexeme]), Failure<Syntax>>
     ensures { Sees (λ x. (x.0.now, x.1.now)) result (any_at words.now) }
 {
     match words {
         [Lexeme::Word(word), rest @ ..] => Ok((word, rest)),
-        _ => Err(ReadError::Syntax),
+        _ => Err(Failure::Fault(Syntax)),
     }
 }
 
 #[tactic(auto, unfolding(crate::specs::Reader::kind_at))]
-fn kind(words: &[Lexeme]) -> Result<(Kind, &[Lexeme]), ReadError>
+fn kind(words: &[Lexeme]) -> Result<(Kind, &[Lexeme]), Failure<Syntax>>
     ensures { Sees (λ x. (x.0, x.1.now)) result (reader.kind_at words.now) }
 {
     match words {
         [first, rest @ ..] if is_keyword(first, "INT") => Ok((Kind::Int, rest)),
         [first, rest @ ..] if is_keyword(first, "TEXT") => Ok((Kind::Text, rest)),
-        _ => Err(ReadError::Syntax),
+        _ => Err(Failure::Fault(Syntax)),
     }
 }
 
 /// The words up to the next `;`, and those behind it.
-fn up_to_end(words: &[Lexeme]) -> Result<(&[Lexeme], &[Lexeme]), ReadError>
+fn up_to_end(words: &[Lexeme]) -> Result<(&[Lexeme], &[Lexeme]), Failure<Syntax>>
     ensures { Sees (λ x. (x.0.now, x.1.now)) result (reader.up_to_end words.now) }
 {
     for at in 0..words.len() {
@@ -50,11 +50,11 @@ fn up_to_end(words: &[Lexeme]) -> Result<(&[Lexeme], &[Lexeme]), ReadError>
             return Ok((&words[..at], &words[at + 1..]));
         }
     }
-    Err(ReadError::Syntax)
+    Err(Failure::Fault(Syntax))
 }
 
 #[tactic(auto, unfolding(crate::specs::Reader::param_at))]
-fn param(words: &[Lexeme]) -> Result<(Statement<'_>, &[Lexeme]), ReadError>
+fn param(words: &[Lexeme]) -> Result<(Statement<'_>, &[Lexeme]), Failure<Syntax>>
     ensures { Sees (λ x. (seen x.0, x.1.now)) result (reader.param_at words.now) }
 {
     let rest = past_keyword(words, "PARAM")?;
@@ -65,7 +65,7 @@ fn param(words: &[Lexeme]) -> Result<(Statement<'_>, &[Lexeme]), ReadError>
 }
 
 #[tactic(auto, unfolding(crate::specs::Reader::view_at))]
-fn view(words: &[Lexeme]) -> Result<(Statement<'_>, &[Lexeme]), ReadError>
+fn view(words: &[Lexeme]) -> Result<(Statement<'_>, &[Lexeme]), Failure<Syntax>>
     ensures { Sees (λ x. (seen x.0, x.1.now)) result (reader.view_at words.now) }
 {
     let rest = past_keyword(words, "CREATE")?;
@@ -77,7 +77,7 @@ fn view(words: &[Lexeme]) -> Result<(Statement<'_>, &[Lexeme]), ReadError>
 }
 
 #[tactic(auto, unfolding(crate::specs::Reader::statement_at))]
-fn next_statement(words: &[Lexeme]) -> Result<(Statement<'_>, &[Lexeme]), ReadError>
+fn next_statement(words: &[Lexeme]) -> Result<(Statement<'_>, &[Lexeme]), Failure<Syntax>>
     ensures { Sees (λ x. (seen x.0, x.1.now)) result (reader.statement_at words.now) }
 {
     if begins_with_keyword(words, "PARAM") {
@@ -87,7 +87,7 @@ fn next_statement(words: &[Lexeme]) -> Result<(Statement<'_>, &[Lexeme]), ReadEr
 }
 
 /// All of the words as statements, one after the other.
-pub fn statements(alloc: Global, words: &[Lexeme]) -> Result<List<Statement<'_>>, ReadError>
+pub fn statements(alloc: Global, words: &[Lexeme]) -> Result<List<Statement<'_>>, Failure<Syntax>>
     ensures { Sees (λ found. map seen found) result (reader.statements_at words.now) }
 {
     let mut found = List::new(alloc);
@@ -101,7 +101,7 @@ pub fn statements(alloc: Global, words: &[Lexeme]) -> Result<List<Statement<'_>>
         rest = behind;
     }
     if !rest.is_empty() {
-        return Err(ReadError::Syntax);
+        return Err(Failure::Fault(Syntax));
     }
     Ok(found)
 }

@@ -5,8 +5,8 @@
 use super::cases::{Reading, Told, all_are_so};
 use super::faults::write_policy_fault;
 use super::standard::{kind_word, policy, schema};
-use ba_model::{Parameter, Policy, Same, View};
-use ba_policy::{PolicyError, read_policy};
+use ba_model::{Failure, Parameter, Policy, Same, View};
+use ba_policy::read_policy;
 use ba_sql_query::read_query;
 use std::alloc::{AllocError, Global};
 use std::fmt::Write;
@@ -51,8 +51,8 @@ impl Reading for Policies {
         let schema = schema(alloc)?;
         match read_policy(alloc, &schema, text.as_bytes()) {
             Ok(policy) => write_policy(told, &policy),
-            Err(PolicyError::NoMemory) => Err(AllocError),
-            Err(PolicyError::Fault(fault)) => write_policy_fault(alloc, fault, told),
+            Err(Failure::NoMemory) => Err(AllocError),
+            Err(Failure::Fault(fault)) => write_policy_fault(alloc, fault, told),
         }
     }
 }
