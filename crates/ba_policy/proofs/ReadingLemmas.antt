@@ -14,8 +14,8 @@ use Rattle.ba_policy.specs.Reader.{statements_at}
 use Rattle.ba_policy.specs.Reading.{policy_of, policy_of_statements}
 use Rattle.ba_policy.specs.Statements.{AreStatements, StatementText}
 use Rattle.ba_policy.specs.declared.draft.Draft.{Draft}
-use Rattle.ba_policy.specs.declared.error.Kept.{Kept}
-use Rattle.ba_policy.specs.declared.error.Kept.TheVariants.{Views, Params}
+use Rattle.ba_model.specs.declared.limits.Counted.{Counted}
+use Rattle.ba_model.specs.declared.limits.Counted.TheVariants.{Views, Params}
 use Rattle.ba_policy.specs.declared.error.PolicyFault.{PolicyFault}
 use Rattle.ba_policy.specs.declared.error.PolicyFault.TheVariants.{Lex, Syntax, TooMany}
 use Rattle.ba_policy.proofs.DeclareLemmas.{declare_complete, declare_sound, draft, of_statement, refused_complete, refused_sound, stops_complete, stops_sound, tracks_sound}
@@ -25,7 +25,7 @@ use Rattle.ba_policy.proofs.StatementLemmas.{statements_complete, statements_sou
 
 data Finish (schema : Schema) (d : Draft) : Type 0 where
   fine : length d.views ≤ MAX_VIEWS → length d.params ≤ MAX_PARAMS → finished schema d ≡ Ok (policy schema d) → Finish schema d
-  many : (what : Kept) (limit : ℕ) → Exceeds (length d.views) (length d.params) what limit → finished schema d ≡ Err (TooMany what limit) → Finish schema d
+  many : (what : Counted) (limit : ℕ) → Exceeds (length d.views) (length d.params) what limit → finished schema d ≡ Err (TooMany what limit) → Finish schema d
 
 finish : (schema : Schema) (d : Draft) → Finish schema d
 finish schema d = at (nat_lt MAX_VIEWS (length d.views)) (nat_lt MAX_PARAMS (length d.params)) refl refl
@@ -48,9 +48,10 @@ not_above m n le = at (nat_lt m n) refl
 within : (schema : Schema) (d : Draft) → length d.views ≤ MAX_VIEWS → length d.params ≤ MAX_PARAMS → finished schema d ≡ Ok (policy schema d)
 within schema d vs ps = rw (not_above MAX_VIEWS (length d.views) vs, not_above MAX_PARAMS (length d.params) ps) refl
 
-above : (schema : Schema) (d : Draft) (what : Kept) (limit : ℕ) → Exceeds (length d.views) (length d.params) what limit → finished schema d ≡ Err (TooMany what limit)
+above : (schema : Schema) (d : Draft) (what : Counted) (limit : ℕ) → Exceeds (length d.views) (length d.params) what limit → finished schema d ≡ Err (TooMany what limit)
 above schema d Views limit h = rw (lt-ltb MAX_VIEWS (length d.views) h.0) (ap (λ (n : ℕ). Err (TooMany Views n)) (sym h.1))
 above schema d Params limit h = rw (not_above MAX_VIEWS (length d.views) h.0, lt-ltb MAX_PARAMS (length d.params) h.1) (ap (λ (n : ℕ). Err (TooMany Params n)) (sym h.2))
+above schema d _ limit h = absurd h
 
 -- ---- what the file gives, case by case
 
@@ -79,7 +80,7 @@ data Outcome (schema : Schema) (bytes : List ℕ) : Type 0 where
   lex : (f : LexFault) → file_tokens_of MAX_TEXT_BYTES bytes ≡ Err f → policy_of schema bytes ≡ Err (Lex f) → Outcome schema bytes
   syntax : (tokens : List Token) (s : OfGrammar) → file_tokens_of MAX_TEXT_BYTES bytes ≡ Ok tokens → statements_at (lexemes_of tokens) ≡ Err s → policy_of schema bytes ≡ Err Syntax → Outcome schema bytes
   fault : (ss : List StatementText) (f : PolicyFault) → Written bytes ss → all_added schema nothing ss ≡ Err f → IsOfStatement f → policy_of schema bytes ≡ Err f → Outcome schema bytes
-  many : (ss : List StatementText) (d : Draft) (what : Kept) (limit : ℕ) → Written bytes ss → all_added schema nothing ss ≡ Ok d → Exceeds (length d.views) (length d.params) what limit → policy_of schema bytes ≡ Err (TooMany what limit) → Outcome schema bytes
+  many : (ss : List StatementText) (d : Draft) (what : Counted) (limit : ℕ) → Written bytes ss → all_added schema nothing ss ≡ Ok d → Exceeds (length d.views) (length d.params) what limit → policy_of schema bytes ≡ Err (TooMany what limit) → Outcome schema bytes
   right : (ss : List StatementText) (d : Draft) → Written bytes ss → all_added schema nothing ss ≡ Ok d → length d.views ≤ MAX_VIEWS → length d.params ≤ MAX_PARAMS → policy_of schema bytes ≡ Ok (policy schema d) → Outcome schema bytes
 
 outcome : (schema : Schema) (bytes : List ℕ) → Outcome schema bytes
@@ -201,7 +202,7 @@ statement_complete schema bytes f h =
     gives_fault schema bytes (h.before ++ h.statement ∷ h.after) f (written_complete bytes (h.before ++ h.statement ∷ h.after) h.written)
     (stops_complete schema nothing (draft h.params h.views) h.before h.after h.statement f (declare_complete schema h.before h.params h.views h.declared) (refused_complete schema h.params h.views h.statement f h.refused))
 
-pub many_sound : (schema : Schema) (bytes : List ℕ) (what : Kept) (limit : ℕ) → policy_of schema bytes ≡ Err (TooMany what limit) → HasTooMany schema bytes what limit
+pub many_sound : (schema : Schema) (bytes : List ℕ) (what : Counted) (limit : ℕ) → policy_of schema bytes ≡ Err (TooMany what limit) → HasTooMany schema bytes what limit
 many_sound schema bytes what limit e = of (outcome schema bytes)
   where
     of : Outcome schema bytes → HasTooMany schema bytes what limit
@@ -212,10 +213,10 @@ many_sound schema bytes what limit e = of (outcome schema bytes)
         let both = same_fault (TooMany k n) (TooMany what limit) (sym g ∙ e) in
         let kept : k ≡ what = cc in
         let most : n ≡ limit = cc in
-        record { statements = ss; params = d.params; views = d.views; written = written_sound bytes ss w; declared = declare_sound schema ss d h; many = subst (λ (m : ℕ). Exceeds (length d.views) (length d.params) what m) most (subst (λ (j : Kept). Exceeds (length d.views) (length d.params) j n) kept x) }
+        record { statements = ss; params = d.params; views = d.views; written = written_sound bytes ss w; declared = declare_sound schema ss d h; many = subst (λ (m : ℕ). Exceeds (length d.views) (length d.params) what m) most (subst (λ (j : Counted). Exceeds (length d.views) (length d.params) j n) kept x) }
     of (right ss d w h vs ps g) = let wrong = sym g ∙ e in cc
 
-pub many_complete : (schema : Schema) (bytes : List ℕ) (what : Kept) (limit : ℕ) → HasTooMany schema bytes what limit → policy_of schema bytes ≡ Err (TooMany what limit)
+pub many_complete : (schema : Schema) (bytes : List ℕ) (what : Counted) (limit : ℕ) → HasTooMany schema bytes what limit → policy_of schema bytes ≡ Err (TooMany what limit)
 many_complete schema bytes what limit h =
     let d : Draft = draft h.params h.views in
     gives_finished schema bytes h.statements d (written_complete bytes h.statements h.written) (declare_complete schema h.statements h.params h.views h.declared) ∙ above schema d what limit h.many

@@ -14,8 +14,8 @@ use Rattle.ba_policy.specs.Meaning.{parameter}
 use Rattle.ba_policy.specs.Reading.{policy_of}
 use Rattle.ba_policy.specs.Statements.{AreStatements, StatementText}
 use Rattle.ba_policy.specs.Statements.StatementText.{param, view}
-use Rattle.ba_policy.specs.declared.error.Kept.{Kept}
-use Rattle.ba_policy.specs.declared.error.Kept.TheVariants.{Views, Params}
+use Rattle.ba_model.specs.declared.limits.Counted.{Counted}
+use Rattle.ba_model.specs.declared.limits.Counted.TheVariants.{Views, Params}
 use Rattle.ba_policy.specs.declared.error.PolicyFault.{PolicyFault}
 use Rattle.ba_policy.specs.declared.error.PolicyFault.TheVariants.{Lex, Syntax, DuplicateParam, DuplicateView, View as ViewFault, TooMany}
 use Rattle.ba_sql_query.specs.Texts.{query_of_words}
@@ -70,9 +70,10 @@ pub record ReadsPolicy (schema : Schema) (bytes : List ℕ) (policy : Policy) : 
 -- ---- faults
 
 -- more than MAX_VIEWS views; or at most those, and more than MAX_PARAMS parameters
-abbrev pub Exceeds : ℕ → ℕ → Kept → ℕ → Type 0
+abbrev pub Exceeds : ℕ → ℕ → Counted → ℕ → Type 0
 Exceeds views params Views limit = (MAX_VIEWS < views) × (limit ≡ MAX_VIEWS)
 Exceeds views params Params limit = (views ≤ MAX_VIEWS) × (MAX_PARAMS < params) × (limit ≡ MAX_PARAMS)
+Exceeds views params _ limit = ⊥
 
 -- a fault of one statement
 abbrev pub IsOfStatement : PolicyFault → Type 0
@@ -111,7 +112,7 @@ pub record HasStatementFault (schema : Schema) (bytes : List ℕ) (fault : Polic
   pub refused : Refuses schema params views statement fault
 
 -- all statements declare parameters and views, but there are too many
-pub record HasTooMany (schema : Schema) (bytes : List ℕ) (what : Kept) (limit : ℕ) : Type 0 where
+pub record HasTooMany (schema : Schema) (bytes : List ℕ) (what : Counted) (limit : ℕ) : Type 0 where
   pub statements : List StatementText
   pub params : List Parameter
   pub views : List View
@@ -137,4 +138,4 @@ abbrev pub StatementFaultReading : Type 0
 StatementFaultReading = (schema : Schema) (bytes : List ℕ) (fault : PolicyFault) → IsOfStatement fault → (policy_of schema bytes ≡ Err fault) ↔ HasStatementFault schema bytes fault
 
 abbrev pub TooManyReading : Type 0
-TooManyReading = (schema : Schema) (bytes : List ℕ) (what : Kept) (limit : ℕ) → (policy_of schema bytes ≡ Err (TooMany what limit)) ↔ HasTooMany schema bytes what limit
+TooManyReading = (schema : Schema) (bytes : List ℕ) (what : Counted) (limit : ℕ) → (policy_of schema bytes ≡ Err (TooMany what limit)) ↔ HasTooMany schema bytes what limit

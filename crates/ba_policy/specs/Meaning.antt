@@ -14,7 +14,7 @@ use Rattle.ba_model.specs.declared.schema.Schema.{Schema}
 use Rattle.ba_policy.specs.Statements.{StatementText}
 use Rattle.ba_policy.specs.Statements.StatementText.{param, view}
 use Rattle.ba_policy.specs.declared.draft.Draft.{Draft}
-use Rattle.ba_policy.specs.declared.error.Kept.TheVariants.{Views, Params}
+use Rattle.ba_model.specs.declared.limits.Counted.TheVariants.{Views, Params}
 use Rattle.ba_policy.specs.declared.error.PolicyFault.{PolicyFault}
 use Rattle.ba_policy.specs.declared.error.PolicyFault.TheVariants.{DuplicateParam, DuplicateView, View as ViewFault, TooMany}
 use Rattle.ba_sql_query.specs.Texts.{query_of_words}

@@ -6,13 +6,13 @@ ghost use Rattle.ba_model.specs.declared.limits.TheConstants.{MAX_PARAMS, MAX_VI
 ghost use Rattle.ba_policy.specs.Meaning.{DraftFits, added, all_added, excess, finished, nothing, param_added, view_added};
 ghost use Rattle.ba_policy.specs.Statements.{seen};
 
-use crate::error::{Kept, PolicyFault};
+use crate::error::PolicyFault;
 use crate::names::Names;
 use crate::statement::Statement;
 use ba_lex::Lexeme;
 use ba_model::{
-    Duplicate, Failure, Kind, List, MAX_PARAMS, MAX_VIEWS, Parameter, Policy, Schema, Shared, Str,
-    View,
+    Counted, Duplicate, Failure, Kind, List, MAX_PARAMS, MAX_VIEWS, Parameter, Policy, Schema,
+    Shared, Str, View,
 };
 use ba_sql_query::read_words;
 use std::alloc::Global;
@@ -118,13 +118,13 @@ fn excess(draft: &Draft) -> Option<PolicyFault>
 {
     if draft.views.len() > MAX_VIEWS {
         return Some(PolicyFault::TooMany {
-            what: Kept::Views,
+            what: Counted::Views,
             limit: MAX_VIEWS as u64,
         });
     }
     if draft.params.len() > MAX_PARAMS {
         return Some(PolicyFault::TooMany {
-            what: Kept::Params,
+            what: Counted::Params,
             limit: MAX_PARAMS as u64,
         });
     }

@@ -4,15 +4,8 @@ ghost use Rattle.ba_policy.specs.declared.error.PolicyFault.TheVariants as fault
 
 use ba_grammar::Syntax;
 use ba_lex::LexFault;
-use ba_model::Str;
+use ba_model::{Counted, Str};
 use ba_sql_query::ReadQueryFault;
-
-/// What a policy has a limited number of.
-#[derive(Clone, Copy, Debug, PartialEq, Eq)]
-pub enum Kept {
-    Views,
-    Params,
-}
 
 /// Why a file is no policy. `Lex` comes before `Syntax`, then come those of the statements in order, then `TooMany`.
 #[derive(Debug, Drop)]
@@ -28,7 +21,7 @@ pub enum PolicyFault {
     /// The words of the view of this name are no query.
     View(Str, ReadQueryFault),
     /// A count is above its limit, views before parameters.
-    TooMany { what: Kept, limit: u64 },
+    TooMany { what: Counted, limit: u64 },
 }
 
 impl From<LexFault> for PolicyFault {

@@ -8,5 +8,5 @@ mod names;
 mod policy;
 mod statement;
 
-pub use error::{Kept, PolicyFault};
+pub use error::PolicyFault;
 pub use policy::read_policy;
