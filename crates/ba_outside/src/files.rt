@@ -4,19 +4,14 @@ ghost use Rattle.ba_outside.specs.Causes.{last_count, NeverFalls, Rose};
 ghost use Rattle.ba_outside.specs.Seen.{FilesSeen};
 ghost use Rattle.ba_outside.specs.Files.{Asks, Tells, PassesLimit};
 
-use thiserror::Error;
-
 /// Why a file wasn't read.
-#[derive(Debug, Drop, Error, PartialEq, Eq)]
+#[derive(Debug, Drop, PartialEq, Eq)]
 pub enum ReadFail {
     /// The file is missing, or reading it failed. The count of faults rose.
-    #[error("the file could not be read")]
     Fault,
     /// The file has more bytes than the limit, which is carried here.
-    #[error("the file has more than {0} bytes")]
     TooLong(u64),
     /// There was no memory for the bytes or for the name.
-    #[error("out of memory")]
     NoMemory,
 }
 

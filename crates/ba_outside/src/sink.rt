@@ -5,16 +5,12 @@ ghost use Rattle.ba_outside.specs.Causes.{NeverFalls, Rose};
 ghost use Rattle.ba_outside.specs.Seen.{SinkSeen};
 ghost use Rattle.ba_outside.specs.Sink.{Hands};
 
-use thiserror::Error;
-
 /// Why a piece wasn't written. Nothing of it is.
-#[derive(Debug, Drop, Error, PartialEq, Eq)]
+#[derive(Debug, Drop, PartialEq, Eq)]
 pub enum WriteFail {
     /// The write failed. The count of faults rose.
-    #[error("the write failed")]
     Failed,
     /// There was no memory for the bytes. The count of faults is as before.
-    #[error("out of memory")]
     NoMemory,
 }
 

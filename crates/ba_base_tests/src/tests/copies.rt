@@ -1,7 +1,10 @@
 //! Copies of whole values. Those of their parts are made on the way.
 
 use super::written::{Handle, atom, numbers, one, operands, text, value};
-use ba_model::{CacheKey, Column, Context, Duplicate, Kind, Link, List, Parameter, Part, Policy, Query, Row, RowSet, Rule, Same, Schema, Shared, Table, View};
+use ba_model::{
+    CacheKey, Column, Context, Duplicate, Kind, Link, List, Parameter, Part, Policy, Query, Row,
+    RowSet, Rule, Same, Schema, Shared, Table, View,
+};
 
 /// A query with an operand and a value of each form.
 fn query(rt: &impl Handle) -> Query {

@@ -1,7 +1,10 @@
 //! Drafts of schemas and queries, with each kind of fault and without.
 
 use super::written::{Handle, atom, field, number, numbers, one, operands, text};
-use ba_model::{Column, Counted, Kind, Link, List, Part, Query, QueryDraft, QueryFault, Schema, SchemaDraft, SchemaError, SchemaFault, Table};
+use ba_model::{
+    Column, Counted, Failure, Kind, Link, List, Part, Query, QueryDraft, QueryFault, Schema,
+    SchemaDraft, SchemaFault, Table,
+};
 
 fn column(rt: &impl Handle, name: &str, kind: Kind) -> Column {
     Column {
@@ -62,10 +65,10 @@ fn is_checked(rt: &impl Handle, draft: SchemaDraft, wanted: Option<SchemaFault>)
     is_told(&Schema::check(rt.alloc(), draft).err(), wanted)
 }
 
-fn is_told(error: &Option<SchemaError>, wanted: Option<SchemaFault>) -> bool {
+fn is_told(error: &Option<Failure<SchemaFault>>, wanted: Option<SchemaFault>) -> bool {
     match (error, wanted) {
         (None, None) => true,
-        (Some(SchemaError::Fault(fault)), Some(wanted)) => *fault == wanted,
+        (Some(Failure::Fault(fault)), Some(wanted)) => *fault == wanted,
         _ => false,
     }
 }
