@@ -2,15 +2,14 @@
 mod calls;
 mod methods;
 mod threads;
-mod versions;
 mod waiting;
 
+use crate::versions::Versions;
 use ba_turn::Turn;
 use calls::call;
 use methods::publish_next;
 use std::thread;
 use threads::by_two;
-use versions::Versions;
 use waiting::{Signs, ask, call_while_asked};
 
 /// A turn whose waiter is never woken doesn't come to the end of this.

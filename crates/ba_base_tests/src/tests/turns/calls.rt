@@ -3,7 +3,7 @@ ghost use Rattle.std.specs.Prelude.{◌≡◌, ◌+◌, ◌<◌, ◌≤◌, true
 ghost use Rattle.ba_turn.specs.History.{entry_of};
 ghost use Rattle.ba_turn.specs.Passes.{known_by, IsFree, MakesCall};
 
-use super::versions::{Call, Versions};
+use crate::versions::{Call, Versions};
 use ba_turn::{Pass, Turn};
 use std::sync::Wait;
 

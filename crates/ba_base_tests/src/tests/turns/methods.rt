@@ -2,7 +2,7 @@
 ghost use Rattle.std.specs.Prelude.{◌≡◌, ◌<◌, true};
 ghost use Rattle.ba_turn.specs.Passes.{IsFree, MakesCall, known_by};
 
-use super::versions::{Call, Versions};
+use crate::versions::{Call, Versions};
 use ba_turn::{Method, Pass, Turn};
 use std::sync::Wait;
 

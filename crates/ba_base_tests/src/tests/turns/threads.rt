@@ -3,7 +3,7 @@ ghost use Rattle.std.specs.Prelude.{◌≤◌};
 ghost use Rattle.ba_turn.specs.Passes.{known_by, IsFree};
 
 use super::calls::call_twice;
-use super::versions::{Call, Versions};
+use crate::versions::{Call, Versions};
 use ba_turn::{Pass, Turn};
 use std::sync::Wait;
 use std::thread;
