@@ -1,0 +1,39 @@
+"""Programs of bench/ over some crates, proved and built in folders of their own, outside the gate."""
+
+import pathlib
+import resource
+import shutil
+import subprocess
+
+HOME = pathlib.Path(__file__).resolve().parent.parent
+
+
+def build(root: pathlib.Path, name: str, uses: str, crates: list[str], words: list[str]) -> pathlib.Path:
+    """Copies the crates and the program bench/NAME.txt below root, runs it once with `rt run`, and gives its path."""
+    for crate in crates:
+        shutil.copytree(HOME / "crates" / crate, root / "crates" / crate, symlinks=True)
+    home = root / "crates" / name
+    (home / "src").mkdir(parents=True)
+    shutil.copy(HOME / "bench" / f"{name}.txt", home / "src" / "main.rt")
+    lines = (HOME / "crates.txt").read_text().splitlines()
+    kept = [line for line in lines if line.split(":")[0] in crates]
+    (root / "crates.txt").write_text("\n".join(kept) + f"\n{name}: {uses}\n")
+    (root / "HANDLES").write_text("Handles allowed: none.\n")
+    subprocess.run(["git", "init", "-q", str(root)], check=True)
+    subprocess.run(["rt", "run", "--", *words], cwd=home, check=True)
+    return home / "out" / name
+
+
+def seconds(program: pathlib.Path, words: list[str]) -> float:
+    """The processor time of one run."""
+    before = resource.getrusage(resource.RUSAGE_CHILDREN)
+    subprocess.run([program, *words], check=True, stdout=subprocess.DEVNULL)
+    after = resource.getrusage(resource.RUSAGE_CHILDREN)
+    return after.ru_utime + after.ru_stime - before.ru_utime - before.ru_stime
+
+
+def microseconds(program: pathlib.Path, words: list[str], count: int, runs: int) -> float:
+    """The processor time of one of `count` repetitions: the difference of two runs, the least of `runs` each."""
+    one = min(seconds(program, [*words, "1"]) for _ in range(runs))
+    all_of_them = min(seconds(program, [*words, str(count)]) for _ in range(runs))
+    return (all_of_them - one) / (count - 1) * 1e6
