@@ -1,5 +1,5 @@
-ghost use Rattle.std.specs.Prelude.{◌≡◌, ℕ, ℤ, ◌^◌, pos, neg_ℤ, ◌≤ℤ◌, [], ◌∷◌, ◌++◌, ◌↔◌, IsTrue, IfOk, OnOk, OnErr};
-ghost use Rattle.ba_classes.specs.Best.{Reaches};
+ghost use Rattle.std.specs.Prelude.{◌≡◌, ℕ, ℤ, ◌^◌, pos, neg_ℤ, ◌≤ℤ◌, [], ◌∷◌, ◌++◌, ◌↔◌, IsTrue, IfOk, IfSome, OnOk, OnErr};
+ghost use Rattle.ba_classes.specs.Best.{IsWithin, Reaches};
 ghost use Rattle.ba_classes.specs.Chains.{Shows, IsAbsurd};
 ghost use Rattle.ba_classes.specs.Closure.{through};
 ghost use Rattle.ba_classes.specs.Image.{IsAtLeast, IsAtMost, IsGreatest, IsLeast, IsValue, IsImage, Meets, with_zero};
@@ -194,10 +194,12 @@ impl Order {
         Ok(bound)
     }
 
-    // The greatest sum of the chains from one node to another, if there is a chain.
-    fn gap(&self, low: u32, high: u32) -> Option<i128>
+    /// The greatest number by which the facts show one node to be less than another, if they show
+    /// any. It has at most 98 bits.
+    pub fn gap(&self, low: u32, high: u32) -> Option<i128>
         requires { ¬ (IsAbsurd self.now) }
-        ensures { IsGreatest (λ k. Shows self.now low k high) result }
+        ensures greatest { IsGreatest (λ k. Shows self.now low k high) result }
+        ensures within { IfSome result (λ k. (neg_ℤ (pos (2 ^ 97)) ≤ℤ k) × (k ≤ℤ pos (2 ^ 97))) }
     {
         match self.best(low, high) {
             Best::Sum(gap) => Some(gap),
@@ -209,6 +211,7 @@ impl Order {
     fn best(&self, low: u32, high: u32) -> Best
         ensures reaches { (k : ℤ) → Reaches result k ↔ Shows self.now low k high }
         ensures unbounded { result ≡ Best.Unbounded → IsAbsurd self.now }
+        ensures within { IsWithin (2 ^ 97) result }
     {
         self.grid.between(low, high).or_nothing(low == high)
     }

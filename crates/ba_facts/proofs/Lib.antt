@@ -1,3 +1,4 @@
+pub mod BoundLemmas
 pub mod ApartLemmas
 pub mod DecideLemmas
 pub mod LawLemmas

@@ -11,7 +11,7 @@ use Rattle.ba_classes.specs.declared.order.Difference.{Difference}
 use Rattle.ba_facts.specs.Known.{Known, DifferentLiterals, OneClass, ShownGap, ShownNotNull, itself, turned, joined}
 use Rattle.ba_facts.specs.Knowing.{IsClashing, literals, null, IsRising}
 use Rattle.ba_facts.specs.Marks.{own_not_null, own_place, AreLiterals, HasOneLiteral, IsMarkOf}
-use Rattle.ba_facts.specs.Finding.{AreNumbered}
+use Rattle.ba_facts.specs.Finding.{AreNumbered, AreThose}
 use Rattle.ba_facts.specs.declared.marks.Literals.{Literals}
 use Rattle.ba_facts.specs.declared.marks.Literals.TheVariants.{Absent, One, Several}
 use Rattle.ba_facts.specs.Webs.{AnyRise, HasTwoLiterals, IsClassMark, IsTerms, IsWhole, PlaceOf, by_class, by_itself}
@@ -111,6 +111,11 @@ pub mark_numbered : (k : Known) (terms : List Term) (a : Term) (ls : Literals) �
 mark_numbered k terms a Absent h = tt
 mark_numbered k terms a (One n) h = slice_get_within _ n _ h.0.there
 mark_numbered k terms a (Several n) h = tt
+
+pub marks_numbered : (k : Known) (terms : List Term) (a : Term) (ls : Literals) → AreLiterals k terms a ls → AreThose terms ls
+marks_numbered k terms a Absent h = tt
+marks_numbered k terms a (One n) h = slice_get_within _ n _ h.0.there
+marks_numbered k terms a (Several n) h = slice_get_within _ n _ h.0.there
 
 -- where the first of two tests failed, the second decides
 pub rises_alone : {A B C : Type 0} (r s : Bool) → r ≡ false → IsTrue r ↔ A → IsTrue s ↔ B → (A ⊎ B) ↔ C → IsTrue s ↔ C

@@ -16,6 +16,12 @@ AreFound k a Absent = (v : Value) → ¬ (OneClass k a (Val v))
 AreFound k a (One v) = OneClass k a (Val v.now) × HasOneLiteral k a
 AreFound k a Several = DifferentLiterals k a a
 
+-- a literal's number is that of a term
+abbrev pub AreThose : List Term → Literals → Type 0
+AreThose terms numbered.Absent = Unit {0}
+AreThose terms (numbered.One n) = n < length terms
+AreThose terms (numbered.Several n) = n < length terms
+
 -- the one literal's number is that of a term
 abbrev pub AreNumbered : List Term → Literals → Type 0
 AreNumbered terms numbered.Absent = Unit {0}

@@ -1,7 +1,9 @@
 -- Terms that are there, and what can't be true of classes or of the order alone.
-use Rattle.std.specs.Prelude.{◌<◌, ℤ, pos, ◌<ℤ◌, length}
+use Rattle.std.specs.Prelude.{ℕ, ◌<◌, ℤ, pos, ◌<ℤ◌, Option, Some, None, length}
+use Rattle.ba_classes.specs.Image.{IsGreatest}
 use Rattle.ba_model.specs.declared.schema.Column.{Column}
-use Rattle.ba_facts.specs.Known.{Known, Chain, DifferentLiterals, ShownNotNull, ShownNull}
+use Rattle.ba_model.specs.declared.value.Value.{Value}
+use Rattle.ba_facts.specs.Known.{Known, Chain, DifferentLiterals, OneClass, ShownGap, ShownNotNull, ShownNull}
 use Rattle.ba_facts.specs.declared.term.Lesson.{Lesson}
 use Rattle.ba_facts.specs.declared.term.Lesson.TheVariants.{Same, Holds}
 use Rattle.ba_facts.specs.declared.term.Sort.{Sort}
@@ -35,3 +37,17 @@ pub record IsRising (k : Known) : Type 0 where
   pub sum : ℤ
   pub above : pos 0 <ℤ sum
   pub chain : Chain k term sum term
+
+-- a literal of the term's class, if it has one
+abbrev pub IsLiteralIn : Known → Term → Option Value → Type 0
+IsLiteralIn k a None = (v : Value) → ¬ (OneClass k a (Val v))
+IsLiteralIn k a (Some v) = OneClass k a (Val v)
+
+-- the least unknown of the class of an unknown
+pub record IsLeastOf (k : Known) (n least : ℕ) : Type 0 where
+  pub one_class : OneClass k (Unknown n) (Unknown least)
+  pub none_less : (m : ℕ) → m < least → ¬ (OneClass k (Unknown n) (Unknown m))
+
+-- the greatest number that a is shown to be less than b by, if it is shown of any
+abbrev pub IsBound : Known → Term → Term → Option ℤ → Type 0
+IsBound k a b bound = IsGreatest (λ n. ShownGap k a n b) bound

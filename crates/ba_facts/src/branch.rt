@@ -1,13 +1,14 @@
 ghost use Rattle.std.specs.Prelude.{◌≡◌, ◌∷◌, ◌++◌, ◌↔◌, ◌+◌, ◌-◌, ◌≤◌, ◌^◌, [], length, map, take, IsTrue, IfOk, OnOk, OnErr};
 ghost use Rattle.std.specs.List.{range_with_len};
-ghost use Rattle.ba_facts.specs.Knowing.{LessonIsThere, sort_of};
+ghost use Rattle.std.specs.Option.{option_copied};
+ghost use Rattle.ba_facts.specs.Knowing.{IsBound, IsLeastOf, IsLiteralIn, LessonIsThere, sort_of};
 ghost use Rattle.ba_facts.specs.Laws.{with_lesson};
 ghost use Rattle.ba_facts.specs.Shown.{Absurd, Refutes, Shows, TheSame};
 
 use crate::knowledge::Knowledge;
 use crate::number::number_after;
 use crate::term::{Fact, Lesson, Side, Term, TermAtom};
-use ba_model::{Column, Duplicate, Kind, List, Shared};
+use ba_model::{Column, Duplicate, Kind, List, Shared, Value};
 use std::alloc::{AllocError, Global};
 use std::mem;
 
@@ -118,6 +119,28 @@ impl Branch {
         ensures { IsTrue result ↔ TheSame self.now.known a.now b.now }
     {
         self.known.same(a.by_ref(), b.by_ref())
+    }
+
+    /// A literal of the term's class, if it has one.
+    pub fn literal<'a>(&'a self, term: &'a Term) -> Option<&'a Value>
+        ensures { IsLiteralIn self.now.known term.now (option_copied result) }
+    {
+        self.known.literal(term.by_ref())
+    }
+
+    /// The least unknown that is of one class with this one, by its number.
+    pub fn least_of(&self, unknown: u32) -> u32
+        ensures { IsLeastOf self.now.known unknown result }
+    {
+        self.known.least_of(unknown)
+    }
+
+    /// The greatest number by which the one term is shown to be less than the other, if any is shown.
+    pub fn bound(&self, low: &Term, high: &Term) -> Option<i128>
+        requires { ¬ (Absurd self.now.known) }
+        ensures { IsBound self.now.known low.now high.now result }
+    {
+        self.known.bound(low.by_ref(), high.by_ref())
     }
 
     /// Whether the branch is absurd, so that it has no fit.

@@ -1,6 +1,8 @@
 //! The literals of a class, by value.
 ghost use Rattle.std.specs.Prelude.{◌≡◌, ◌↔◌, IsTrue};
+ghost use Rattle.std.specs.Option.{option_copied};
 ghost use Rattle.ba_facts.specs.Finding.{AreFound};
+ghost use Rattle.ba_facts.specs.Knowing.{IsLiteralIn};
 ghost use Rattle.ba_facts.specs.Known.{Known, DifferentLiterals, OneClass, seen};
 ghost use Rattle.ba_facts.specs.Marks.{HasOneLiteral};
 ghost use Rattle.ba_facts.specs.declared.term.Term.{Term};
@@ -24,6 +26,17 @@ pub(crate) fn own_found<'a>(a: TermRef<'a>) -> Found<'a>
     match a {
         TermRef::Val(value) => Found::One(value),
         _ => Found::Absent,
+    }
+}
+
+/// The literal of a term alone, if it is one.
+pub(crate) fn own_literal<'a>(a: TermRef<'a>) -> Option<&'a Value>
+    ensures { (k : Known) → ((b : Term) → OneClass k (seen a.entry) b → seen a.entry ≡ b) →
+        IsLiteralIn k (seen a.entry) (option_copied result) }
+{
+    match a {
+        TermRef::Val(value) => Some(value),
+        _ => None,
     }
 }
 

@@ -1,6 +1,7 @@
 ghost use Rattle.std.specs.Prelude.{◌≡◌, ◌∷◌, ◌++◌, ◌↔◌, ◌<◌, ◌⊎◌, ℤ, pos, ◌<ℤ◌, [], length, map, IsTrue, IfOk, OnOk, OnErr};
+ghost use Rattle.std.specs.Option.{option_copied};
 ghost use Rattle.ba_facts.specs.Known.{Chain, DifferentLiterals, OneClass, ShownGap, ShownNotNull, ShownNull, seen};
-ghost use Rattle.ba_facts.specs.Knowing.{IsThere, LessonIsThere, IsClashing, IsRising, sort_of};
+ghost use Rattle.ba_facts.specs.Knowing.{IsBound, IsLeastOf, IsLiteralIn, IsThere, LessonIsThere, IsClashing, IsRising, sort_of};
 
 use crate::term::{Lesson, Sort, TermRef};
 use crate::web::Web;
@@ -116,6 +117,33 @@ impl Knowledge {
         ensures { IsTrue result ↔ ShownGap self.now (seen low.entry) (pos gap) (seen high.entry) }
     {
         self.web.gap(low, gap, high)
+    }
+
+    /// A literal of the term's class, if it has one.
+    pub fn literal<'a>(&'a self, a: TermRef<'a>) -> Option<&'a Value>
+        ensures { IsLiteralIn self.now (seen a.entry) (option_copied result) }
+    {
+        self.web.literal(a)
+    }
+
+    /// The least unknown that is of one class with this one, by its number.
+    pub fn least_of(&self, unknown: u32) -> u32
+        ensures { IsLeastOf self.now unknown result }
+    {
+        for number in 0..unknown {
+            if self.one_class(TermRef::Unknown(unknown), TermRef::Unknown(number)) {
+                return number;
+            }
+        }
+        unknown
+    }
+
+    /// The greatest number by which the one term is shown to be less than the other, if any is shown.
+    pub fn bound(&self, low: TermRef<'_>, high: TermRef<'_>) -> Option<i128>
+        requires { ¬ (IsRising self.now) }
+        ensures { IsBound self.now (seen low.entry) (seen high.entry) result }
+    {
+        self.web.bound(low, high)
     }
 
     /// Whether some class has two different literals, or is shown both null and not null.

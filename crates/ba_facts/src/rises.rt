@@ -1,5 +1,7 @@
 //! Places in the order of a web.
 ghost use Rattle.std.specs.Prelude.{◌≡◌, ◌↔◌, pos, neg_ℤ, ◌+ℤ◌, ◌-ℤ◌, ◌≤ℤ◌, ◌^◌, ◌++◌, ◌∷◌, [], IsTrue, IfOk, OnOk, OnErr, unwrap_or};
+ghost use Rattle.ba_classes.specs.Chains.{IsAbsurd};
+ghost use Rattle.ba_classes.specs.Image.{IsGreatest};
 ghost use Rattle.ba_facts.specs.Rises.{Agrees, IsAgreed, rise_fact};
 ghost use Rattle.ba_facts.specs.Webs.{RisesBy};
 
@@ -14,6 +16,27 @@ pub(crate) fn rises(order: &SharedOrder, low: Place, gap: u32, high: Place) -> b
     order
         .get()
         .shows(low.node, between(low, gap, high), high.node)
+}
+
+/// The greatest number by which what is at `low` is shown to be less than what is at `high`, if any
+/// is shown.
+pub(crate) fn most(order: &SharedOrder, low: Place, high: Place) -> Option<i128>
+    requires { ¬ (IsAbsurd order.now) }
+    ensures { IsGreatest (λ n. RisesBy order.now low n high) result }
+{
+    match order.get().gap(low.node, high.node) {
+        Some(gap) => Some(beyond(gap, low, high)),
+        None => None,
+    }
+}
+
+/// The number for the places that is `gap` for their nodes.
+fn beyond(gap: i128, low: Place, high: Place) -> i128
+    requires above { neg_ℤ (pos (2 ^ 97)) ≤ℤ gap }
+    requires below { gap ≤ℤ pos (2 ^ 97) }
+    ensures { result ≡ (gap -ℤ low.offset) +ℤ high.offset }
+{
+    gap - low.offset as i128 + high.offset as i128
 }
 
 /// Adds the fact that what is at `low` plus `gap` is at most what is at `high`. Without memory

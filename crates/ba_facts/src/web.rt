@@ -1,24 +1,27 @@
 //! Numbered terms with their classes, marks and order.
 ghost use Rattle.std.specs.Prelude.{◌≡◌, ◌≢◌, ℕ, ℤ, pos, ◌+◌, ◌<◌, ◌≤◌, ◌^◌, ◌++◌, ◌∷◌, [], length, slice_get, slice_set, IsTrue, ◌↔◌, IfErr, IfOk, OnOk, OnErr, Some, MatchOption};
+ghost use Rattle.std.specs.Option.{option_copied};
+ghost use Rattle.ba_classes.specs.Chains.{IsAbsurd};
+ghost use Rattle.ba_classes.specs.Image.{IsGreatest};
 ghost use Rattle.ba_classes.specs.Merged.{IsLabel};
 ghost use Rattle.ba_facts.specs.Known.{Known, DifferentLiterals, OneClass, ShownGap, ShownNotNull, seen};
-ghost use Rattle.ba_facts.specs.Knowing.{IsClashing, IsRising, IsThere, LessonIsThere};
+ghost use Rattle.ba_facts.specs.Knowing.{IsBound, IsClashing, IsLiteralIn, IsRising, IsThere, LessonIsThere};
 ghost use Rattle.ba_facts.specs.Marks.{AreLiterals};
 ghost use Rattle.ba_facts.specs.Telling.{AreThere, CanTell, atom, told};
 ghost use Rattle.ba_facts.specs.Webs.{AnyRise, Denies, HasPlace, IsClassMark, IsSomeWeb, IsWeb, Joins, KeepsOrder, PlaceOf, Raises};
-ghost use Rattle.ba_facts.specs.Finding.{AreFound, AreNumbered};
+ghost use Rattle.ba_facts.specs.Finding.{AreFound, AreNumbered, AreThose};
 ghost use Rattle.ba_facts.specs.declared.marks.Place.{Place};
 ghost use Rattle.ba_facts.specs.declared.term.Lesson.{Lesson};
 ghost use Rattle.ba_facts.specs.declared.term.Term.{Term};
 ghost use Rattle.ba_model.specs.declared.query.Op.{Op};
 
-use crate::found::{Found, differ, own_found};
+use crate::found::{Found, differ, own_found, own_literal};
 use crate::groups::Groups;
 use crate::marking::{deny, mark_of, set_mark};
 use crate::marks::{Literals, Mark, Place, own_not_null, own_place};
 use crate::names::Names;
 use crate::number::number_after;
-use crate::rises::{agreed, raise, replace, rises};
+use crate::rises::{agreed, most, raise, replace, rises};
 use crate::shared_order::SharedOrder;
 use crate::term::{Lesson, Sort, TermAtom, TermRef};
 use ba_model::{Op, Value};
@@ -394,6 +397,54 @@ impl Web {
                 None => Found::Several,
             },
             Literals::Several(_) => Found::Several,
+        }
+    }
+
+    /// A literal of the term's class, if it has one.
+    pub(crate) fn literal<'a>(&'a self, a: TermRef<'a>) -> Option<&'a Value>
+        requires { IsSomeWeb self.now }
+        ensures { (k : Known) → IsWeb k self.now → IsLiteralIn k (seen a.entry) (option_copied result) }
+    {
+        match self.class_mark(a) {
+            Some(mark) => self.one_of(mark.literals),
+            None => own_literal(a),
+        }
+    }
+
+    fn one_of(&self, literals: Literals) -> Option<&Value>
+        requires { AreThose self.now.names literals }
+        ensures { (k : Known) (a : Term) →
+            AreLiterals k self.now.names a literals → IsLiteralIn k a (option_copied result) }
+    {
+        match literals {
+            Literals::Absent => None,
+            Literals::One(n) => self.names.value(n),
+            Literals::Several(n) => self.names.value(n),
+        }
+    }
+
+    /// The greatest number by which the one term is shown to be less than the other, if any is shown.
+    pub(crate) fn bound(&self, low: TermRef<'_>, high: TermRef<'_>) -> Option<i128>
+        requires some { IsSomeWeb self.now }
+        requires order { ¬ (IsAbsurd self.now.order) }
+        ensures { (k : Known) → IsWeb k self.now → IsBound k (seen low.entry) (seen high.entry) result }
+    {
+        if self.one_class(low, high) {
+            Some(0)
+        } else {
+            self.bound_of_places(low, high)
+        }
+    }
+
+    fn bound_of_places(&self, low: TermRef<'_>, high: TermRef<'_>) -> Option<i128>
+        requires some { IsSomeWeb self.now }
+        requires order { ¬ (IsAbsurd self.now.order) }
+        ensures { IsGreatest (λ n. AnyRise self.now.names self.now.classes.merges self.now.marks.items self.now.order
+            (seen low.entry) n (seen high.entry)) result }
+    {
+        match (self.place_of(low), self.place_of(high)) {
+            (Some(from), Some(to)) => most(&self.order, from, to),
+            _ => None,
         }
     }
 

@@ -17,7 +17,7 @@ loop-other-preserved c =
     let more : take (i + 1) valued ≡ take i valued ++ item ∷ [] = take_more valued i (0, pos 0) c.loop-other-test.true in
     elim c.match-gap.branch [
       | in-Some+in_ok-difference w ↦
-          (let best = subst (IsGreatest (λ k. Shows c.args.self.now c.args.node k item.0)) w.in-Some.is c.gap.ensures in
+          (let best = subst (IsGreatest (λ k. Shows c.args.self.now c.args.node k item.0)) w.in-Some.is c.gap.ensures.greatest in
           let b : ℤ = to_z w128 (of_z w128 w.in_ok-difference.field-0) in
           let value_fits : SFits w128 item.1 = search rules in
           let gap_fits : SFits w128 w.in-Some.gap = search rules in
@@ -26,7 +26,7 @@ loop-other-preserved c =
           rw (w.bound-is, w.lesser-bound.ensures, more)
           (most_more c.args.self.now (take i valued) c.args.node item.0 item.1 c.loop-other.bound w.in-Some.gap b c.loop-other.invariant best.0 best.1 b-is))
       | in_default w ↦
-          (let none = subst (IsGreatest (λ k. Shows c.args.self.now c.args.node k item.0)) w.in_default.is c.gap.ensures in
+          (let none = subst (IsGreatest (λ k. Shows c.args.self.now c.args.node k item.0)) w.in_default.is c.gap.ensures.greatest in
           rw (w.bound-is, more)
           (most_same c.args.self.now (take i valued) c.args.node item.0 item.1 c.loop-other.bound c.loop-other.invariant none))
     ]
