@@ -1,5 +1,5 @@
 //! The branches of a problem's start.
-ghost use Rattle.std.specs.Prelude.{◌≡◌, ◌≢◌, [], IfErr, IfOk, map};
+ghost use Rattle.std.specs.Prelude.{◌≡◌, ◌≢◌, [], IfErr, IfOk, OnOk, map};
 ghost use Rattle.std.specs.List.{AllZip};
 ghost use Rattle.ba_model.specs.Fit.{kinds_of};
 ghost use Rattle.ba_kernel.specs.Courses.{IsStart, IsStartOf, ProblemFits, nothing_known};
@@ -32,19 +32,35 @@ fn part_start(alloc: Global, problem: &Problem, part: &Part) -> Result<Branch, A
     requires part { IsPartOf problem.now part.now }
     ensures { IfOk result (IsStartOf problem.now part.now) }
 {
+    let mut new = nothing(alloc, problem)?;
+    add_start(alloc, problem, part, &mut new)?;
+    Ok(new)
+}
+
+/// Adds a fact for each of the part's tables, its atoms, what is assumed, and the goal row.
+fn add_start(
+    alloc: Global,
+    problem: &Problem,
+    part: &Part,
+    new: &mut Branch,
+) -> Result<(), AllocError>
+    requires fits { ProblemFits problem.now }
+    requires part { IsPartOf problem.now part.now }
+    requires nothing { new.old ≡ nothing_known problem.now }
+    ensures { OnOk result (IsStartOf problem.now part.now new.new) }
+{
     let numbers = numbers_from(alloc, 0, part.from.len())?;
     let facts = numbers.as_slice();
     let from = part.from.as_slice();
     let conds = part.conds.as_slice();
     let head = part.head.as_slice();
     let assumed = problem.assumed.as_slice();
-    let mut new = nothing(alloc, problem)?;
-    add_facts(alloc, problem, &mut new, Side::One, 0, from)?;
-    let goal = operand_row(alloc, &new, facts, head)?;
-    assume_all(alloc, &mut new, facts, conds)?;
-    assume_all(alloc, &mut new, &[], assumed)?;
+    add_facts(alloc, problem, new, Side::One, 0, from)?;
+    let goal = operand_row(alloc, new, facts, head)?;
+    assume_all(alloc, new, facts, conds)?;
+    assume_all(alloc, new, &[], assumed)?;
     new.goal = Shared::new(alloc, List::from_vec(goal))?;
-    Ok(new)
+    Ok(())
 }
 
 /// A branch of nothing, for the problem's parameters and variables.

@@ -69,21 +69,40 @@ pub fn link_cases(
     requires passes { LinkPasses problem.now.policy.schema branch.now link fact }
     ensures { IfOk result (λ cases. LinkLeads problem.now branch.now link fact cases.items) }
 {
+    let mut new = branch.copy(alloc)?;
+    add_target(alloc, problem, branch, &mut new, link, fact)?;
+    one_case(alloc, new)
+}
+
+/// Adds a fact of the link's target table, whose target columns are the same as the link's columns.
+fn add_target(
+    alloc: Global,
+    problem: &Problem,
+    branch: &Branch,
+    new: &mut Branch,
+    link: u32,
+    fact: u32,
+) -> Result<(), AllocError>
+    requires fits { ProblemFits problem.now }
+    requires tidy { IsTidy problem.now branch.now }
+    requires passes { LinkPasses problem.now.policy.schema branch.now link fact }
+    requires same { new.old ≡ branch.now }
+    ensures { OnOk result (LinkLeads problem.now branch.now link fact (new.new ∷ [])) }
+{
     let f = fact_at(branch, fact as usize);
     let table = problem.table_at(f.table);
     let it = table.links.get(link as usize);
     let target = problem.columns(it.target);
     let round = round_after(f.round)?;
-    let mut new = branch.copy(alloc)?;
     new.add_fact(alloc, f.side, it.target, target, round)?;
-    let added = fact_at(&new, branch.facts.len());
+    let added = fact_at(new, branch.facts.len());
     let terms = added.terms.copy(alloc)?;
     let left = f.terms.as_slice();
     let right = terms.as_slice();
     let columns = it.columns.as_slice();
     let others = it.target_columns.as_slice();
-    equate_columns(alloc, &mut new, left, right, columns, others)?;
-    one_case(alloc, new)
+    equate_columns(alloc, new, left, right, columns, others)?;
+    Ok(())
 }
 
 /// Learns that two rows are the same on these columns of each.

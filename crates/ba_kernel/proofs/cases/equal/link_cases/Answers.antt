@@ -1,56 +1,11 @@
+use Rattle.std.proofs.Common.{◌≡◌, ◌∷◌, [], subst, sym}
 use Rattle.std.proofs.lemmas.Result.{IfOk-weaker}
-use Rattle.std.proofs.Common.{◌≡◌, ◌∷◌, []}
-use Rattle.ba_kernel.proofs.BuildSteps.{link_columns, link_leads, link_left, link_others, link_right, link_wide}
 use Rattle.ba_kernel.specs.Effects.{LinkLeads}
 use Rattle.ba_kernel.proofs.cases.equal.link_cases.Goals as goal
 
-pub equate_columns-requires-clause-left : goal.equate_columns-requires-clause-left
-equate_columns-requires-clause-left c =
-    link_left c.args.problem.now c.args.branch.now c.requires.tidy c.args.link c.args.fact c.fact_at-f.result.now c.table_at-table.result.now c.get-it.result.now
-    c.fact_at-f.ensures c.table_at-table.ensures c.get-it.ensures c.requires.passes c.in_ok-new.new c.add_fact.new.self c.columns-target.result.now
-    c.in_ok-round.round c.in_ok-new.ensures c.columns-target.ensures c.in_ok-round.ensures.value c.in_ok-add_fact.ensures.ok c.as_slice-left.result.now
-    c.as_slice-left.ensures
-
-pub equate_columns-requires-clause-right : goal.equate_columns-requires-clause-right
-equate_columns-requires-clause-right c =
-    link_right c.args.problem.now c.args.branch.now c.requires.tidy c.args.link c.args.fact c.fact_at-f.result.now c.table_at-table.result.now c.get-it.result.now
-    c.fact_at-f.ensures c.table_at-table.ensures c.get-it.ensures c.requires.passes c.in_ok-new.new c.add_fact.new.self c.columns-target.result.now
-    c.in_ok-round.round c.in_ok-new.ensures c.columns-target.ensures c.in_ok-round.ensures.value c.in_ok-add_fact.ensures.ok
-    c.len.result c.fact_at-added.result.now c.in_ok-terms.terms c.as_slice-right.result.now c.len.ensures c.fact_at-added.ensures c.in_ok-terms.ensures
-    c.as_slice-right.ensures
-
-pub equate_columns-requires-clause-wide : goal.equate_columns-requires-clause-wide
-equate_columns-requires-clause-wide c =
-    link_wide c.args.problem.now c.args.branch.now c.requires.tidy c.args.link c.args.fact c.fact_at-f.result.now c.table_at-table.result.now c.get-it.result.now
-    c.fact_at-f.ensures c.table_at-table.ensures c.get-it.ensures c.requires.passes c.in_ok-new.new c.add_fact.new.self c.columns-target.result.now
-    c.in_ok-round.round c.in_ok-new.ensures c.columns-target.ensures c.in_ok-round.ensures.value c.in_ok-add_fact.ensures.ok
-    c.len.result c.fact_at-added.result.now c.in_ok-terms.terms c.as_slice-right.result.now c.len.ensures c.fact_at-added.ensures c.in_ok-terms.ensures
-    c.as_slice-right.ensures c.requires.fits c.as_slice-columns.result.now c.as_slice-others.result.now c.as_slice-columns.ensures c.as_slice-others.ensures
-
-pub equate_columns-requires-clause-columns : goal.equate_columns-requires-clause-columns
-equate_columns-requires-clause-columns c =
-    link_columns c.args.problem.now c.args.branch.now c.requires.tidy c.args.link c.args.fact c.fact_at-f.result.now c.table_at-table.result.now c.get-it.result.now
-    c.fact_at-f.ensures c.table_at-table.ensures c.get-it.ensures c.requires.passes c.in_ok-new.new c.add_fact.new.self c.columns-target.result.now
-    c.in_ok-round.round c.in_ok-new.ensures c.columns-target.ensures c.in_ok-round.ensures.value c.in_ok-add_fact.ensures.ok
-    c.len.result c.fact_at-added.result.now c.in_ok-terms.terms c.as_slice-right.result.now c.len.ensures c.fact_at-added.ensures c.in_ok-terms.ensures
-    c.as_slice-right.ensures c.requires.fits c.as_slice-left.result.now c.as_slice-columns.result.now c.as_slice-left.ensures c.as_slice-columns.ensures
-
-pub equate_columns-requires-clause-others : goal.equate_columns-requires-clause-others
-equate_columns-requires-clause-others c =
-    link_others c.args.problem.now c.args.branch.now c.requires.tidy c.args.link c.args.fact c.fact_at-f.result.now c.table_at-table.result.now c.get-it.result.now
-    c.fact_at-f.ensures c.table_at-table.ensures c.get-it.ensures c.requires.passes c.in_ok-new.new c.add_fact.new.self c.columns-target.result.now
-    c.in_ok-round.round c.in_ok-new.ensures c.columns-target.ensures c.in_ok-round.ensures.value c.in_ok-add_fact.ensures.ok
-    c.len.result c.fact_at-added.result.now c.in_ok-terms.terms c.as_slice-right.result.now c.len.ensures c.fact_at-added.ensures c.in_ok-terms.ensures
-    c.as_slice-right.ensures c.requires.fits c.as_slice-others.result.now c.as_slice-others.ensures
-
 pub returns : goal.returns
 returns c =
-    IfOk-weaker c.one_case.result (λ cases. cases.items ≡ c.equate_columns.new.new ∷ [])
-    (λ cases. LinkLeads c.args.problem.now c.args.branch.now c.args.link c.args.fact cases.items)
-    (λ cases h. link_leads c.args.problem.now c.args.branch.now c.requires.tidy c.args.link c.args.fact c.fact_at-f.result.now c.table_at-table.result.now
-    c.get-it.result.now c.fact_at-f.ensures c.table_at-table.ensures c.get-it.ensures c.requires.passes c.in_ok-new.new c.add_fact.new.self
-    c.columns-target.result.now c.in_ok-round.round c.in_ok-new.ensures c.columns-target.ensures c.in_ok-round.ensures.value
-    c.in_ok-add_fact.ensures.ok c.len.result c.fact_at-added.result.now c.in_ok-terms.terms c.as_slice-right.result.now c.len.ensures c.fact_at-added.ensures
-    c.in_ok-terms.ensures c.as_slice-right.ensures c.as_slice-left.result.now c.as_slice-columns.result.now c.as_slice-others.result.now
-    c.equate_columns.new.new cases.items c.as_slice-left.ensures c.as_slice-columns.ensures c.as_slice-others.ensures c.in_ok-equate_columns.ensures h)
-    c.one_case.ensures
+    let p = c.args.problem.now in
+    let b = c.args.branch.now in
+    IfOk-weaker c.one_case.result (λ cases. cases.items ≡ c.add_target.new.new ∷ []) (λ cases. LinkLeads p b c.args.link c.args.fact cases.items)
+    (λ cases h. subst (LinkLeads p b c.args.link c.args.fact) (sym h) c.in_ok-add_target.ensures) c.one_case.ensures

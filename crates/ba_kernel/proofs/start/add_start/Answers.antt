@@ -4,14 +4,14 @@ use Rattle.ba_kernel.proofs.BuildStarts.{assumed_terms, nothing_there, part_for,
 use Rattle.ba_kernel.specs.Courses.{nothing_known}
 use Rattle.ba_kernel.specs.Effects.{lesson_of, rows_at}
 use Rattle.ba_facts.specs.declared.term.Side.TheVariants.{One}
-use Rattle.ba_kernel.proofs.start.part_start.Goals as goal
+use Rattle.ba_kernel.proofs.start.add_start.Goals as goal
 
 pub operand_row-requires : goal.operand_row-requires
 operand_row-requires c =
     let s = c.args.problem.now.policy.schema in
     let old = nothing_known c.args.problem.now in
     let part = c.args.part.now in
-    let new_is = added s One 0 old part c.in_ok-new.new c.add_facts.new.new c.as_slice-from.result.now c.in_ok-new.ensures c.as_slice-from.ensures
+    let new_is = added s One 0 old part c.args.new.now c.add_facts.new.new c.as_slice-from.result.now c.requires.nothing c.as_slice-from.ensures
     c.in_ok-add_facts.ensures in
     let facts_are = numbered s One 0 old part c.in_ok-numbers.numbers.items c.as_slice-facts.result.now 0 c.len.result refl c.len.ensures
     c.in_ok-numbers.ensures c.as_slice-facts.ensures.value in
@@ -23,7 +23,7 @@ assume_all-requires-clause-there c =
     let s = c.args.problem.now.policy.schema in
     let old = nothing_known c.args.problem.now in
     let part = c.args.part.now in
-    let new_is = added s One 0 old part c.in_ok-new.new c.add_facts.new.new c.as_slice-from.result.now c.in_ok-new.ensures c.as_slice-from.ensures
+    let new_is = added s One 0 old part c.args.new.now c.add_facts.new.new c.as_slice-from.result.now c.requires.nothing c.as_slice-from.ensures
     c.in_ok-add_facts.ensures in
     let facts_are = numbered s One 0 old part c.in_ok-numbers.numbers.items c.as_slice-facts.result.now 0 c.len.result refl c.len.ensures
     c.in_ok-numbers.ensures c.as_slice-facts.ensures.value in
@@ -35,7 +35,7 @@ assume_all-requires-clause-terms c =
     let s = c.args.problem.now.policy.schema in
     let old = nothing_known c.args.problem.now in
     let part = c.args.part.now in
-    let new_is = added s One 0 old part c.in_ok-new.new c.add_facts.new.new c.as_slice-from.result.now c.in_ok-new.ensures c.as_slice-from.ensures
+    let new_is = added s One 0 old part c.args.new.now c.add_facts.new.new c.as_slice-from.result.now c.requires.nothing c.as_slice-from.ensures
     c.in_ok-add_facts.ensures in
     let facts_are = numbered s One 0 old part c.in_ok-numbers.numbers.items c.as_slice-facts.result.now 0 c.len.result refl c.len.ensures
     c.in_ok-numbers.ensures c.as_slice-facts.ensures.value in
@@ -47,7 +47,7 @@ assume_all-requires-2-clause-there c =
     let s = c.args.problem.now.policy.schema in
     let old = nothing_known c.args.problem.now in
     let part = c.args.part.now in
-    let new_is = added s One 0 old part c.in_ok-new.new c.add_facts.new.new c.as_slice-from.result.now c.in_ok-new.ensures c.as_slice-from.ensures
+    let new_is = added s One 0 old part c.args.new.now c.add_facts.new.new c.as_slice-from.result.now c.requires.nothing c.as_slice-from.ensures
     c.in_ok-add_facts.ensures in
     let facts_are = numbered s One 0 old part c.in_ok-numbers.numbers.items c.as_slice-facts.result.now 0 c.len.result refl c.len.ensures
     c.in_ok-numbers.ensures c.as_slice-facts.ensures.value in
@@ -63,10 +63,10 @@ returns c =
     let s = c.args.problem.now.policy.schema in
     let old = nothing_known c.args.problem.now in
     let part = c.args.part.now in
-    let new_is = added s One 0 old part c.in_ok-new.new c.add_facts.new.new c.as_slice-from.result.now c.in_ok-new.ensures c.as_slice-from.ensures
+    let new_is = added s One 0 old part c.args.new.now c.add_facts.new.new c.as_slice-from.result.now c.requires.nothing c.as_slice-from.ensures
     c.in_ok-add_facts.ensures in
     let facts_are = numbered s One 0 old part c.in_ok-numbers.numbers.items c.as_slice-facts.result.now 0 c.len.result refl c.len.ensures
     c.in_ok-numbers.ensures c.as_slice-facts.ensures.value in
     start_is c.args.problem.now part c.add_facts.new.new c.assume_all.new.new c.assume_all-2.new.new c.as_slice-facts.result.now c.as_slice-conds.result.now
-    c.as_slice-assumed.result.now c.as_slice-head.result.now c.in_ok-goal.goal.items c.in_ok-new-2.field-0 new_is facts_are c.as_slice-conds.ensures
-    c.as_slice-assumed.ensures c.as_slice-head.ensures c.in_ok-goal.ensures (c.in_ok-new-2.ensures ∙ c.from_vec.ensures) c.in_ok-assume_all.ensures c.in_ok-assume_all-2.ensures
+    c.as_slice-assumed.result.now c.as_slice-head.result.now c.in_ok-goal.goal.items c.in_ok-new.field-0 new_is facts_are c.as_slice-conds.ensures
+    c.as_slice-assumed.ensures c.as_slice-head.ensures c.in_ok-goal.ensures (c.in_ok-new.ensures ∙ c.from_vec.ensures) c.in_ok-assume_all.ensures c.in_ok-assume_all-2.ensures
