@@ -7,9 +7,7 @@ ghost use Rattle.ba_facts.specs.Knowing.{IsThere};
 
 use super::given::add_columns;
 use super::words::{number, term_atom};
-use ba_facts::branch::Branch;
-use ba_facts::knowledge::Knowledge;
-use ba_facts::term::{Side, Term};
+use ba_facts::{Branch, Knowledge, Side, Term};
 use ba_model::{Kind, List};
 use std::alloc::{AllocError, Global};
 

@@ -1,6 +1,7 @@
 //! Whether a problem fits, so that a search may start from it.
 ghost use Rattle.std.specs.Prelude.{◌≡◌, ◌≢◌, ◌↔◌, ◌++◌, List, [], All, IfOk, IsTrue, OnOk, None, Some, map, slice_get};
 ghost use Rattle.std.specs.List.{AllZip};
+ghost use Rattle.std.specs.Option.{option_copied};
 ghost use Rattle.ba_model.specs.Fit.{AtomFits, IsQuery, OpFits, PolicyFits, kind_of, kinds_of};
 ghost use Rattle.ba_model.specs.declared.schema.Kind.{Kind};
 ghost use Rattle.ba_model.specs.declared.schema.Table.{Table};
@@ -8,27 +9,76 @@ ghost use Rattle.ba_model.specs.declared.query.Operand.TheVariants.{Val};
 ghost use Rattle.ba_model.specs.declared.value.Value.TheVariants.{Null};
 ghost use Rattle.ba_kernel.specs.Courses.{EntryFits, LinkFits, LinksFit, ProblemFits, RowOperandFits, RuleFits};
 
-use ba_kernel::problem::{Problem, ProblemEntry};
-use ba_model::{Atom, Column, Duplicate, Kind, Link, List, Op, Operand, Parameter, Part, Policy, Query, QueryDraft, Rule, Same, Schema, Table, Value, View, operand_kind};
+use ba_kernel::{Problem, ProblemEntry};
+use ba_model::{
+    Atom, Column, Duplicate, Kind, Link, List, Op, Operand, Parameter, Part, Policy, Query,
+    QueryDraft, Rule, Same, Schema, Table, Value, View, operand_kind,
+};
 use std::alloc::{AllocError, Global};
 
 /// A problem that doesn't fit is told as want of memory.
 pub(super) fn fit(alloc: Global, problem: &Problem) -> Result<(), AllocError>
     ensures { OnOk result (ProblemFits problem.now) }
 {
-    if !links_fit(&problem.policy.schema) || !assumed_fit(problem) {
+    if !own_links_fit(problem) || !assumed_fit(problem) {
         return Err(AllocError);
     }
-    rules_fit(alloc, &problem.policy.schema)?;
-    policy_fits(alloc, &problem.policy)?;
+    own_rules_fit(alloc, problem)?;
+    own_policy_fits(alloc, problem)?;
+    goal_fits(alloc, problem)?;
+    entries_fit(alloc, problem)
+}
+
+// ---- what a problem holds in common
+
+fn own_links_fit(problem: &Problem) -> bool
+    ensures { IsTrue result ↔ LinksFit problem.now.policy.schema }
+{
+    links_fit(&problem.policy.schema)
+}
+
+fn own_rules_fit(alloc: Global, problem: &Problem) -> Result<(), AllocError>
+    ensures { OnOk result (All (RuleFits problem.now.policy.schema) problem.now.policy.schema.rules) }
+{
+    rules_fit(alloc, &problem.policy.schema)
+}
+
+fn own_policy_fits(alloc: Global, problem: &Problem) -> Result<(), AllocError>
+    ensures { OnOk result (PolicyFits problem.now.policy) }
+{
+    policy_fits(alloc, &problem.policy)
+}
+
+/// Whether the query fits the problem's policy and variables.
+fn own_query_fits(alloc: Global, problem: &Problem, query: &Query) -> Result<(), AllocError>
+    ensures { OnOk result (IsQuery problem.now.policy.schema (kinds_of problem.now.policy.params) problem.now.vars query.now) }
+{
     query_fits(
         alloc,
         &problem.policy.schema,
         &problem.policy.params,
         &problem.vars,
-        &problem.goal,
-    )?;
-    entries_fit(alloc, problem)
+        query,
+    )
+}
+
+fn goal_fits(alloc: Global, problem: &Problem) -> Result<(), AllocError>
+    ensures { OnOk result (IsQuery problem.now.policy.schema (kinds_of problem.now.policy.params) problem.now.vars problem.now.goal) }
+{
+    own_query_fits(alloc, problem, &problem.goal)
+}
+
+fn asked_fits(alloc: Global, problem: &Problem, entry: &ProblemEntry) -> Result<(), AllocError>
+    ensures { OnOk result (IsQuery problem.now.policy.schema (kinds_of problem.now.policy.params) problem.now.vars entry.now.query) }
+{
+    own_query_fits(alloc, problem, &entry.query)
+}
+
+/// The first part of the entry's query.
+fn first_part(entry: &ProblemEntry) -> Option<&Part>
+    ensures { option_copied result ≡ slice_get entry.now.query.parts 0 }
+{
+    entry.query.parts.find(0)
 }
 
 // ---- links
@@ -262,14 +312,8 @@ fn row_fits(problem: &Problem, from: &[u32], head: &[Operand], row: &[Operand]) 
 fn entry_fits(alloc: Global, problem: &Problem, entry: &ProblemEntry) -> Result<(), AllocError>
     ensures { OnOk result (EntryFits problem.now entry.now) }
 {
-    query_fits(
-        alloc,
-        &problem.policy.schema,
-        &problem.policy.params,
-        &problem.vars,
-        &entry.query,
-    )?;
-    let Some(part) = entry.query.parts.find(0) else {
+    asked_fits(alloc, problem, entry)?;
+    let Some(part) = first_part(entry) else {
         return Err(AllocError);
     };
     if row_fits(

@@ -7,8 +7,11 @@
 //! a row of operands.
 
 use super::words::{add_atoms, add_numbers, add_operands, bar, number, numbers};
-use ba_kernel::problem::{Problem, ProblemEntry};
-use ba_model::{Column, Kind, Link, List, Parameter, Part, Policy, Query, Rule, Schema, Shared, Str, Table, View};
+use ba_kernel::{Problem, ProblemEntry};
+use ba_model::{
+    Column, Kind, Link, List, Parameter, Part, Policy, Query, Rule, Schema, Shared, Str, Table,
+    View,
+};
 use std::alloc::{AllocError, Global};
 
 fn no_name(alloc: Global) -> Str {
@@ -161,11 +164,7 @@ fn add_view(alloc: Global, views: &mut List<View>, text: &str) -> Result<(), All
 }
 
 /// Adds parts to a query that nothing else holds.
-fn add_parts_to(
-    alloc: Global,
-    query: &mut Shared<Query>,
-    text: &str,
-) -> Result<(), AllocError> {
+fn add_parts_to(alloc: Global, query: &mut Shared<Query>, text: &str) -> Result<(), AllocError> {
     match query.get_mut() {
         Some(query) => add_parts(alloc, query, text),
         None => Err(AllocError),

@@ -3,7 +3,7 @@
 use super::given::empty_policy;
 use super::words::{add_atoms, add_operands};
 use ba_comply::{Trace, TraceEntry};
-use ba_kernel::problem::Problem;
+use ba_kernel::Problem;
 use ba_model::{Atom, Context, List, Operand, Query, Row, Same, Shared, Value};
 use std::alloc::{AllocError, Global};
 use std::test::Fail;

@@ -12,10 +12,9 @@ use super::given::{add_all, empty_problem};
 use super::spelled::write_branch;
 use super::steps::step;
 use super::words::number;
-use ba_facts::branch::Branch;
-use ba_kernel::problem::Problem;
-use ba_kernel::search::Search;
-use ba_kernel::step::{Step, StepError, StepFault};
+use ba_facts::Branch;
+use ba_kernel::{Problem, Search, Step, StepFault};
+use ba_model::{Failure, MAX_BUDGET};
 use std::alloc::{AllocError, Global};
 use std::fmt::Write;
 
@@ -34,7 +33,12 @@ view: 1 2 | a.0 = b.1, b.0 = p.0 | a.0 a.1 a.2 b.2";
 
 /// Gives an empty problem the tables, the views and the rest. One that doesn't fit is told as want of
 /// memory.
-fn fill(alloc: Global, problem: &mut Problem, views: &str, given: &str) -> Result<(), AllocError>
+pub(super) fn fill(
+    alloc: Global,
+    problem: &mut Problem,
+    views: &str,
+    given: &str,
+) -> Result<(), AllocError>
     ensures { OnOk result (ProblemFits problem.new) }
 {
     add_all(alloc, problem, TABLES)?;
@@ -51,19 +55,19 @@ fn start(alloc: Global, views: &str, given: &str) -> Result<Search, AllocError> 
 
 /// The fault of a step, or none where it was taken.
 fn take(alloc: Global, search: &mut Search, step: Step) -> Result<Option<StepFault>, AllocError> {
-    if search.steps().len() >= 100_000 {
+    if search.steps().len() as u64 >= MAX_BUDGET {
         return Err(AllocError);
     }
     match search.apply(alloc, step) {
         Ok(()) => Ok(None),
-        Err(StepError::Fault(fault)) => Ok(Some(fault)),
-        Err(StepError::NoMemory) => Err(AllocError),
+        Err(Failure::Fault(fault)) => Ok(Some(fault)),
+        Err(Failure::NoMemory) => Err(AllocError),
     }
 }
 
 // ---- spelled
 
-fn write_fault(text: &mut String, fault: StepFault) -> Result<(), AllocError> {
+pub(super) fn write_fault(text: &mut String, fault: StepFault) -> Result<(), AllocError> {
     match fault {
         StepFault::NoBranch => text.push_str("branch"),
         StepFault::BadFact => text.push_str("fact"),

@@ -7,7 +7,7 @@
 
 use super::branches::branch;
 use super::words::{bar, term_atom};
-use ba_facts::branch::Branch;
+use ba_facts::Branch;
 use std::alloc::{AllocError, Global};
 use std::test::Fail;
 

@@ -4,8 +4,7 @@
 //! `One 1: u.0 u.1 @0 | u.0 = 5 | u.1`: a fact is its side, its table, its terms and its round. In
 //! what was learned `~` stands between terms that are the same, maybe NULL.
 
-use ba_facts::branch::Branch;
-use ba_facts::term::{Fact, Lesson, Mapping, Side, Term, TermAtom, TermRef};
+use ba_facts::{Branch, Fact, Lesson, Mapping, Side, Term, TermAtom, TermRef};
 use ba_model::{Op, Shared, Value};
 use std::alloc::AllocError;
 use std::fmt::Write;

@@ -2,7 +2,7 @@
 //! stands its atom.
 
 use super::words::{number, numbers, term_atom};
-use ba_kernel::step::Step;
+use ba_kernel::Step;
 use ba_model::List;
 use std::alloc::{AllocError, Global};
 

@@ -6,7 +6,7 @@
 //! `<=`, `null` or `some` between them, of which the last is IS NOT NULL. Between atoms stand
 //! commas, and between the columns of a line bars.
 
-use ba_facts::term::{Term, TermAtom};
+use ba_facts::{Term, TermAtom};
 use ba_model::{Atom, List, Op, Operand, Str, Value};
 use std::alloc::{AllocError, Global};
 
@@ -82,7 +82,7 @@ fn op(word: &str) -> Op {
 }
 
 /// The three words of an atom.
-fn sides(text: &str) -> (&str, &str, &str) {
+pub(super) fn sides(text: &str) -> (&str, &str, &str) {
     let mut words = text.split_whitespace();
     let left = words.next().unwrap_or("");
     let sign = words.next().unwrap_or("");
@@ -116,7 +116,7 @@ fn named_term(letter: &str, n: u32) -> Term {
     }
 }
 
-fn term(alloc: Global, word: &str) -> Result<Term, AllocError> {
+pub(super) fn term(alloc: Global, word: &str) -> Result<Term, AllocError> {
     match word.split_once('.') {
         Some((letter, digits)) => Ok(named_term(letter, number(digits))),
         None => Ok(Term::Val(value(alloc, word)?)),

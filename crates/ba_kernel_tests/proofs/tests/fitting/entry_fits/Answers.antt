@@ -29,5 +29,5 @@ entry_from p entry part from head row there from_is head_is row_is is row_fits =
 pub returns-then-row_fits : goal.returns-then-row_fits
 returns-then-row_fits c =
     entry_from c.args.problem.now c.args.entry.now c.in-Some.part.now c.as_slice.result.now c.as_slice-2.result.now c.as_slice-3.result.now c.in-Some.ensures
-    c.as_slice.ensures c.as_slice-2.ensures c.as_slice-3.ensures c.in_ok-query_fits.ensures
+    c.as_slice.ensures c.as_slice-2.ensures c.as_slice-3.ensures c.in_ok-asked_fits.ensures
     (c.row_fits.ensures c.if-row_fits.true)
