@@ -41,7 +41,7 @@ fails_on c rows more atom f h =
     let right_same : h.right ≡ f.right = cc (right_kept, h.right_is) in
     f.failed (subst (λ v. Compares atom.op v f.right) left_same (subst (λ w. Compares atom.op h.left w) right_same h.compared))
 
-adds_same : {P Q : List Value → Type 0} {old new : List (List Value)} → ((r : List Value) → P r → Q r) → ((r : List Value) → Q r → P r) → Adds P old new → Adds Q old new
+pub adds_same : {P Q : List Value → Type 0} {old new : List (List Value)} → ((r : List Value) → P r → Q r) → ((r : List Value) → Q r → P r) → Adds P old new → Adds Q old new
 adds_same f g h = record {
   kept = h.kept;
   added = λ r q. h.added r (g r q);

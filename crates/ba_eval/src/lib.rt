@@ -1,8 +1,10 @@
-//! The answer of a query over a database, by nested loops over the tables of each part.
+//! The answer of a query over a database: place by place of each part, by indexes that are made for the answer.
 #![tactic(auto)]
 
 mod found;
 mod part;
+mod place;
+mod tie;
 
 ghost use Rattle.std.specs.Prelude.{◌↔◌, [], IsTrue, IfOk};
 ghost use Rattle.ba_model.specs.Meaning.{InAnswer, IsAnswer};
@@ -10,6 +12,7 @@ ghost use Rattle.ba_eval.specs.Search.{Adds};
 
 use crate::found::Found;
 use crate::part::Search;
+use crate::place::places_of;
 use ba_model::{Context, List, Query, Row, RowSet};
 use std::alloc::{AllocError, Global};
 
@@ -49,7 +52,7 @@ pub fn contains(
     Ok(false)
 }
 
-/// The rows that the parts give, in the order of the loops.
+/// The rows that the parts give.
 fn all_rows(alloc: Global, rows: &RowSet, ctx: &Context, query: &Query) -> Result<Found, AllocError>
     ensures { IfOk result (λ found. Adds (InAnswer query.now ctx.now rows.now) [] found) }
 {
@@ -57,7 +60,8 @@ fn all_rows(alloc: Global, rows: &RowSet, ctx: &Context, query: &Query) -> Resul
     for part in query.parts.as_slice() {
         let mut chosen = Vec::new(alloc);
         let search = Search { rows, ctx, part };
-        search.gather(alloc, part.from.as_slice(), &mut chosen, &mut found)?;
+        let places = places_of(alloc, &search)?;
+        search.gather(alloc, places.as_slice(), &mut chosen, &mut found)?;
     }
     Ok(found)
 }

@@ -1,9 +1,12 @@
 //! The search for the rows of one part.
 ghost use Rattle.std.specs.Prelude.{◌≡◌, ◌↔◌, IsTrue, IfOk, OnOk, All, Any, Some, map};
 ghost use Rattle.ba_model.specs.Meaning.{value_of, rows_of, Holds, Gives};
+ghost use Rattle.std.specs.Prelude.{length};
+ghost use Rattle.ba_eval.specs.Index.{ArePlaces};
 ghost use Rattle.ba_eval.specs.Search.{Adds, Fails, GivesFrom, IsHead};
 
 use crate::found::Found;
+use crate::place::Place;
 use ba_model::{Atom, Context, Duplicate, List, Operand, Part, Row, RowSet, Same, Value};
 use std::alloc::{AllocError, Global};
 
@@ -16,25 +19,27 @@ pub struct Search<'a> {
 }
 
 impl<'a> Search<'a> {
-    /// Adds the rows that the part gives from the chosen rows and one row of each further table.
+    /// Adds the rows that the part gives from the chosen rows and one row of each further place.
     pub fn gather(
         &self,
         alloc: Global,
-        from: &[u32],
+        places: &[Place<'a>],
         chosen: &mut Vec<&'a Row>,
         found: &mut Found,
     ) -> Result<(), AllocError>
+        requires { ArePlaces self.now.ctx.now self.now.rows.now self.now.part.now (length (map (λ row. row.now) chosen.old.items)) places.now }
         ensures chosen { OnOk result (chosen.new.items ≡ chosen.old.items) }
-        ensures found { OnOk result (Adds (GivesFrom self.now.ctx.now self.now.rows.now self.now.part.now from.now (map (λ row. row.now) chosen.old.items)) found.old found.new) }
+        ensures found { OnOk result (Adds (GivesFrom self.now.ctx.now self.now.rows.now self.now.part.now (map (λ place. place.table) places.now) (map (λ row. row.now) chosen.old.items)) found.old found.new) }
     {
-        match from.split_first() {
+        match places.split_first() {
             None => self.add_row(alloc, chosen, found),
-            Some((table, rest)) => {
+            Some((place, rest)) => {
                 if self.fails(chosen) {
                     return Ok(());
                 }
-                for row in rows_of_table(self.rows, *table) {
-                    chosen.push(row)?;
+                let entries = place.candidates(alloc, self, chosen)?;
+                for entry in entries {
+                    chosen.push(place.row(entry.number))?;
                     self.gather(alloc, rest, chosen, found)?;
                     chosen.pop();
                 }
@@ -108,7 +113,7 @@ impl<'a> Search<'a> {
 }
 
 /// The rows of a table, of which a table that isn't there has none.
-fn rows_of_table(rows: &RowSet, table: u32) -> &[Row]
+pub fn rows_of_table(rows: &RowSet, table: u32) -> &[Row]
     ensures { result.now ≡ rows_of rows.now table }
 {
     match rows.tables.find(table as usize) {

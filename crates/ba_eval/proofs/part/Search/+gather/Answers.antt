@@ -1,13 +1,14 @@
 use Rattle.std.proofs.Common.{map, ap, arith}
 use Rattle.std.proofs.lemmas.Grind.{common_steps}
 use Rattle.std.proofs.lemmas.Result.{on_ok_weaker}
-use Rattle.ba_eval.proofs.SearchLemmas.{adds_last, adds_none, pruned, one_chosen, gathers_more, gathers_all}
+use Rattle.ba_eval.proofs.SearchLemmas.{adds_last, adds_none, pruned, one_chosen}
+use Rattle.ba_eval.proofs.GatherLemmas.{entries_more, gathers_all, no_tables, row_there}
 use Rattle.ba_eval.proofs.part.Search.+gather.Goals as goal
 
 pub returns-in-None-clause-found : goal.returns-in-None-clause-found
 returns-in-None-clause-found t c =
     on_ok_weaker c.add_row.result
-    (adds_last c.args.self.now.ctx.now c.args.self.now.rows.now c.args.self.now.part.now _ _ _ _ _ c.in-None.ensures.cases (ap (map (λ row. row.now)) c.deref.ensures.value))
+    (adds_last c.args.self.now.ctx.now c.args.self.now.rows.now c.args.self.now.part.now _ _ _ _ _ (no_tables _ c.in-None.ensures.cases) (ap (map (λ row. row.now)) c.deref.ensures.value))
     c.add_row.ensures
 
 pub returns-then-fails-clause-found : goal.returns-then-fails-clause-found
@@ -15,12 +16,18 @@ returns-then-fails-clause-found t c =
     let fails = c.fails.ensures.0 c.if-fails.true in
     adds_none _ (pruned _ _ _ _ _ (rw c.deref-in-Some.ensures.value at fails))
 
-pub loop-row-preserved : goal.loop-row-preserved
-loop-row-preserved t c = record {
+pub row-requires : goal.row-requires
+row-requires t c =
+    let candidates = c.in_ok-entries-in-Some.ensures in
+    row_there _ _ _ _ _ _ _ c.in-Some.ensures.cases.0 c.requires _ (rw c.deref-in-Some-2.ensures.value at candidates) _ _ c.loop-entry-test.true c.entry-item.is
+
+pub loop-entry-preserved : goal.loop-entry-preserved
+loop-entry-preserved t c = record {
   chosen = grind (arith, common_steps);
-  found = gathers_more _ _ _ _ _ _ _ _ _ c.loop-row-test.true c.row-item.is (one_chosen _ _ _ _ _ c.in_ok-push-in-Some.ensures.items c.loop-row.invariant.chosen) _ _ _ c.loop-row.invariant.found c.in_ok-gather-in-Some.ensures.found;
+  found = entries_more _ _ _ _ _ _ _ _ _ c.loop-entry-test.true c.entry-item.is _ _ _ _ _ c.row.ensures (one_chosen _ _ _ _ _ c.in_ok-push-in-Some.ensures.items c.loop-entry.invariant.chosen) c.loop-entry.invariant.found c.in_ok-gather-in-Some.ensures.found;
 }
 
-pub returns-after-loop-row-clause-found : goal.returns-after-loop-row-clause-found
-returns-after-loop-row-clause-found t c =
-    gathers_all _ _ _ _ _ _ _ _ c.in-Some.ensures.cases.0 c.rows_of_table-row-items.ensures c.loop-row.row-index _ _ c.loop-row-test.false c.loop-row.invariant.found
+pub returns-after-loop-entry-clause-found : goal.returns-after-loop-entry-clause-found
+returns-after-loop-entry-clause-found t c =
+    let candidates = c.in_ok-entries-in-Some.ensures in
+    gathers_all _ _ _ _ _ _ _ c.in-Some.ensures.cases.0 c.requires _ (rw c.deref-in-Some-2.ensures.value at candidates) c.loop-entry.entry-index _ _ c.loop-entry-test.false c.loop-entry.invariant.found

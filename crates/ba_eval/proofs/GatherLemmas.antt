@@ -1,0 +1,170 @@
+-- What the search finds by the candidates of a place.
+use Rattle.std.proofs.Common.{◌≡◌, ℕ, zero, suc, ◌+◌, ◌<◌, ◌≤◌, inl, inr, List, [], ◌∷◌, ◌++◌, length, get_or, take, map, Option, Some, slice_get, refl, sym, ap, ◌∙◌, subst, arith}
+use Rattle.std.proofs.lemmas.List.{length-append, map-append, take_all, take_more}
+use Rattle.std.proofs.lemmas.List.Elements.{All-contains}
+use Rattle.std.proofs.lemmas.Option.{slice_get_within, get_or_from_slice_get, slice_get_read}
+use Rattle.std.specs.List.{Contains}
+use Rattle.std.specs.Prelude.{option_and_then}
+use Rattle.ba_model.specs.Meaning.{Holds, rows_of, value_of}
+use Rattle.ba_model.specs.declared.policy.Context.{Context}
+use Rattle.ba_model.specs.declared.query.Atom.{Atom}
+use Rattle.ba_model.specs.declared.query.Operand.{Operand}
+use Rattle.ba_model.specs.declared.query.Operand.TheVariants.{Col, Val, Param, Var}
+use Rattle.ba_model.specs.declared.query.Part.{Part}
+use Rattle.ba_model.specs.declared.value.RowSet.{RowSet}
+use Rattle.ba_model.specs.declared.value.Value.{Value}
+use Rattle.ba_eval.proofs.SearchLemmas.{FromRow, adds_more, adds_same, from_row, row_from}
+use Rattle.ba_eval.specs.Index.{AreCandidates, ArePlaces, IsDue, IsEarlier, IsPlace, MeetsDue, StandsAt, StandsWithin}
+use Rattle.ba_eval.specs.Search.{Adds, BySome, GivesFrom}
+use Rattle.ba_eval.specs.declared.place.Entry.{Entry}
+use Rattle.ba_eval.specs.declared.place.Place.{Place}
+
+-- an atom that speaks of the first places alone holds where it holds of them
+
+get_front : {X : Type 0} (xs ys : List X) (i : ℕ) → i < length xs → slice_get (xs ++ ys) i ≡ slice_get xs i
+get_front [] ys i h = absurd (omega arith)
+get_front (x ∷ xs) ys zero h = refl
+get_front (x ∷ xs) ys (suc i) h = get_front xs ys i (omega arith)
+
+value_front : (c : Context) (rows more : List (List Value)) (x : Operand) → StandsWithin (length rows) x → value_of c (rows ++ more) x ≡ value_of c rows x
+value_front c rows more (Col p k) h = ap (option_and_then (λ row. slice_get row k)) (get_front rows more p h)
+value_front c rows more (Val v) h = refl
+value_front c rows more (Param n) h = refl
+value_front c rows more (Var n) h = refl
+
+pub holds_front : (c : Context) (rows more : List (List Value)) (atom : Atom) → StandsWithin (length rows) atom.left → StandsWithin (length rows) atom.right → Holds c (rows ++ more) atom → Holds c rows atom
+holds_front c rows more atom l r h = record {
+  left = h.left;
+  right = h.right;
+  left_is = sym (value_front c rows more atom.left l) ∙ h.left_is;
+  right_is = sym (value_front c rows more atom.right r) ∙ h.right_is;
+  compared = h.compared;
+}
+
+pub holds_back : (c : Context) (rows more : List (List Value)) (atom : Atom) → StandsWithin (length rows) atom.left → StandsWithin (length rows) atom.right → Holds c rows atom → Holds c (rows ++ more) atom
+holds_back c rows more atom l r h = record {
+  left = h.left;
+  right = h.right;
+  left_is = value_front c rows more atom.left l ∙ h.left_is;
+  right_is = value_front c rows more atom.right r ∙ h.right_is;
+  compared = h.compared;
+}
+
+at_within : (n : ℕ) (x : Operand) → StandsAt n x → StandsWithin (n + 1) x
+at_within n (Col p k) h = omega arith
+at_within n (Val v) h = tt
+at_within n (Param m) h = tt
+at_within n (Var m) h = tt
+
+earlier_within : (n : ℕ) (x : Operand) → IsEarlier n x → StandsWithin (n + 1) x
+earlier_within n (Col p k) h = omega arith
+earlier_within n (Val v) h = tt
+earlier_within n (Param m) h = tt
+earlier_within n (Var m) h = tt
+
+own_within : (n k : ℕ) (x : Operand) → x ≡ Col n k → StandsWithin (n + 1) x
+own_within n k x e = subst (StandsWithin (n + 1)) (sym e) (let h : n < n + 1 = omega arith in h)
+
+pub due_left : (n : ℕ) (atom : Atom) → IsDue n atom → StandsWithin (n + 1) atom.left
+due_left n atom (inl w) = at_within n atom.left w.left
+due_left n atom (inr (tie, is)) =
+    elim is.sides [ inl t ↦ own_within n tie.column atom.left t.own_is | inr t ↦ earlier_within n atom.left t.earlier ]
+
+pub due_right : (n : ℕ) (atom : Atom) → IsDue n atom → StandsWithin (n + 1) atom.right
+due_right n atom (inl w) = at_within n atom.right w.right
+due_right n atom (inr (tie, is)) =
+    elim is.sides [ inl t ↦ earlier_within n atom.right t.earlier | inr t ↦ own_within n tie.column atom.right t.own_is ]
+
+one_longer : {X : Type 0} (xs : List X) (x : X) → length (xs ++ x ∷ []) ≡ length xs + 1
+one_longer xs x = length-append xs (x ∷ [])
+
+module _ (c : Context) (d : RowSet) (part : Part) (from : List ℕ) (chosen : List (List Value)) where
+  -- a row from which the part gives something makes true what it settles
+  pub due_of_given : (row r : List Value) → FromRow c d part from chosen row r → MeetsDue c part chosen row
+  due_of_given row r (more, are, g) atom there due =
+      let beside = chosen ++ row ∷ [] in
+      holds_front c beside more atom
+      (subst (λ n. StandsWithin n atom.left) (sym (one_longer chosen row)) (due_left (length chosen) atom due))
+      (subst (λ n. StandsWithin n atom.right) (sym (one_longer chosen row)) (due_right (length chosen) atom due))
+      (All-contains (Holds c (beside ++ more)) part.conds atom g.conds there)
+
+  -- the part gives r from the chosen rows, the entry's row and one row of each further place
+  abbrev pub FromEntry : List (List Value) → Entry → List Value → Type 0
+  FromEntry rows entry r = (row : List Value) × (slice_get rows entry.number ≡ Some row) × FromRow c d part from chosen row r
+
+  some_row : {X : Type 0} (o : Option X) (x y : X) → o ≡ Some x → o ≡ Some y → x ≡ y
+  some_row o x y a b = let e : Some x ≡ Some y = sym a ∙ b in cc
+
+  pub entry_found : (rows deeper mid new : List (List Value)) (entry : Entry) (row : List Value) → slice_get rows entry.number ≡ Some row → deeper ≡ chosen ++ row ∷ [] → Adds (GivesFrom c d part from deeper) mid new → Adds (FromEntry rows entry) mid new
+  entry_found rows deeper mid new entry row at e h =
+      adds_same
+      (λ r g. (row, at, subst (λ rs. GivesFrom c d part from rs r) e g))
+      (λ r f. subst (λ rs. GivesFrom c d part from rs r) (ap (λ x. chosen ++ x ∷ []) (some_row (slice_get rows entry.number) f.0 row f.1 at) ∙ sym e) f.2)
+      h
+
+  -- the loop over the entries
+  pub entries_more : (rows : List (List Value)) (entries : List Entry) (i : ℕ) (entry : Entry) → i < length entries → entry ≡ get_or entries i entry → (deeper old mid new : List (List Value)) (row : List Value) → slice_get rows entry.number ≡ Some row → deeper ≡ chosen ++ row ∷ [] → Adds (BySome (FromEntry rows) (take i entries)) old mid → Adds (GivesFrom c d part from deeper) mid new → Adds (BySome (FromEntry rows) (take (i + 1) entries)) old new
+  entries_more rows entries i entry below at deeper old mid new row row_is e before here =
+      adds_more (FromEntry rows) entries i entry below at old mid new before (entry_found rows deeper mid new entry row row_is e here)
+
+  number_of_row : (rows : List (List Value)) (row : List Value) → Contains rows row → (k : ℕ) × (slice_get rows k ≡ Some row)
+  number_of_row rows row (k, below, at) = (k, slice_get_read rows (length rows) k row refl below (sym at))
+
+  row_in : (rows : List (List Value)) (k : ℕ) (row : List Value) → slice_get rows k ≡ Some row → Contains rows row
+  row_in rows k row e = (k, slice_get_within rows k row e, get_or_from_slice_get rows k row row e)
+
+  module _ (table : ℕ) (entries : List Entry) (are : AreCandidates c d part table chosen entries) where
+    from_entry : (r : List Value) → BySome (FromEntry (rows_of d table)) entries r → GivesFrom c d part (table ∷ from) chosen r
+    from_entry r (entry, there, (row, at, g)) = from_row c d part table from chosen r (row, row_in (rows_of d table) entry.number row at, g)
+
+    entry_from : (r : List Value) → GivesFrom c d part (table ∷ from) chosen r → BySome (FromEntry (rows_of d table)) entries r
+    entry_from r h =
+        let by = row_from c d part table from chosen r h in
+        let k = number_of_row (rows_of d table) by.0 by.1 in
+        let e = are.complete k.0 by.0 k.1 (due_of_given by.0 r by.2) in
+        (e.0, e.1, (by.0, subst (λ n. slice_get (rows_of d table) n ≡ Some by.0) (sym e.2) k.1, by.2))
+
+    pub entries_all : (rows : List (List Value)) (n : ℕ) (old new : List (List Value)) → rows ≡ rows_of d table → length entries ≤ n → Adds (BySome (FromEntry rows) (take n entries)) old new → Adds (GivesFrom c d part (table ∷ from) chosen) old new
+    entries_all rows n old new e all h =
+        adds_same from_entry entry_from
+        (subst (λ es. Adds (BySome (FromEntry (rows_of d table)) es) old new) (take_all n entries all)
+        (subst (λ rs. Adds (BySome (FromEntry rs) (take n entries)) old new) e h))
+
+abbrev pub table_of : Place → ℕ
+table_of place = place.table
+
+pub no_tables : (places : List Place) → length places ≡ 0 → length (map table_of places) ≡ 0
+no_tables [] e = refl
+no_tables (place ∷ places) e = absurd (omega arith)
+
+-- the first of the places, over the chosen rows
+module _ (c : Context) (d : RowSet) (part : Part) (chosen : List (List Value)) (places rest : List Place) (place : Place) (split : places ≡ place ∷ rest) (are : ArePlaces c d part (length chosen) places) (entries : List Entry) (candidates : AreCandidates c d part place.table chosen entries) where
+  first : IsPlace c d part (length chosen) place
+  first = (subst (ArePlaces c d part (length chosen)) split are).0
+
+  pub row_there : (i : ℕ) (entry : Entry) → i < length entries → entry ≡ get_or entries i entry → entry.number < length place.rows.now
+  row_there i entry below at =
+      let s = candidates.sound entry (i, below, sym at) in
+      slice_get_within place.rows.now entry.number s.0 (subst (λ rows. slice_get rows entry.number ≡ Some s.0) (sym first.rows_are) s.1)
+
+  pub gathers_all : (n : ℕ) (old new : List (List Value)) → length entries ≤ n → Adds (BySome (FromEntry c d part (map table_of rest) chosen place.rows.now) (take n entries)) old new → Adds (GivesFrom c d part (map table_of places) chosen) old new
+  gathers_all n old new all h =
+      subst (λ ps. Adds (GivesFrom c d part (map table_of ps) chosen) old new) (sym split)
+      (entries_all c d part (map table_of rest) chosen place.table entries candidates place.rows.now n old new first.rows_are all h)
+
+-- one place more
+
+pub places_push : (c : Context) (d : RowSet) (part : Part) (at : ℕ) (places : List Place) (place : Place) → ArePlaces c d part at places → IsPlace c d part (at + length places) place → ArePlaces c d part at (places ++ place ∷ [])
+places_push c d part at [] place h is = (subst (λ n. IsPlace c d part n place) (omega arith) is, tt)
+places_push c d part at (first ∷ places) place h is =
+    (h.0, places_push c d part (at + 1) places place h.1 (subst (λ n. IsPlace c d part n place) (omega arith) is))
+
+pub tables_more : (tables : List ℕ) (i : ℕ) → i < length tables → (places new : List Place) (place : Place) → new ≡ places ++ place ∷ [] → map table_of places ≡ take i tables → place.table ≡ get_or tables i 0 → map table_of new ≡ take (i + 1) tables
+tables_more tables i below places new place is before e =
+    let left : map table_of (places ++ place ∷ []) ≡ map table_of places ++ place.table ∷ [] = map-append table_of places (place ∷ []) in
+    let right : take (i + 1) tables ≡ take i tables ++ get_or tables i 0 ∷ [] = take_more tables i 0 below in
+    cc
+
+pub more_places : (c : Context) (d : RowSet) (part : Part) (places new : List Place) (place : Place) → new ≡ places ++ place ∷ [] → ArePlaces c d part 0 places → IsPlace c d part (length places) place → ArePlaces c d part 0 new
+more_places c d part places new place e h is =
+    subst (ArePlaces c d part 0) (sym e) (places_push c d part 0 places place h (subst (λ n. IsPlace c d part n place) (omega arith) is))

@@ -1,0 +1,13 @@
+use Rattle.ba_eval.proofs.EntryLemmas.{entered_moved}
+use Rattle.ba_eval.proofs.place.Place.new.Goals as goal
+
+pub returns-clause-place : goal.returns-clause-place
+returns-clause-place c =
+    let ties = c.in_ok-ties.ensures in
+    let entered = c.in_ok-entries.ensures in
+    record {
+      rows_are = c.rows_of_table-rows.ensures;
+      ties_are = rw c.as_slice.ensures at ties;
+      entered = entered_moved _ _ _ _ _ _ _ _ c.put_in_order.ensures.moved (rw c.as_slice-2.ensures.value at entered);
+      sorted = c.put_in_order.ensures.sorted;
+    }
