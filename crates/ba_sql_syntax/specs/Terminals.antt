@@ -1,5 +1,5 @@
 -- The terminals of the grammar, and which of them each word is.
-use Rattle.std.specs.Prelude.{ℕ, pos, Bool, false, ◌==◌, List, [], ◌∷◌, map, codes, if◌then◌else◌}
+use Rattle.std.specs.Prelude.{ℕ, ℤ, pos, Bool, false, ◌==◌, List, [], ◌∷◌, map, codes, Option, Some, None, if◌then◌else◌}
 use Rattle.ba_grammar.specs.Items.{is_among, sign_number}
 use Rattle.ba_lex.specs.Word.{is_word}
 use Rattle.ba_lex.specs.declared.token.Lexeme.{Lexeme}
@@ -8,16 +8,9 @@ use Rattle.ba_lex.specs.declared.token.Sign.{Sign}
 use Rattle.ba_model.specs.declared.value.Value.TheVariants.{Int, Text as TextValue}
 use Rattle.ba_sql_syntax.specs.declared.word.Key.{Key}
 use Rattle.ba_sql_syntax.specs.declared.word.Key.TheVariants.{Select, Distinct, From, Where, Join, Inner, Cross, On, As, And, Or, Union, In}
-use Rattle.ba_sql_syntax.specs.declared.written.Constant.{Constant}
+pub use Rattle.ba_sql_syntax.specs.declared.word.Terminal.{Terminal}
+pub use Rattle.ba_sql_syntax.specs.declared.word.Terminal.TheVariants.{Key as key, Name as name, Constant as constant, Sign as sign, Unsupported as unsupported}
 use Rattle.ba_sql_syntax.specs.declared.written.Constant.TheVariants.{Value, Param}
-
--- a keyword, a name, a constant, a sign, or a word that isn't supported
-pub data Terminal : Type 0 where
-  key : Key → Terminal
-  name : List ℕ → Terminal
-  constant : Constant → Terminal
-  sign : Sign → Terminal
-  unsupported : Terminal
 
 abbrev pub key_text : Key → List ℕ
 key_text Select = codes "SELECT"
@@ -34,13 +27,17 @@ key_text Or = codes "OR"
 key_text Union = codes "UNION"
 key_text In = codes "IN"
 
-abbrev pub truth : ℕ → Terminal
-truth n = constant (Value (Int (pos n)))
+-- all keywords
+abbrev pub keys : List Key
+keys = Select ∷ Distinct ∷ From ∷ Where ∷ Join ∷ Inner ∷ Cross ∷ On ∷ As ∷ And ∷ Or ∷ Union ∷ In ∷ []
+
+abbrev pub truth : ℤ → Terminal
+truth n = constant (Value (Int n))
 
 -- the words that mean something, and what: TRUE is 1, FALSE is 0
 abbrev pub meanings : List (List ℕ × Terminal)
 meanings =
-    (codes "TRUE", truth 1) ∷ (codes "FALSE", truth 0)
+    (codes "TRUE", truth (pos 1)) ∷ (codes "FALSE", truth (pos 0))
     ∷ (codes "SELECT", key Select) ∷ (codes "DISTINCT", key Distinct) ∷ (codes "FROM", key From) ∷ (codes "WHERE", key Where)
     ∷ (codes "JOIN", key Join) ∷ (codes "INNER", key Inner) ∷ (codes "CROSS", key Cross) ∷ (codes "ON", key On) ∷ (codes "AS", key As)
     ∷ (codes "AND", key And) ∷ (codes "OR", key Or) ∷ (codes "UNION", key Union) ∷ (codes "IN", key In) ∷ []
@@ -80,6 +77,11 @@ terminal (lexemes.Sign s) = sign s
 
 abbrev pub terminals : List Lexeme → List Terminal
 terminals = map terminal
+
+-- the first of these keywords whose word this is, in any case
+abbrev pub first_key : List Key → List ℕ → Option Key
+first_key [] word = None
+first_key (k ∷ ks) word = if is_word word (key_text k) then Some k else first_key ks word
 
 -- ---- tests of one terminal
 

@@ -3,19 +3,19 @@ ghost use Rattle.std.specs.Prelude.{◌≡◌};
 ghost use Rattle.ba_model.specs.Readings.{Sees};
 ghost use Rattle.ba_sql_syntax.specs.Grammar.{compared, comparison};
 ghost use Rattle.ba_sql_syntax.specs.Reader.{among_at, compared_at, comparison_at, comparison_of, constant_at, test_at};
-ghost use Rattle.ba_sql_syntax.specs.Terminals.{terminal, terminals};
 
+use crate::front::{begins_with, constant, past, past_sign};
 use crate::several::{Element, listed};
 use crate::side::side;
-use crate::word::{Key, begins_with, constant, past, past_sign};
+use crate::word::{Key, Terminal};
 use crate::written::{Constant, Side, Test};
 use ba_grammar::Syntax;
-use ba_lex::{Lexeme, Sign};
+use ba_lex::Sign;
 use ba_model::{Failure, Op};
 use std::alloc::Global;
 
 /// What a sign compares by, and whether its sides are turned round.
-#[derive(Clone, Copy, Debug, PartialEq, Eq)]
+#[derive(Clone, Copy)]
 pub struct Comparison {
     pub op: Op,
     pub turned: bool,
@@ -55,20 +55,19 @@ impl Comparison {
 impl Element for Constant {
     ghost read_at = { constant_at };
 
-    fn read(alloc: Global, words: &[Lexeme]) -> Result<(Constant, &[Lexeme]), Failure<Syntax>> {
+    fn read(alloc: Global, words: &[Terminal]) -> Result<(Constant, &[Terminal]), Failure<Syntax>> {
         constant(alloc, words)
     }
 }
 
-#[tactic(auto, using(crate::proofs::TerminalLemmas::no_comparison))]
 fn comparison_of<'a>(
-    word: &Lexeme,
-    rest: &'a [Lexeme],
-) -> Result<(Comparison, &'a [Lexeme]), Failure<Syntax>>
-    ensures { Sees (λ x. (x.0, terminals x.1.now)) result (comparison_of (terminal word.now) (terminals rest.now)) }
+    word: &Terminal,
+    rest: &'a [Terminal],
+) -> Result<(Comparison, &'a [Terminal]), Failure<Syntax>>
+    ensures { Sees (λ x. (x.0, x.1.now)) result (comparison_of word.now rest.now) }
 {
     match word {
-        Lexeme::Sign(sign) => match Comparison::of_sign(*sign) {
+        Terminal::Sign(sign) => match Comparison::of_sign(*sign) {
             Some(comparison) => Ok((comparison, rest)),
             None => Err(Failure::Fault(Syntax)),
         },
@@ -77,8 +76,8 @@ fn comparison_of<'a>(
 }
 
 #[tactic(auto, unfolding(crate::specs::Reader::comparison_at))]
-fn compares_by(words: &[Lexeme]) -> Result<(Comparison, &[Lexeme]), Failure<Syntax>>
-    ensures { Sees (λ x. (x.0, terminals x.1.now)) result (comparison_at (terminals words.now)) }
+fn compares_by(words: &[Terminal]) -> Result<(Comparison, &[Terminal]), Failure<Syntax>>
+    ensures { Sees (λ x. (x.0, x.1.now)) result (comparison_at words.now) }
 {
     match words {
         [first, rest @ ..] => comparison_of(first, rest),
@@ -90,9 +89,9 @@ fn compares_by(words: &[Lexeme]) -> Result<(Comparison, &[Lexeme]), Failure<Synt
 fn compared(
     alloc: Global,
     left: Side,
-    words: &[Lexeme],
-) -> Result<(Test, &[Lexeme]), Failure<Syntax>>
-    ensures { Sees (λ x. (x.0, terminals x.1.now)) result (compared_at left (terminals words.now)) }
+    words: &[Terminal],
+) -> Result<(Test, &[Terminal]), Failure<Syntax>>
+    ensures { Sees (λ x. (x.0, x.1.now)) result (compared_at left words.now) }
 {
     let (comparison, rest) = compares_by(words)?;
     let (right, rest) = side(alloc, rest)?;
@@ -100,8 +99,12 @@ fn compared(
 }
 
 #[tactic(auto, unfolding(crate::specs::Reader::among_at))]
-fn among(alloc: Global, side: Side, words: &[Lexeme]) -> Result<(Test, &[Lexeme]), Failure<Syntax>>
-    ensures { Sees (λ x. (x.0, terminals x.1.now)) result (among_at side (terminals words.now)) }
+fn among(
+    alloc: Global,
+    side: Side,
+    words: &[Terminal],
+) -> Result<(Test, &[Terminal]), Failure<Syntax>>
+    ensures { Sees (λ x. (x.0, x.1.now)) result (among_at side words.now) }
 {
     let rest = past(words, Key::In)?;
     let rest = past_sign(rest, Sign::LeftParen)?;
@@ -112,8 +115,8 @@ fn among(alloc: Global, side: Side, words: &[Lexeme]) -> Result<(Test, &[Lexeme]
 
 /// A comparison of two sides, or IN with its constants.
 #[tactic(auto, unfolding(crate::specs::Reader::test_at))]
-pub fn test(alloc: Global, words: &[Lexeme]) -> Result<(Test, &[Lexeme]), Failure<Syntax>>
-    ensures { Sees (λ x. (x.0, terminals x.1.now)) result (test_at (terminals words.now)) }
+pub fn test(alloc: Global, words: &[Terminal]) -> Result<(Test, &[Terminal]), Failure<Syntax>>
+    ensures { Sees (λ x. (x.0, x.1.now)) result (test_at words.now) }
 {
     let (side, rest) = side(alloc, words)?;
     if begins_with(rest, Key::In) {

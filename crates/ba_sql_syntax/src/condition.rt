@@ -3,24 +3,25 @@ ghost use Rattle.std.specs.Prelude.{◌≡◌, ◌++◌, List as Sequence, OnOk,
 ghost use Rattle.ba_model.specs.Readings.{Sees};
 ghost use Rattle.ba_sql_syntax.specs.Progress.{progress};
 ghost use Rattle.ba_sql_syntax.specs.Reader.{can_close, close, condition_at, condition_goes, condition_step, finish, have_step, start, waiting, want_step};
-ghost use Rattle.ba_sql_syntax.specs.Terminals.{Terminal, terminals};
+ghost use Rattle.ba_sql_syntax.specs.Terminals.{Terminal as Word};
 
 use crate::compare::test;
-use crate::word::{Key, begins_with, begins_with_sign, past, past_sign};
+use crate::front::{begins_with, begins_with_sign, past, past_sign};
+use crate::word::{Key, Terminal};
 use crate::written::Node;
 use ba_grammar::Syntax;
-use ba_lex::{Lexeme, Sign};
+use ba_lex::Sign;
 use ba_model::{Failure, List};
 use std::alloc::{AllocError, Global};
 
 /// Which operators wait for their right sides before a bracket that is open, or at the start.
-#[derive(Clone, Copy, Debug, PartialEq, Eq)]
+#[derive(Clone, Copy)]
 pub struct Level {
     pub or: bool,
     pub and: bool,
 }
 
-#[derive(Clone, Copy, Debug, PartialEq, Eq)]
+#[derive(Clone, Copy)]
 pub enum Turn {
     /// A bracket or a test comes next.
     Want(Level),
@@ -44,7 +45,7 @@ struct Progress {
 
 impl Progress {
     fn new(alloc: Global) -> Progress
-        ensures { (ts : Sequence Terminal) → progress result ts ≡ start ts }
+        ensures { (ts : Sequence Word) → progress result ts ≡ start ts }
     {
         Progress {
             stack: Vec::new(alloc),
@@ -66,8 +67,9 @@ impl Progress {
     }
 
     /// A bracket is closed whose nodes are complete.
-    fn close<'a>(&mut self, rest: &'a [Lexeme]) -> Result<&'a [Lexeme], Failure<Syntax>>
-        ensures { Sees (λ rest. progress self.new (terminals rest.now)) result (close (reverse self.old.stack.items) self.old.nodes (terminals rest.now)) }
+    fn close<'a>(&mut self, rest: &'a [Terminal]) -> Result<&'a [Terminal], Failure<Syntax>>
+        ensures { Sees (λ rest. progress self.new rest.now) result
+            (close (reverse self.old.stack.items) self.old.nodes rest.now) }
     {
         match self.stack.pop() {
             Some(top) => {
@@ -84,9 +86,10 @@ impl Progress {
         &mut self,
         alloc: Global,
         top: Level,
-        words: &'a [Lexeme],
-    ) -> Result<&'a [Lexeme], Failure<Syntax>>
-        ensures { Sees (λ rest. progress self.new (terminals rest.now)) result (want_step (reverse self.old.stack.items) top self.old.nodes (terminals words.now)) }
+        words: &'a [Terminal],
+    ) -> Result<&'a [Terminal], Failure<Syntax>>
+        ensures { Sees (λ rest. progress self.new rest.now) result
+            (want_step (reverse self.old.stack.items) top self.old.nodes words.now) }
     {
         if begins_with_sign(words, Sign::LeftParen) {
             let rest = past_sign(words, Sign::LeftParen)?;
@@ -102,8 +105,13 @@ impl Progress {
     }
 
     #[tactic(auto, unfolding(crate::specs::Reader::have_step))]
-    fn have<'a>(&mut self, or: bool, words: &'a [Lexeme]) -> Result<&'a [Lexeme], Failure<Syntax>>
-        ensures { Sees (λ rest. progress self.new (terminals rest.now)) result (have_step (reverse self.old.stack.items) or self.old.nodes (terminals words.now)) }
+    fn have<'a>(
+        &mut self,
+        or: bool,
+        words: &'a [Terminal],
+    ) -> Result<&'a [Terminal], Failure<Syntax>>
+        ensures { Sees (λ rest. progress self.new rest.now) result
+            (have_step (reverse self.old.stack.items) or self.old.nodes words.now) }
     {
         if begins_with(words, Key::And) {
             let rest = past(words, Key::And)?;
@@ -128,9 +136,10 @@ impl Progress {
     fn step<'a>(
         &mut self,
         alloc: Global,
-        words: &'a [Lexeme],
-    ) -> Result<&'a [Lexeme], Failure<Syntax>>
-        ensures { Sees (λ rest. progress self.new (terminals rest.now)) result (condition_step (progress self.old (terminals words.now))) }
+        words: &'a [Terminal],
+    ) -> Result<&'a [Terminal], Failure<Syntax>>
+        ensures { Sees (λ rest. progress self.new rest.now) result
+            (condition_step (progress self.old words.now)) }
     {
         match self.turn {
             Turn::Want(top) => self.want(alloc, top, words),
@@ -138,8 +147,8 @@ impl Progress {
         }
     }
 
-    fn can_close(&self, words: &[Lexeme]) -> bool
-        ensures { result ≡ can_close (reverse self.now.stack.items) (terminals words.now) }
+    fn can_close(&self, words: &[Terminal]) -> bool
+        ensures { result ≡ can_close (reverse self.now.stack.items) words.now }
     {
         if self.stack.is_empty() {
             return false;
@@ -148,8 +157,8 @@ impl Progress {
     }
 
     /// Whether the condition goes on with these words.
-    fn goes_on(&self, words: &[Lexeme]) -> bool
-        ensures { result ≡ condition_goes (progress self.now (terminals words.now)) }
+    fn goes_on(&self, words: &[Terminal]) -> bool
+        ensures { result ≡ condition_goes (progress self.now words.now) }
     {
         match self.turn {
             Turn::Want(_) => true,
@@ -162,9 +171,9 @@ impl Progress {
     /// The nodes of a condition that ends before these words.
     fn finish<'a>(
         mut self,
-        rest: &'a [Lexeme],
-    ) -> Result<(List<Node>, &'a [Lexeme]), Failure<Syntax>>
-        ensures { Sees (λ x. (x.0, terminals x.1.now)) result (finish (progress self (terminals rest.now))) }
+        rest: &'a [Terminal],
+    ) -> Result<(List<Node>, &'a [Terminal]), Failure<Syntax>>
+        ensures { Sees (λ x. (x.0, x.1.now)) result (finish (progress self rest.now)) }
     {
         if !self.stack.is_empty() {
             return Err(Failure::Fault(Syntax));
@@ -183,9 +192,9 @@ impl Progress {
 #[tactic(auto, unfolding(crate::specs::Reader::condition_at))]
 pub fn condition(
     alloc: Global,
-    words: &[Lexeme],
-) -> Result<(List<Node>, &[Lexeme]), Failure<Syntax>>
-    ensures { Sees (λ x. (x.0, terminals x.1.now)) result (condition_at (terminals words.now)) }
+    words: &[Terminal],
+) -> Result<(List<Node>, &[Terminal]), Failure<Syntax>>
+    ensures { Sees (λ x. (x.0, x.1.now)) result (condition_at words.now) }
 {
     let mut progress = Progress::new(alloc);
     let mut rest = words;

@@ -4,6 +4,7 @@
 mod compare;
 mod condition;
 mod fault;
+mod front;
 pub mod laws;
 mod scan;
 mod select;

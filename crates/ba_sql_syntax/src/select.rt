@@ -2,15 +2,15 @@
 ghost use Rattle.std.specs.Prelude.{◌≡◌, ◌∷◌, [], ◌++◌, IfOk};
 ghost use Rattle.ba_model.specs.Readings.{Sees};
 ghost use Rattle.ba_sql_syntax.specs.Reader.{and_also, cross_source, free_source, has_source, heads_at, is_all_of, item_at, joined, next_source, on_source, select_at, source_at, sources_at, where_at};
-ghost use Rattle.ba_sql_syntax.specs.Terminals.{terminals};
 
 use crate::condition::condition;
+use crate::front::{begins_with, begins_with_sign, is_sign, name, past, past_sign, skip};
 use crate::several::{Element, listed};
 use crate::side::{alias, side};
-use crate::word::{Key, begins_with, begins_with_sign, is_sign, name, past, past_sign, skip};
+use crate::word::{Key, Terminal};
 use crate::written::{Heads, Item, Node, Select, Source};
 use ba_grammar::Syntax;
-use ba_lex::{Lexeme, Sign};
+use ba_lex::Sign;
 use ba_model::{Failure, List};
 use std::alloc::{AllocError, Global};
 
@@ -29,8 +29,8 @@ fn and_also(first: List<Node>, more: List<Node>) -> Result<List<Node>, AllocErro
 }
 
 /// Whether `.*` stands behind the first word.
-fn is_all_of(words: &[Lexeme]) -> bool
-    ensures { result ≡ is_all_of (terminals words.now) }
+fn is_all_of(words: &[Terminal]) -> bool
+    ensures { result ≡ is_all_of words.now }
 {
     match words {
         [_, second, third, ..] => is_sign(second, Sign::Dot) && is_sign(third, Sign::Star),
@@ -42,7 +42,7 @@ impl Element for Item {
     ghost read_at = { item_at };
 
     #[tactic(auto, unfolding(crate::specs::Reader::item_at))]
-    fn read(alloc: Global, words: &[Lexeme]) -> Result<(Item, &[Lexeme]), Failure<Syntax>> {
+    fn read(alloc: Global, words: &[Terminal]) -> Result<(Item, &[Terminal]), Failure<Syntax>> {
         if is_all_of(words) {
             let (source, rest) = name(alloc, words)?;
             let rest = past_sign(rest, Sign::Dot)?;
@@ -57,8 +57,8 @@ impl Element for Item {
 
 /// `*`, or items with commas between them.
 #[tactic(auto, unfolding(crate::specs::Reader::heads_at))]
-fn heads(alloc: Global, words: &[Lexeme]) -> Result<(Heads, &[Lexeme]), Failure<Syntax>>
-    ensures { Sees (λ x. (x.0, terminals x.1.now)) result (heads_at (terminals words.now)) }
+fn heads(alloc: Global, words: &[Terminal]) -> Result<(Heads, &[Terminal]), Failure<Syntax>>
+    ensures { Sees (λ x. (x.0, x.1.now)) result (heads_at words.now) }
 {
     if begins_with_sign(words, Sign::Star) {
         let rest = past_sign(words, Sign::Star)?;
@@ -70,8 +70,8 @@ fn heads(alloc: Global, words: &[Lexeme]) -> Result<(Heads, &[Lexeme]), Failure<
 
 /// A table, with a name of its own or without.
 #[tactic(auto, unfolding(crate::specs::Reader::source_at))]
-fn source(alloc: Global, words: &[Lexeme]) -> Result<(Source, &[Lexeme]), Failure<Syntax>>
-    ensures { Sees (λ x. (x.0, terminals x.1.now)) result (source_at (terminals words.now)) }
+fn source(alloc: Global, words: &[Terminal]) -> Result<(Source, &[Terminal]), Failure<Syntax>>
+    ensures { Sees (λ x. (x.0, x.1.now)) result (source_at words.now) }
 {
     let (table, rest) = name(alloc, words)?;
     let (alias, rest) = alias(alloc, rest)?;
@@ -90,9 +90,10 @@ struct Joined {
 fn free_source(
     alloc: Global,
     mut so_far: Joined,
-    words: &[Lexeme],
-) -> Result<(Joined, &[Lexeme]), Failure<Syntax>>
-    ensures { Sees (λ x. joined x.0.sources x.0.condition (terminals x.1.now)) result (free_source so_far.sources so_far.condition (terminals words.now)) }
+    words: &[Terminal],
+) -> Result<(Joined, &[Terminal]), Failure<Syntax>>
+    ensures { Sees (λ x. joined x.0.sources x.0.condition x.1.now) result
+        (free_source so_far.sources so_far.condition words.now) }
 {
     let (source, rest) = source(alloc, words)?;
     so_far.sources.push(source)?;
@@ -104,9 +105,10 @@ fn free_source(
 fn on_source(
     alloc: Global,
     so_far: Joined,
-    words: &[Lexeme],
-) -> Result<(Joined, &[Lexeme]), Failure<Syntax>>
-    ensures { Sees (λ x. joined x.0.sources x.0.condition (terminals x.1.now)) result (on_source so_far.sources so_far.condition (terminals words.now)) }
+    words: &[Terminal],
+) -> Result<(Joined, &[Terminal]), Failure<Syntax>>
+    ensures { Sees (λ x. joined x.0.sources x.0.condition x.1.now) result
+        (on_source so_far.sources so_far.condition words.now) }
 {
     let Joined {
         mut sources,
@@ -125,9 +127,10 @@ fn on_source(
 fn cross_source(
     alloc: Global,
     so_far: Joined,
-    words: &[Lexeme],
-) -> Result<(Joined, &[Lexeme]), Failure<Syntax>>
-    ensures { Sees (λ x. joined x.0.sources x.0.condition (terminals x.1.now)) result (cross_source so_far.sources so_far.condition (terminals words.now)) }
+    words: &[Terminal],
+) -> Result<(Joined, &[Terminal]), Failure<Syntax>>
+    ensures { Sees (λ x. joined x.0.sources x.0.condition x.1.now) result
+        (cross_source so_far.sources so_far.condition words.now) }
 {
     let rest = past(words, Key::Cross)?;
     let rest = past(rest, Key::Join)?;
@@ -138,9 +141,10 @@ fn cross_source(
 fn next_source(
     alloc: Global,
     so_far: Joined,
-    words: &[Lexeme],
-) -> Result<(Joined, &[Lexeme]), Failure<Syntax>>
-    ensures { Sees (λ x. joined x.0.sources x.0.condition (terminals x.1.now)) result (next_source so_far.sources so_far.condition (terminals words.now)) }
+    words: &[Terminal],
+) -> Result<(Joined, &[Terminal]), Failure<Syntax>>
+    ensures { Sees (λ x. joined x.0.sources x.0.condition x.1.now) result
+        (next_source so_far.sources so_far.condition words.now) }
 {
     if begins_with_sign(words, Sign::Comma) {
         let rest = past_sign(words, Sign::Comma)?;
@@ -154,8 +158,8 @@ fn next_source(
 
 /// Whether another source comes next.
 #[tactic(auto, unfolding(crate::specs::Reader::has_source))]
-fn has_source(words: &[Lexeme]) -> bool
-    ensures { result ≡ has_source (terminals words.now) }
+fn has_source(words: &[Terminal]) -> bool
+    ensures { result ≡ has_source words.now }
 {
     begins_with_sign(words, Sign::Comma)
         || begins_with(words, Key::Cross)
@@ -164,8 +168,8 @@ fn has_source(words: &[Lexeme]) -> bool
 }
 
 #[tactic(auto, unfolding(crate::specs::Reader::sources_at))]
-fn sources(alloc: Global, words: &[Lexeme]) -> Result<(Joined, &[Lexeme]), Failure<Syntax>>
-    ensures { Sees (λ x. joined x.0.sources x.0.condition (terminals x.1.now)) result (sources_at (terminals words.now)) }
+fn sources(alloc: Global, words: &[Terminal]) -> Result<(Joined, &[Terminal]), Failure<Syntax>>
+    ensures { Sees (λ x. joined x.0.sources x.0.condition x.1.now) result (sources_at words.now) }
 {
     let (first, behind) = source(alloc, words)?;
     let mut sources = List::new(alloc);
@@ -191,9 +195,9 @@ fn sources(alloc: Global, words: &[Lexeme]) -> Result<(Joined, &[Lexeme]), Failu
 fn where_condition(
     alloc: Global,
     first: List<Node>,
-    words: &[Lexeme],
-) -> Result<(List<Node>, &[Lexeme]), Failure<Syntax>>
-    ensures { Sees (λ x. (x.0, terminals x.1.now)) result (where_at first (terminals words.now)) }
+    words: &[Terminal],
+) -> Result<(List<Node>, &[Terminal]), Failure<Syntax>>
+    ensures { Sees (λ x. (x.0, x.1.now)) result (where_at first words.now) }
 {
     if !begins_with(words, Key::Where) {
         return Ok((first, words));
@@ -206,8 +210,8 @@ fn where_condition(
 
 /// SELECT, heads, FROM, sources, and a condition or none.
 #[tactic(auto, unfolding(crate::specs::Reader::select_at))]
-pub fn select(alloc: Global, words: &[Lexeme]) -> Result<(Select, &[Lexeme]), Failure<Syntax>>
-    ensures { Sees (λ x. (x.0, terminals x.1.now)) result (select_at (terminals words.now)) }
+pub fn select(alloc: Global, words: &[Terminal]) -> Result<(Select, &[Terminal]), Failure<Syntax>>
+    ensures { Sees (λ x. (x.0, x.1.now)) result (select_at words.now) }
 {
     let rest = past(words, Key::Select)?;
     let (heads, rest) = heads(alloc, skip(rest, Key::Distinct))?;

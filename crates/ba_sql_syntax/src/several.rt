@@ -2,24 +2,24 @@
 ghost use Rattle.std.specs.Prelude.{◌≡◌};
 ghost use Rattle.ba_model.specs.Readings.{Sees};
 ghost use Rattle.ba_sql_syntax.specs.Reader.{comma_step, listed};
-ghost use Rattle.ba_sql_syntax.specs.Terminals.{terminals};
 
-use crate::word::{begins_with_sign, past_sign};
+use crate::front::{begins_with_sign, past_sign};
+use crate::word::Terminal;
 use ba_grammar::Syntax;
-use ba_lex::{Lexeme, Sign};
+use ba_lex::Sign;
 use ba_model::{Failure, List};
 use std::alloc::Global;
 
 /// What the grammar reads at the front of words.
 pub trait Element: Drop {
     ghost use Rattle.ba_sql_syntax.specs.Reader.{Read};
-    ghost use Rattle.ba_sql_syntax.specs.Terminals.{Terminal};
+    ghost use Rattle.ba_sql_syntax.specs.Terminals.{Terminal as Word};
     ghost use Rattle.std.specs.Prelude.{List as Sequence};
 
-    ghost read_at: { Sequence Terminal → Read Self };
+    ghost read_at: { Sequence Word → Read Self };
 
-    fn read(alloc: Global, words: &[Lexeme]) -> Result<(Self, &[Lexeme]), Failure<Syntax>>
-        ensures { Sees (λ x. (x.0, terminals x.1.now)) result (read_at (terminals words.now)) };
+    fn read(alloc: Global, words: &[Terminal]) -> Result<(Self, &[Terminal]), Failure<Syntax>>
+        ensures { Sees (λ x. (x.0, x.1.now)) result (read_at words.now) };
 }
 
 /// One more, behind a comma.
@@ -27,9 +27,9 @@ pub trait Element: Drop {
 fn one_more<T: Element>(
     alloc: Global,
     mut found: List<T>,
-    words: &[Lexeme],
-) -> Result<(List<T>, &[Lexeme]), Failure<Syntax>>
-    ensures { Sees (λ x. (x.0, terminals x.1.now)) result (comma_step T.read_at (found, terminals words.now)) }
+    words: &[Terminal],
+) -> Result<(List<T>, &[Terminal]), Failure<Syntax>>
+    ensures { Sees (λ x. (x.0, x.1.now)) result (comma_step T.read_at (found, words.now)) }
 {
     let rest = past_sign(words, Sign::Comma)?;
     let (next, rest) = T::read(alloc, rest)?;
@@ -41,9 +41,9 @@ fn one_more<T: Element>(
 #[tactic(auto, unfolding(crate::specs::Reader::listed))]
 pub fn listed<T: Element>(
     alloc: Global,
-    words: &[Lexeme],
-) -> Result<(List<T>, &[Lexeme]), Failure<Syntax>>
-    ensures { Sees (λ x. (x.0, terminals x.1.now)) result (listed T.read_at (terminals words.now)) }
+    words: &[Terminal],
+) -> Result<(List<T>, &[Terminal]), Failure<Syntax>>
+    ensures { Sees (λ x. (x.0, x.1.now)) result (listed T.read_at words.now) }
 {
     let (first, behind) = T::read(alloc, words)?;
     let mut found = List::new(alloc);

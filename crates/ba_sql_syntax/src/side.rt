@@ -2,21 +2,24 @@
 ghost use Rattle.std.specs.Prelude.{◌≡◌};
 ghost use Rattle.ba_model.specs.Readings.{Sees};
 ghost use Rattle.ba_sql_syntax.specs.Reader.{alias_at, column_at, side_at};
-ghost use Rattle.ba_sql_syntax.specs.Terminals.{terminals};
 
-use crate::word::{
-    Key, begins_with, begins_with_name, begins_with_sign, constant, name, past, past_sign,
+use crate::front::{
+    begins_with, begins_with_name, begins_with_sign, constant, name, past, past_sign,
 };
+use crate::word::{Key, Terminal};
 use crate::written::{Named, Side};
 use ba_grammar::Syntax;
-use ba_lex::{Lexeme, Sign};
+use ba_lex::Sign;
 use ba_model::{Failure, Str};
 use std::alloc::Global;
 
 /// A name, which AS may stand before, or nothing.
 #[tactic(auto, unfolding(crate::specs::Reader::alias_at))]
-pub fn alias(alloc: Global, words: &[Lexeme]) -> Result<(Option<Str>, &[Lexeme]), Failure<Syntax>>
-    ensures { Sees (λ x. (x.0, terminals x.1.now)) result (alias_at (terminals words.now)) }
+pub fn alias(
+    alloc: Global,
+    words: &[Terminal],
+) -> Result<(Option<Str>, &[Terminal]), Failure<Syntax>>
+    ensures { Sees (λ x. (x.0, x.1.now)) result (alias_at words.now) }
 {
     if begins_with(words, Key::As) {
         let rest = past(words, Key::As)?;
@@ -31,8 +34,8 @@ pub fn alias(alloc: Global, words: &[Lexeme]) -> Result<(Option<Str>, &[Lexeme])
 }
 
 #[tactic(auto, unfolding(crate::specs::Reader::column_at))]
-fn column(alloc: Global, words: &[Lexeme]) -> Result<(Side, &[Lexeme]), Failure<Syntax>>
-    ensures { Sees (λ x. (x.0, terminals x.1.now)) result (column_at (terminals words.now)) }
+fn column(alloc: Global, words: &[Terminal]) -> Result<(Side, &[Terminal]), Failure<Syntax>>
+    ensures { Sees (λ x. (x.0, x.1.now)) result (column_at words.now) }
 {
     let (first, rest) = name(alloc, words)?;
     if begins_with_sign(rest, Sign::Dot) {
@@ -50,8 +53,8 @@ fn column(alloc: Global, words: &[Lexeme]) -> Result<(Side, &[Lexeme]), Failure<
 
 /// A column, with or without the name of its source, or a constant.
 #[tactic(auto, unfolding(crate::specs::Reader::side_at))]
-pub fn side(alloc: Global, words: &[Lexeme]) -> Result<(Side, &[Lexeme]), Failure<Syntax>>
-    ensures { Sees (λ x. (x.0, terminals x.1.now)) result (side_at (terminals words.now)) }
+pub fn side(alloc: Global, words: &[Terminal]) -> Result<(Side, &[Terminal]), Failure<Syntax>>
+    ensures { Sees (λ x. (x.0, x.1.now)) result (side_at words.now) }
 {
     if begins_with_name(words) {
         return column(alloc, words);

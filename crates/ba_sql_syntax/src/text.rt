@@ -6,9 +6,10 @@ ghost use Rattle.ba_sql_syntax.specs.Terminals.{terminals};
 ghost use Rattle.ba_sql_syntax.specs.Written.{HaveTrees, or_syntax, written_of};
 
 use crate::fault::SyntaxFault;
+use crate::front::{begins_with, past, skip, skip_sign};
 use crate::scan::scan;
 use crate::select::select;
-use crate::word::{Key, begins_with, past, skip, skip_sign};
+use crate::word::{Key, Terminal, terminals};
 use crate::written::{QueryText, Select};
 use ba_grammar::Syntax;
 use ba_lex::{Lexeme, Sign};
@@ -20,9 +21,9 @@ use std::alloc::Global;
 fn one_more(
     alloc: Global,
     mut found: List<Select>,
-    words: &[Lexeme],
-) -> Result<(List<Select>, &[Lexeme]), Failure<Syntax>>
-    ensures { Sees (λ x. (x.0, terminals x.1.now)) result (union_step (found, terminals words.now)) }
+    words: &[Terminal],
+) -> Result<(List<Select>, &[Terminal]), Failure<Syntax>>
+    ensures { Sees (λ x. (x.0, x.1.now)) result (union_step (found, words.now)) }
 {
     let rest = past(words, Key::Union)?;
     let (next, rest) = select(alloc, skip(rest, Key::Distinct))?;
@@ -32,8 +33,11 @@ fn one_more(
 
 /// Selects with UNION between them.
 #[tactic(auto, unfolding(crate::specs::Reader::selects_at))]
-fn selects(alloc: Global, words: &[Lexeme]) -> Result<(List<Select>, &[Lexeme]), Failure<Syntax>>
-    ensures { Sees (λ x. (x.0, terminals x.1.now)) result (selects_at (terminals words.now)) }
+fn selects(
+    alloc: Global,
+    words: &[Terminal],
+) -> Result<(List<Select>, &[Terminal]), Failure<Syntax>>
+    ensures { Sees (λ x. (x.0, x.1.now)) result (selects_at words.now) }
 {
     let (first, behind) = select(alloc, words)?;
     let mut found = List::new(alloc);
@@ -51,8 +55,8 @@ fn selects(alloc: Global, words: &[Lexeme]) -> Result<(List<Select>, &[Lexeme]),
 }
 
 #[tactic(auto, unfolding(crate::specs::Reader::text_of))]
-fn text(alloc: Global, words: &[Lexeme]) -> Result<QueryText, Failure<Syntax>>
-    ensures { Gives result (text_of (terminals words.now)) }
+fn text(alloc: Global, words: &[Terminal]) -> Result<QueryText, Failure<Syntax>>
+    ensures { Gives result (text_of words.now) }
 {
     let (selects, rest) = selects(alloc, words)?;
     if !skip_sign(rest, Sign::Semicolon).is_empty() {
@@ -64,7 +68,8 @@ fn text(alloc: Global, words: &[Lexeme]) -> Result<QueryText, Failure<Syntax>>
 fn written(alloc: Global, words: &[Lexeme]) -> Result<QueryText, Failure<SyntaxFault>>
     ensures { Gives result (or_syntax (text_of (terminals words.now))) }
 {
-    text(alloc, words).map_err(Failure::widen)
+    let words = terminals(alloc, words)?;
+    text(alloc, words.as_slice()).map_err(Failure::widen)
 }
 
 #[tactic(auto, unfolding(crate::specs::Written::written_of))]
@@ -80,10 +85,12 @@ fn scanned(alloc: Global, words: &[Lexeme]) -> Result<QueryText, Failure<SyntaxF
 
 /// The written form of a query from its words.
 ///
-/// First the words are scanned from the left: the first that isn't supported is told as `Unsupported`, a word in upper case and a sign
-/// as itself. These are the words ALL NOT NULL IS LIKE BETWEEN EXISTS GROUP HAVING ORDER LIMIT OFFSET LEFT RIGHT FULL OUTER NATURAL
-/// USING CASE WITH INSERT UPDATE DELETE INTERSECT EXCEPT in any case, the signs `+`, `-`, `/` and `%`, a SELECT directly behind `(`,
-/// and a word that isn't reserved directly before `(`. Then all words together must spell a query of the grammar, else they are `Syntax`:
+/// First the words are scanned from the left: the first that isn't supported is told as
+/// `Unsupported`, a word in upper case and a sign as itself. These are the words ALL NOT NULL IS
+/// LIKE BETWEEN EXISTS GROUP HAVING ORDER LIMIT OFFSET LEFT RIGHT FULL OUTER NATURAL USING CASE WITH
+/// INSERT UPDATE DELETE INTERSECT EXCEPT in any case, the signs `+`, `-`, `/` and `%`, a SELECT
+/// directly behind `(`, and a word that isn't reserved directly before `(`. Then all words together
+/// must spell a query of the grammar, else they are `Syntax`:
 ///
 /// ```text
 /// query  = select { UNION [DISTINCT] select } [";"]
@@ -98,8 +105,9 @@ fn scanned(alloc: Global, words: &[Lexeme]) -> Result<QueryText, Failure<SyntaxF
 /// cmp    = "=" | "<>" | "!=" | "<" | "<=" | ">" | ">="
 /// ```
 ///
-/// This is a part of the queries of the SQL standard. TRUE is 1 and FALSE is 0, `a > b` is read as `b < a`, `a >= b` as `b <= a`, and
-/// `!=` as `<>`. A name is a word that isn't reserved, or a quoted name. Names of heads are dropped. `NoMemory` leaves nothing behind.
+/// This is a part of the queries of the SQL standard. TRUE is 1 and FALSE is 0, `a > b` is read as
+/// `b < a`, `a >= b` as `b <= a`, and `!=` as `<>`. A name is a word that isn't reserved, or a quoted
+/// name. Names of heads are dropped. `NoMemory` leaves nothing behind.
 pub fn read_written(alloc: Global, words: &[Lexeme]) -> Result<QueryText, Failure<SyntaxFault>>
     ensures exact { Gives result (written_of words.now) }
     // Each select's condition is empty, or a tree in postfix order.

@@ -1,14 +1,12 @@
-//! One word at the front.
-ghost use Rattle.std.specs.Prelude.{◌≡◌};
-ghost use Rattle.ba_model.specs.Readings.{Sees};
-ghost use Rattle.ba_sql_syntax.specs.Reader.{begins, constant_at, constant_of, is_name, name_at, name_of, past, skip};
-ghost use Rattle.ba_sql_syntax.specs.Terminals.{has_meaning, is_key, is_sign, is_unsupported, key_text, terminal, terminals, word_terminal};
+//! The terminals of the grammar, and which of them each word is.
+ghost use Rattle.std.specs.Prelude.{◌≡◌, IfOk, pos};
+ghost use Rattle.ba_sql_syntax.specs.Terminals.{first_key, has_meaning, is_unsupported, key_text, keys, terminal, terminals, truth, word_terminal};
 
 use crate::written::Constant;
-use ba_grammar::{Syntax, is_among};
+use ba_grammar::is_among;
 use ba_lex::{Lexeme, Sign, is_word};
-use ba_model::{Duplicate, Failure, Str, Value};
-use std::alloc::Global;
+use ba_model::{Duplicate, List, Str, Value};
+use std::alloc::{AllocError, Global};
 
 /// The words that mean something where they stand.
 const MEANINGS: [&str; 15] = [
@@ -46,7 +44,7 @@ const UNSUPPORTED: [&str; 25] = [
 ];
 
 /// A keyword.
-#[derive(Clone, Copy, Debug, PartialEq, Eq)]
+#[derive(Clone, Copy)]
 pub enum Key {
     Select,
     Distinct,
@@ -85,6 +83,34 @@ impl Key {
     }
 }
 
+/// All keywords.
+const KEYS: [Key; 13] = [
+    Key::Select,
+    Key::Distinct,
+    Key::From,
+    Key::Where,
+    Key::Join,
+    Key::Inner,
+    Key::Cross,
+    Key::On,
+    Key::As,
+    Key::And,
+    Key::Or,
+    Key::Union,
+    Key::In,
+];
+
+/// What a word is to the grammar.
+#[derive(Drop)]
+pub enum Terminal {
+    Key(Key),
+    Name(Str),
+    Constant(Constant),
+    Sign(Sign),
+    /// A word that isn't supported.
+    Unsupported,
+}
+
 /// Whether the word is reserved, but not supported.
 #[tactic(auto, unfolding(crate::specs::Terminals::is_unsupported))]
 pub fn is_unsupported(word: &Str) -> bool
@@ -101,161 +127,72 @@ pub fn has_meaning(word: &Str) -> bool
     is_among(word, &MEANINGS)
 }
 
-#[tactic(auto, using(crate::proofs::TerminalLemmas::key_same))]
-fn is_key(word: &Lexeme, key: Key) -> bool
-    ensures { result ≡ is_key key (terminal word.now) }
+fn key_among(word: &Str, keys: &[Key]) -> Option<Key>
+    ensures { result ≡ first_key keys.now word.now }
 {
-    match word {
-        Lexeme::Word(found) => is_word(found, key.text()),
-        _ => false,
-    }
-}
-
-#[tactic(auto, using(crate::proofs::TerminalLemmas::no_sign))]
-pub fn is_sign(word: &Lexeme, sign: Sign) -> bool
-    ensures { result ≡ is_sign sign (terminal word.now) }
-{
-    match word {
-        Lexeme::Sign(found) => *found as u8 == sign as u8,
-        _ => false,
-    }
-}
-
-#[tactic(auto, using(crate::proofs::TerminalLemmas::name_same))]
-fn is_name(word: &Lexeme) -> bool
-    ensures { result ≡ is_name (terminal word.now) }
-{
-    match word {
-        Lexeme::Word(found) => !has_meaning(found) && !is_unsupported(found),
-        Lexeme::Quoted(_) => true,
-        _ => false,
-    }
-}
-
-pub fn begins_with(words: &[Lexeme], key: Key) -> bool
-    ensures { result ≡ begins (is_key key) (terminals words.now) }
-{
-    match words {
-        [] => false,
-        [first, ..] => is_key(first, key),
-    }
-}
-
-pub fn begins_with_sign(words: &[Lexeme], sign: Sign) -> bool
-    ensures { result ≡ begins (is_sign sign) (terminals words.now) }
-{
-    match words {
-        [] => false,
-        [first, ..] => is_sign(first, sign),
-    }
-}
-
-pub fn begins_with_name(words: &[Lexeme]) -> bool
-    ensures { result ≡ begins is_name (terminals words.now) }
-{
-    match words {
-        [] => false,
-        [first, ..] => is_name(first),
-    }
-}
-
-/// The words behind a keyword.
-pub fn past(words: &[Lexeme], key: Key) -> Result<&[Lexeme], Failure<Syntax>>
-    ensures { Sees (λ rest. terminals rest.now) result (past (is_key key) (terminals words.now)) }
-{
-    match words {
-        [first, rest @ ..] if is_key(first, key) => Ok(rest),
-        _ => Err(Failure::Fault(Syntax)),
-    }
-}
-
-/// The words behind a sign.
-pub fn past_sign(words: &[Lexeme], sign: Sign) -> Result<&[Lexeme], Failure<Syntax>>
-    ensures { Sees (λ rest. terminals rest.now) result (past (is_sign sign) (terminals words.now)) }
-{
-    match words {
-        [first, rest @ ..] if is_sign(first, sign) => Ok(rest),
-        _ => Err(Failure::Fault(Syntax)),
-    }
-}
-
-/// The words without a keyword at the front.
-pub fn skip(words: &[Lexeme], key: Key) -> &[Lexeme]
-    ensures { terminals result.now ≡ skip (is_key key) (terminals words.now) }
-{
-    match words {
-        [first, rest @ ..] if is_key(first, key) => rest,
-        _ => words,
-    }
-}
-
-/// The words without a sign at the front.
-pub fn skip_sign(words: &[Lexeme], sign: Sign) -> &[Lexeme]
-    ensures { terminals result.now ≡ skip (is_sign sign) (terminals words.now) }
-{
-    match words {
-        [first, rest @ ..] if is_sign(first, sign) => rest,
-        _ => words,
-    }
-}
-
-#[tactic(auto, using(crate::proofs::TerminalLemmas::name_of_word))]
-fn name_of<'a>(
-    alloc: Global,
-    word: &Lexeme,
-    rest: &'a [Lexeme],
-) -> Result<(Str, &'a [Lexeme]), Failure<Syntax>>
-    ensures { Sees (λ x. (x.0, terminals x.1.now)) result (name_of (terminal word.now) (terminals rest.now)) }
-{
-    match word {
-        Lexeme::Word(found) => {
-            if has_meaning(found) || is_unsupported(found) {
-                return Err(Failure::Fault(Syntax));
-            }
-            Ok((found.copy(alloc)?, rest))
+    for key in keys {
+        if is_word(word, key.text()) {
+            return Some(*key);
         }
-        Lexeme::Quoted(found) => Ok((found.copy(alloc)?, rest)),
-        _ => Err(Failure::Fault(Syntax)),
     }
+    None
 }
 
-/// A name: a word that isn't reserved, or a quoted name.
-#[tactic(auto, unfolding(crate::specs::Reader::name_at))]
-pub fn name(alloc: Global, words: &[Lexeme]) -> Result<(Str, &[Lexeme]), Failure<Syntax>>
-    ensures { Sees (λ x. (x.0, terminals x.1.now)) result (name_at (terminals words.now)) }
+/// The keyword that the word is, in any case.
+fn key_of(word: &Str) -> Option<Key>
+    ensures { result ≡ first_key keys word.now }
 {
-    match words {
-        [first, rest @ ..] => name_of(alloc, first, rest),
-        [] => Err(Failure::Fault(Syntax)),
-    }
+    key_among(word, &KEYS)
 }
 
-#[tactic(auto, using(crate::proofs::TerminalLemmas::constant_word))]
-fn truth<'a>(word: &Str, rest: &'a [Lexeme]) -> Result<(Constant, &'a [Lexeme]), Failure<Syntax>>
-    ensures { Sees (λ x. (x.0, terminals x.1.now)) result (constant_of (word_terminal word.now) (terminals rest.now)) }
+fn truth(n: i64) -> Terminal
+    ensures { result ≡ truth n }
+{
+    Terminal::Constant(Constant::Value(Value::Int(n)))
+}
+
+#[tactic(auto, using(crate::proofs::TerminalLemmas::word_means))]
+fn word_terminal(alloc: Global, word: &Str) -> Result<Terminal, AllocError>
+    ensures { IfOk result (λ found. found ≡ word_terminal word.now) }
 {
     if is_word(word, "TRUE") {
-        return Ok((Constant::Value(Value::Int(1)), rest));
+        return Ok(truth(1));
     }
     if is_word(word, "FALSE") {
-        return Ok((Constant::Value(Value::Int(0)), rest));
+        return Ok(truth(0));
     }
-    Err(Failure::Fault(Syntax))
+    if let Some(key) = key_of(word) {
+        return Ok(Terminal::Key(key));
+    }
+    if is_unsupported(word) {
+        return Ok(Terminal::Unsupported);
+    }
+    Ok(Terminal::Name(word.copy(alloc)?))
 }
 
-/// A number, a text, a parameter, TRUE or FALSE.
-#[tactic(auto, unfolding(crate::specs::Reader::constant_at))]
-pub fn constant(alloc: Global, words: &[Lexeme]) -> Result<(Constant, &[Lexeme]), Failure<Syntax>>
-    ensures { Sees (λ x. (x.0, terminals x.1.now)) result (constant_at (terminals words.now)) }
+fn terminal_of(alloc: Global, word: &Lexeme) -> Result<Terminal, AllocError>
+    ensures { IfOk result (λ found. found ≡ terminal word.now) }
 {
-    match words {
-        [Lexeme::Number(n), rest @ ..] => Ok((Constant::Value(Value::Int(*n)), rest)),
-        [Lexeme::Text(text), rest @ ..] => Ok((
-            Constant::Value(Value::Text(text.copy(alloc)?)),
-            rest,
-        )),
-        [Lexeme::Param(name), rest @ ..] => Ok((Constant::Param(name.copy(alloc)?), rest)),
-        [Lexeme::Word(word), rest @ ..] => truth(word, rest),
-        _ => Err(Failure::Fault(Syntax)),
+    match word {
+        Lexeme::Word(word) => word_terminal(alloc, word),
+        Lexeme::Quoted(name) => Ok(Terminal::Name(name.copy(alloc)?)),
+        Lexeme::Number(n) => Ok(truth(*n)),
+        Lexeme::Text(text) => {
+            let value = Value::Text(text.copy(alloc)?);
+            Ok(Terminal::Constant(Constant::Value(value)))
+        }
+        Lexeme::Param(name) => Ok(Terminal::Constant(Constant::Param(name.copy(alloc)?))),
+        Lexeme::Sign(sign) => Ok(Terminal::Sign(*sign)),
     }
+}
+
+/// The terminals that the words are, in order.
+pub fn terminals(alloc: Global, words: &[Lexeme]) -> Result<List<Terminal>, AllocError>
+    ensures { IfOk result (λ found. found ≡ terminals words.now) }
+{
+    let mut found = List::new(alloc);
+    for word in words {
+        found.push(terminal_of(alloc, word)?)?;
+    }
+    Ok(found)
 }

@@ -1,6 +1,7 @@
 //! A query as it is written, before its names mean anything.
 
-use ba_model::{List, Op, Str, Value};
+use ba_model::{Duplicate, List, Op, Str, Value};
+use std::alloc::{AllocError, Global};
 
 /// A column's name, and the name of a source before it.
 #[derive(Debug, Drop)]
@@ -14,6 +15,15 @@ pub struct Named {
 pub enum Constant {
     Value(Value),
     Param(Str),
+}
+
+impl Duplicate for Constant {
+    fn copy(&self, alloc: Global) -> Result<Constant, AllocError> {
+        match self {
+            Constant::Value(value) => Ok(Constant::Value(value.copy(alloc)?)),
+            Constant::Param(name) => Ok(Constant::Param(name.copy(alloc)?)),
+        }
+    }
 }
 
 /// What is compared or put out.
@@ -62,7 +72,8 @@ pub enum Node {
     Or,
 }
 
-/// One SELECT. Its condition is those behind ON in order and then that behind WHERE, joined by AND; empty if there is none.
+/// One SELECT. Its condition is those behind ON in order and then that behind WHERE, joined by AND;
+/// empty if there is none.
 #[derive(Debug, Drop)]
 pub struct Select {
     pub heads: Heads,
