@@ -40,7 +40,7 @@ use Rattle.ba_sql_query.proofs.LackLemmas.{selects_agree}
 use Rattle.ba_sql_query.proofs.NameLemmas.{each_zip, select_complete, select_sound, zip_each}
 use Rattle.ba_sql_query.proofs.ReadLemmas.{ok_same}
 use Rattle.ba_sql_query.proofs.ReadingLemmas.{all_parts, empty_not, heads_complete, heads_sound, joined_map, joined_parts, kinds_lacks, not_empty, orders_lacks}
-use Rattle.ba_sql_query.proofs.ResolvedLemmas.{and_both}
+use Rattle.ba_sql_query.proofs.ResolvedLemmas.{and_both, selects_good}
 
 true_false : true ≡ false → ⊥
 true_false e = cc
@@ -255,8 +255,8 @@ module _ (schema : Schema) (params : List Parameter) (text : List ℕ) where
     orders_lack : orders_numbers schema params ss ≡ true → DraftLacks drafts.OrderOnText schema params text
     orders_lack e = record { selects = ss; resolves = resolves; lacks = orders_lacks schema params ss ∙ e }
 
-    heads_lack : heads_agree schema params ss ≡ true → not (faults.is_empty (parts_of ss)) ≡ true → HeadsLack schema params text
-    heads_lack e f = record { selects = ss; parts = parts_of ss; has = has_parts; heads = heads_sound schema params ss e; some = not_empty schema params (parts_of ss) f }
+    heads_lack : kinds_agree schema params ss ≡ true → heads_agree schema params ss ≡ true → not (faults.is_empty (parts_of ss)) ≡ true → HeadsLack schema params text
+    heads_lack n e f = record { selects = ss; parts = parts_of ss; has = has_parts; heads = heads_sound schema params ss (selects_good schema params t.selects ss found.selects) n e; some = not_empty schema params (parts_of ss) f }
 
     -- up to the faults of names
     from : (k : ℕ) → k ≤ 10 → (7 < k → DraftLacks drafts.KindDiffers schema params text) → (8 < k → DraftLacks drafts.OrderOnText schema params text) → (9 < k → HeadsLack schema params text) → Ladder k
@@ -322,7 +322,7 @@ module _ (schema : Schema) (params : List Parameter) (text : List ℕ) where
         at true true false d m p q r s u = told HeadDiffers (rw (p, q, r) at e) (no_heads false d p q (rw r refl))
         at true true true false m p q r s u = told HeadDiffers (rw (p, q, r, s) at e) (no_heads true false p q (rw (r, s) refl))
         at true true true true false p q r s u =
-            told TooMany (rw (p, q, r, s, u) at e) (record { has = counts_differ u; first = first_of 10 (from 10 (omega arith) (λ h. kinds_lack p) (λ h. orders_lack q) (λ h. heads_lack r s)) })
+            told TooMany (rw (p, q, r, s, u) at e) (record { has = counts_differ u; first = first_of 10 (from 10 (omega arith) (λ h. kinds_lack p) (λ h. orders_lack q) (λ h. heads_lack p r s)) })
         at true true true true true p q r s u = let h = rw (p, q, r, s, u) at e in cc
 
   -- ---- all stages

@@ -1,13 +1,11 @@
 -- What holds of all atoms as written holds of those of each part, so that the parts have no fault that the selects haven't.
-use Rattle.std.proofs.Common.{◌≡◌, ℕ, ◌==◌, Bool, true, false, not, ◌&&◌, List, [], ◌∷◌, ◌++◌, length, map, Option, Some, None, refl, sym, subst, ◌∙◌, arith}
-use Rattle.std.specs.List.{flat_map, list_all, zip}
-use Rattle.std.proofs.lemmas.Bool.{eqb-true}
-use Rattle.std.proofs.lemmas.Bool.Decides.{nat_tests}
+use Rattle.std.proofs.Common.{◌≡◌, ℕ, Bool, true, false, not, ◌&&◌, List, [], ◌∷◌, ◌++◌, map, Option, Some, None, refl, sym, subst, ◌∙◌}
+use Rattle.std.specs.List.{flat_map, list_all}
 use Rattle.std.proofs.lemmas.List.Folds.{list_all-append}
-use Rattle.ba_model.specs.Fit.{kind_of, kinds_of}
+use Rattle.ba_model.proofs.QueryLemmas.{part_kinds, query_from_no_fault}
+use Rattle.ba_model.specs.Fit.{IsQuery, kind_of, kinds_of}
 use Rattle.ba_model.specs.QueryFaults as faults
-use Rattle.ba_model.specs.QueryFaults.{HasNoFault, IsFirstFault}
-use Rattle.ba_model.specs.declared.check_query.QueryFault.{QueryFault}
+use Rattle.ba_model.specs.QueryFaults.{HasNoFault}
 use Rattle.ba_model.specs.declared.check_query.QueryFault.TheVariants as kinds_of_fault
 use Rattle.ba_model.specs.declared.policy.Parameter.{Parameter}
 use Rattle.ba_model.specs.declared.query.Atom.{Atom}
@@ -16,7 +14,7 @@ use Rattle.ba_model.specs.declared.query.Part.{Part}
 use Rattle.ba_model.specs.declared.schema.Kind.{Kind}
 use Rattle.ba_model.specs.declared.schema.Kind.TheVariants.{Int as IntKind, Text as TextKind}
 use Rattle.ba_model.specs.declared.schema.Schema.{Schema}
-use Rattle.ba_sql_query.specs.Meaning.{atom_kinds, fault_of, heads_agree, kinds_agree, orders_numbers, same_heads, same_kind}
+use Rattle.ba_sql_query.specs.Meaning.{atom_kinds, fault_of, heads_agree, kind_in, kinds_agree, orders_numbers, query_of_parts}
 use Rattle.ba_sql_query.specs.Parts.{after, alternatives, both_top, equation, join_top, members, node_atoms, part_of, parts_of, product, run, select_parts, test_atoms, top_of, written_part}
 use Rattle.ba_sql_query.specs.Resolved.{AreResolved}
 use Rattle.ba_sql_query.specs.declared.resolved.ResolvedNode.{ResolvedNode}
@@ -144,92 +142,97 @@ module _ (schema : Schema) (params : List Parameter) where
 
   -- ---- heads
 
-  kind_same : (a b : Option Kind) → same_kind a b ≡ true → a ≡ b
-  kind_same None None e = refl
-  kind_same None (Some k) e = cc
-  kind_same (Some IntKind) None e = cc
-  kind_same (Some IntKind) (Some IntKind) e = refl
-  kind_same (Some IntKind) (Some TextKind) e = cc
-  kind_same (Some TextKind) None e = cc
-  kind_same (Some TextKind) (Some IntKind) e = cc
-  kind_same (Some TextKind) (Some TextKind) e = refl
+  -- a select whose head's kinds are known
+  abbrev pub Known : ResolvedSelect → Type 0
+  Known s = (ks : List Kind) × (map (kind_in schema params s) s.head ≡ map Some ks)
 
-  agree_itself : (a : Option Kind) → faults.agree a a ≡ true
+  pub known : (s : ResolvedSelect) → faults.columns_there schema (written_part s) ≡ true → faults.kinds_agree schema (kinds_of params) [] (written_part s) ≡ true → faults.all_named (kinds_of params) [] (written_part s) ≡ true → Known s
+  known s c n m = part_kinds schema (kinds_of params) [] (written_part s) c n m
+
+  pub agree_itself : (a : Option Kind) → faults.agree a a ≡ true
   agree_itself None = refl
   agree_itself (Some IntKind) = refl
   agree_itself (Some TextKind) = refl
+
+  agree_through : (k : Kind) (a b : Option Kind) → faults.agree (Some k) a ≡ true → faults.agree (Some k) b ≡ true → faults.agree a b ≡ true
+  agree_through k None b e f = refl
+  agree_through IntKind (Some IntKind) None e f = refl
+  agree_through IntKind (Some IntKind) (Some IntKind) e f = refl
+  agree_through IntKind (Some IntKind) (Some TextKind) e f = cc
+  agree_through IntKind (Some TextKind) b e f = cc
+  agree_through TextKind (Some TextKind) None e f = refl
+  agree_through TextKind (Some TextKind) (Some TextKind) e f = refl
+  agree_through TextKind (Some TextKind) (Some IntKind) e f = cc
+  agree_through TextKind (Some IntKind) b e f = cc
 
   abbrev kind_over : List ℕ → Operand → Option Kind
   kind_over from x = kind_of schema (kinds_of params) [] from x
 
   abbrev alike : List ℕ → List ℕ → List Operand → List Operand → Bool
-  alike from others xs ys = list_all (λ x. same_kind (kind_over from x.0) (kind_over others x.1)) (zip xs ys)
+  alike from others xs ys = faults.heads_match schema (kinds_of params) [] from xs others ys
 
-  heads_of_one : (from others more : List ℕ) (xs ys zs : List Operand) → length xs ≡ length ys → length xs ≡ length zs → alike from others xs ys ≡ true → alike from more xs zs ≡ true
-      → faults.heads_match schema (kinds_of params) [] others ys more zs ≡ true
-  heads_of_one from others more [] [] [] e f g h = refl
-  heads_of_one from others more [] [] (z ∷ zs) e f g h = absurd (omega (arith, f))
-  heads_of_one from others more [] (y ∷ ys) zs e f g h = absurd (omega (arith, e))
-  heads_of_one from others more (x ∷ xs) [] zs e f g h = absurd (omega (arith, e))
-  heads_of_one from others more (x ∷ xs) (y ∷ ys) [] e f g h = absurd (omega (arith, f))
-  heads_of_one from others more (x ∷ xs) (y ∷ ys) (z ∷ zs) e f g h =
-      let p = kind_same (kind_over from x) (kind_over others y) (and_left (same_kind (kind_over from x) (kind_over others y)) (alike from others xs ys) g) in
-      let q = kind_same (kind_over from x) (kind_over more z) (and_left (same_kind (kind_over from x) (kind_over more z)) (alike from more xs zs) h) in
-      and_both (faults.agree (kind_over others y) (kind_over more z)) (faults.heads_match schema (kinds_of params) [] others ys more zs)
-      (subst (λ (k : Option Kind). faults.agree (kind_over others y) k ≡ true) (sym p ∙ q) (agree_itself (kind_over others y)))
-      (heads_of_one from others more xs ys zs (omega (arith, e)) (omega (arith, f)) (and_right (same_kind (kind_over from x) (kind_over others y)) (alike from others xs ys) g) (and_right (same_kind (kind_over from x) (kind_over more z)) (alike from more xs zs) h))
-
-  same_itself : (a : Option Kind) → same_kind a a ≡ true
-  same_itself None = refl
-  same_itself (Some IntKind) = refl
-  same_itself (Some TextKind) = refl
+  -- two heads that are like one whose kinds are known are like each other
+  alike_through : (from others more : List ℕ) (xs ys zs : List Operand) (ks : List Kind) → map (kind_over from) xs ≡ map Some ks → alike from others xs ys ≡ true → alike from more xs zs ≡ true → alike others more ys zs ≡ true
+  alike_through from others more [] [] [] ks k e f = refl
+  alike_through from others more [] [] (z ∷ zs) ks k e f = cc
+  alike_through from others more [] (y ∷ ys) zs ks k e f = cc
+  alike_through from others more (x ∷ xs) [] zs ks k e f = cc
+  alike_through from others more (x ∷ xs) (y ∷ ys) [] ks k e f = cc
+  alike_through from others more (x ∷ xs) (y ∷ ys) (z ∷ zs) [] k e f = cc
+  alike_through from others more (x ∷ xs) (y ∷ ys) (z ∷ zs) (l ∷ ks) k e f =
+      let here : kind_over from x ≡ Some l = cc in
+      let rest : map (kind_over from) xs ≡ map Some ks = cc in
+      let y_like = subst (λ (o : Option Kind). faults.agree o (kind_over others y) ≡ true) here (and_left (faults.agree (kind_over from x) (kind_over others y)) (alike from others xs ys) e) in
+      let z_like = subst (λ (o : Option Kind). faults.agree o (kind_over more z) ≡ true) here (and_left (faults.agree (kind_over from x) (kind_over more z)) (alike from more xs zs) f) in
+      and_both (faults.agree (kind_over others y) (kind_over more z)) (alike others more ys zs) (agree_through l (kind_over others y) (kind_over more z) y_like z_like)
+      (alike_through from others more xs ys zs ks rest (and_right (faults.agree (kind_over from x) (kind_over others y)) (alike from others xs ys) e) (and_right (faults.agree (kind_over from x) (kind_over more z)) (alike from more xs zs) f))
 
   alike_itself : (from : List ℕ) (xs : List Operand) → alike from from xs xs ≡ true
   alike_itself from [] = refl
-  alike_itself from (x ∷ xs) = and_both (same_kind (kind_over from x) (kind_over from x)) (alike from from xs xs) (same_itself (kind_over from x)) (alike_itself from xs)
+  alike_itself from (x ∷ xs) = and_both (faults.agree (kind_over from x) (kind_over from x)) (alike from from xs xs) (agree_itself (kind_over from x)) (alike_itself from xs)
 
   -- like the first select's head
   abbrev like : ResolvedSelect → Part → Bool
-  like s part = (length s.head == length part.head) && alike s.from part.from s.head part.head
+  like s part = faults.parts_match schema (kinds_of params) [] (written_part s) part
 
-  like_both : (s : ResolvedSelect) (p q : Part) → like s p ≡ true → like s q ≡ true → faults.parts_match schema (kinds_of params) [] p q ≡ true
-  like_both s p q e f =
-      heads_of_one s.from p.from q.from s.head p.head q.head
-      (eqb-true (length s.head) (length p.head) (and_left (length s.head == length p.head) (alike s.from p.from s.head p.head) e))
-      (eqb-true (length s.head) (length q.head) (and_left (length s.head == length q.head) (alike s.from q.from s.head q.head) f))
-      (and_right (length s.head == length p.head) (alike s.from p.from s.head p.head) e)
-      (and_right (length s.head == length q.head) (alike s.from q.from s.head q.head) f)
+  like_both : (s : ResolvedSelect) → Known s → (p q : Part) → like s p ≡ true → like s q ≡ true → faults.parts_match schema (kinds_of params) [] p q ≡ true
+  like_both s k p q e f = alike_through s.from p.from q.from s.head p.head q.head k.0 k.1 e f
 
   has_head : (s : ResolvedSelect) (p : Part) → not (faults.is_empty s.head) ≡ true → like s p ≡ true → faults.has_head p ≡ true
-  has_head s p h e = some s.head p.head (eqb-true (length s.head) (length p.head) (and_left (length s.head == length p.head) (alike s.from p.from s.head p.head) e)) h
+  has_head s p h e = some s.head p.head h e
     where
-      some : (xs ys : List Operand) → length xs ≡ length ys → not (faults.is_empty xs) ≡ true → not (faults.is_empty ys) ≡ true
-      some [] ys e h = cc
-      some (x ∷ xs) [] e h = absurd (omega (arith, e))
-      some (x ∷ xs) (y ∷ ys) e h = refl
+      some : (xs ys : List Operand) → not (faults.is_empty xs) ≡ true → alike s.from p.from xs ys ≡ true → not (faults.is_empty ys) ≡ true
+      some [] ys h e = cc
+      some (x ∷ xs) [] h e = cc
+      some (x ∷ xs) (y ∷ ys) h e = refl
 
-  like_parts : (s : ResolvedSelect) (selects : List ResolvedSelect) → list_all (same_heads schema params s) selects ≡ true → list_all (like s) (parts_of selects) ≡ true
+  like_parts : (s : ResolvedSelect) (selects : List ResolvedSelect) → list_all (λ t. like s (written_part t)) selects ≡ true → list_all (like s) (parts_of selects) ≡ true
   unfolding select_parts
-  like_parts s selects e = parts_pass (like s) (same_heads schema params s) one selects e
+  like_parts s selects e = parts_pass (like s) (λ t. like s (written_part t)) one selects e
     where
-      one : (t : ResolvedSelect) → same_heads schema params s t ≡ true → list_all (like s) (select_parts t) ≡ true
+      one : (t : ResolvedSelect) → like s (written_part t) ≡ true → list_all (like s) (select_parts t) ≡ true
       one t h = all_map (like s) (part_of t) (members t.condition) ∙ all_true (λ m. like s (part_of t m)) (members t.condition) (λ m. h)
 
-  equal_length : (n : ℕ) → (n == n) ≡ true
-  equal_length n = grind (arith, nat_tests)
+  -- the first of selects without faults of names and kinds
+  pub first_known : (s : ResolvedSelect) (ss : List ResolvedSelect) → AreResolved schema params (s ∷ ss) → kinds_agree schema params (s ∷ ss) ≡ true → Known s
+  first_known s ss r n =
+      known s (and_left (faults.columns_there schema (written_part s)) (list_all (λ t. faults.columns_there schema (written_part t)) ss) r.columns)
+      (and_left (faults.kinds_agree schema (kinds_of params) [] (written_part s)) (kinds_agree schema params ss) n)
+      (and_left (faults.all_named (kinds_of params) [] (written_part s)) (list_all (λ t. faults.all_named (kinds_of params) [] (written_part t)) ss) r.named)
 
-  heads_pass : (selects : List ResolvedSelect) → heads_agree schema params selects ≡ true → not (faults.is_empty (parts_of selects)) ≡ true → faults.heads_agree schema (kinds_of params) [] (parts_of selects) ≡ true
-  heads_pass [] e h = cc
-  heads_pass (s ∷ ss) e h =
-      let some = and_left (not (faults.is_empty s.head)) (list_all (same_heads schema params s) ss) e in
-      let others = and_right (not (faults.is_empty s.head)) (list_all (same_heads schema params s) ss) e in
-      let itself = and_both (length s.head == length s.head) (alike s.from s.from s.head s.head) (equal_length (length s.head)) (alike_itself s.from s.head) in
-      let all = like_parts s (s ∷ ss) (and_both (same_heads schema params s s) (list_all (same_heads schema params s) ss) itself others) in
+  heads_pass : (selects : List ResolvedSelect) → AreResolved schema params selects → kinds_agree schema params selects ≡ true → heads_agree schema params selects ≡ true → not (faults.is_empty (parts_of selects)) ≡ true
+      → faults.heads_agree schema (kinds_of params) [] (parts_of selects) ≡ true
+  heads_pass [] r n e h = cc
+  heads_pass (s ∷ ss) r n e h =
+      let some = and_left (not (faults.is_empty s.head)) (list_all (λ t. like s (written_part t)) ss) e in
+      let others = and_right (not (faults.is_empty s.head)) (list_all (λ t. like s (written_part t)) ss) e in
+      let k = first_known s ss r n in
+      let all = like_parts s (s ∷ ss) (and_both (like s (written_part s)) (list_all (λ t. like s (written_part t)) ss) (alike_itself s.from s.head) others) in
       let parts = parts_of (s ∷ ss) in
       and_both (not (faults.is_empty parts)) (list_all faults.has_head parts && list_all (λ p. list_all (faults.parts_match schema (kinds_of params) [] p) parts) parts) h
       (and_both (list_all faults.has_head parts) (list_all (λ p. list_all (faults.parts_match schema (kinds_of params) [] p) parts) parts)
       (all_weaker (like s) faults.has_head (λ p. has_head s p some) parts all)
-      (all_weaker (like s) (λ p. list_all (faults.parts_match schema (kinds_of params) [] p) parts) (λ p k. all_weaker (like s) (faults.parts_match schema (kinds_of params) [] p) (λ q. like_both s p q k) parts all) parts all))
+      (all_weaker (like s) (λ p. list_all (faults.parts_match schema (kinds_of params) [] p) parts) (λ p l. all_weaker (like s) (faults.parts_match schema (kinds_of params) [] p) (λ q. like_both s k p q l) parts all) parts all))
 
   -- ---- all faults
 
@@ -245,7 +248,7 @@ module _ (schema : Schema) (params : List Parameter) where
   no_fault selects r h kinds_of_fault.BadColumn = columns_pass selects r.columns
   no_fault selects r h kinds_of_fault.KindDiffers = kinds_pass selects h.kinds
   no_fault selects r h kinds_of_fault.OrderOnText = orders_pass selects h.orders
-  no_fault selects r h kinds_of_fault.HeadDiffers = heads_pass selects h.heads h.some
+  no_fault selects r h kinds_of_fault.HeadDiffers = heads_pass selects r h.kinds h.heads h.some
   no_fault selects r h kinds_of_fault.UnknownParam = named_pass selects r.named
   no_fault selects r h kinds_of_fault.TooMany = h.within
 
@@ -263,5 +266,8 @@ module _ (schema : Schema) (params : List Parameter) where
       at true true true false f p q r s t = let g = rw (p, q, r, s) at e in cc
       at true true true true false p q r s t = let g = rw (p, q, r, s, t) at e in cc
 
-pub no_first : (schema : Schema) (kinds none : List Kind) (parts others : List Part) (f : QueryFault) → IsFirstFault f schema kinds none others → none ≡ [] → others ≡ parts → HasNoFault schema kinds [] parts → ⊥
-no_first schema kinds none parts others f first e g lacks = first.has (rw (e, g) (lacks f))
+-- the parts of selects without a fault are a query
+pub parts_fit : (schema : Schema) (params : List Parameter) (selects : List ResolvedSelect) (parts : List Part) → AreResolved schema params selects → fault_of schema params selects ≡ None → parts ≡ parts_of selects
+    → IsQuery schema (kinds_of params) [] (query_of_parts parts)
+parts_fit schema params selects parts r e are =
+    query_from_no_fault schema (kinds_of params) [] (query_of_parts parts) (rw are (no_fault schema params selects r (none_from schema params selects e)))

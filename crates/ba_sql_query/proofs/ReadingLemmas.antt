@@ -1,14 +1,12 @@
 -- A text by the function, and in SQL's terms.
-use Rattle.std.proofs.Common.{◌≡◌, ◌≢◌, ℕ, Bool, true, not, ◌==◌, List, [], ◌∷◌, ◌++◌, length, map, Option, Some, None, Result, Ok, Err, refl, sym, ap, ap₂, subst, ◌∙◌, arith}
+use Rattle.std.proofs.Common.{◌≡◌, ◌≢◌, ℕ, Bool, true, not, List, [], ◌∷◌, ◌++◌, map, Option, Some, None, Result, Ok, Err, refl, sym, ap, ap₂, subst, ◌∙◌}
 use Rattle.std.specs.Prelude.{IfOk}
-use Rattle.std.specs.List.{AllByRecursion, AllZip, flat_map, list_all, zip}
-use Rattle.std.proofs.lemmas.Bool.{eqb-true}
-use Rattle.std.proofs.lemmas.Bool.Decides.{nat_tests}
-use Rattle.std.proofs.lemmas.List.{length-map}
+use Rattle.std.specs.List.{AllByRecursion, AllZip, flat_map, list_all}
 use Rattle.std.proofs.lemmas.List.Elements.{All-from_recursion, recursion_from_All}
 use Rattle.ba_lex.specs.Tokens.{lexemes_of, tokens_of}
 use Rattle.ba_lex.specs.declared.token.Lexeme.{Lexeme}
-use Rattle.ba_model.specs.Fit.{kinds_of}
+use Rattle.ba_model.proofs.QueryLemmas.{kinds_match}
+use Rattle.ba_model.specs.Fit.{kind_of, kinds_of}
 use Rattle.ba_model.specs.QueryFaults as faults
 use Rattle.ba_model.specs.Readings.{Gives, widened}
 use Rattle.ba_model.specs.declared.failure.Failure.{Failure}
@@ -18,7 +16,6 @@ use Rattle.ba_model.specs.declared.query.Operand.{Operand}
 use Rattle.ba_model.specs.declared.query.Part.{Part}
 use Rattle.ba_model.specs.declared.query.Query.{Query}
 use Rattle.ba_model.specs.declared.schema.Kind.{Kind}
-use Rattle.ba_model.specs.declared.schema.Kind.TheVariants.{Int as IntKind, Text as TextKind}
 use Rattle.ba_model.specs.declared.schema.Schema.{Schema}
 use Rattle.ba_sql_syntax.specs.Grammar.{HasTree}
 use Rattle.ba_sql_syntax.specs.Written.{HaveTrees, written_of}
@@ -26,17 +23,18 @@ use Rattle.ba_sql_syntax.specs.declared.written.QueryText.{QueryText}
 use Rattle.ba_sql_syntax.specs.declared.written.Select.{Select}
 use Rattle.ba_sql_syntax.proofs.TextLemmas.{written_complete, written_sound, written_trees}
 use Rattle.ba_sql_query.specs.Errors.{lex_fault, syntax_fault}
-use Rattle.ba_sql_query.specs.Meaning.{fault_of, heads_agree, kind_in, kinds_agree, orders_numbers, query_of_parts, query_of_selects, query_of_written, same_heads, same_kind, unless}
+use Rattle.ba_sql_query.specs.Meaning.{fault_of, heads_agree, kind_in, kinds_agree, orders_numbers, query_of_parts, query_of_selects, query_of_written, unless}
 use Rattle.ba_sql_query.specs.Parts.{members, part_of, parts_of, select_parts, written_part}
 use Rattle.ba_sql_query.specs.Reads.{HasParts, HaveOneHead, IsQueryOf, IsSelectOf, ReadsQuery, ReadsWords}
 use Rattle.ba_sql_query.specs.Resolve.{first_of_names, names_of, or_first, select_of}
+use Rattle.ba_sql_query.specs.Resolved.{AreResolved}
 use Rattle.ba_sql_query.specs.Texts.{query_of, query_of_words}
 use Rattle.ba_sql_query.specs.declared.fault.ReadQueryFault.{ReadQueryFault}
 use Rattle.ba_sql_query.specs.declared.resolved.ResolvedSelect.{ResolvedSelect}
 use Rattle.ba_sql_query.proofs.NameLemmas.{each_zip, select_complete, select_sound, zip_each}
-use Rattle.ba_sql_query.proofs.PartsLemmas.{HasNone, none_from}
+use Rattle.ba_sql_query.proofs.PartsLemmas.{HasNone, Known, agree_itself, first_known, known, none_from}
 use Rattle.ba_sql_query.proofs.ReadLemmas.{bind_ok, err_ok, ok_same, widened_ok}
-use Rattle.ba_sql_query.proofs.ResolvedLemmas.{and_both, and_left, and_right, names_selects}
+use Rattle.ba_sql_query.proofs.ResolvedLemmas.{and_both, and_left, and_right, names_good, names_selects}
 use Rattle.ba_sql_query.proofs.TransferLemmas.{all_map}
 use Rattle.ba_sql_query.proofs.TreeLemmas.{form_members, form_of}
 
@@ -72,70 +70,41 @@ joined_parts (s ∷ ss) (p ∷ ps) z = ap₂ (λ (xs ys : List Part). xs ++ ys) 
 -- ---- heads
 
 module _ (schema : Schema) (params : List Parameter) where
-  kind_same : (a b : Option Kind) → same_kind a b ≡ true → a ≡ b
-  kind_same None None e = refl
-  kind_same None (Some k) e = cc
-  kind_same (Some IntKind) None e = cc
-  kind_same (Some IntKind) (Some IntKind) e = refl
-  kind_same (Some IntKind) (Some TextKind) e = cc
-  kind_same (Some TextKind) None e = cc
-  kind_same (Some TextKind) (Some IntKind) e = cc
-  kind_same (Some TextKind) (Some TextKind) e = refl
-
-  same_itself : (a : Option Kind) → same_kind a a ≡ true
-  same_itself None = refl
-  same_itself (Some IntKind) = refl
-  same_itself (Some TextKind) = refl
-
-  same_is : (a b : Option Kind) → a ≡ b → same_kind a b ≡ true
-  same_is a b e = subst (λ (k : Option Kind). same_kind a k ≡ true) e (same_itself a)
-
-  module _ (f g : Operand → Option Kind) where
-    abbrev alike : List Operand → List Operand → Bool
-    alike xs ys = list_all (λ x. same_kind (f x.0) (g x.1)) (zip xs ys)
-
-    alike_map : (xs ys : List Operand) → length xs ≡ length ys → alike xs ys ≡ true → map g ys ≡ map f xs
-    alike_map [] [] e h = refl
-    alike_map [] (y ∷ ys) e h = absurd (omega (arith, e))
-    alike_map (x ∷ xs) [] e h = absurd (omega (arith, e))
-    alike_map (x ∷ xs) (y ∷ ys) e h =
-        ap₂ (λ (k : Option Kind) (ks : List (Option Kind)). k ∷ ks) (sym (kind_same (f x) (g y) (and_left (same_kind (f x) (g y)) (alike xs ys) h)))
-        (alike_map xs ys (omega (arith, e)) (and_right (same_kind (f x) (g y)) (alike xs ys) h))
-
-    map_alike : (xs ys : List Operand) → map f xs ≡ map g ys → alike xs ys ≡ true
-    map_alike [] [] e = refl
-    map_alike [] (y ∷ ys) e = refl
-    map_alike (x ∷ xs) [] e = refl
-    map_alike (x ∷ xs) (y ∷ ys) e = and_both (same_kind (f x) (g y)) (alike xs ys) (same_is (f x) (g y) cc) (map_alike xs ys cc)
-
-    map_length : (xs ys : List Operand) → map f xs ≡ map g ys → length xs ≡ length ys
-    map_length xs ys e = sym (length-map xs f) ∙ ap length e ∙ length-map ys g
-
-  equal_length : (n m : ℕ) → n ≡ m → (n == m) ≡ true
-  equal_length n m e = grind (arith, nat_tests)
-
   abbrev kinds : ResolvedSelect → List (Option Kind)
   kinds s = map (kind_in schema params s) s.head
 
-  heads_same : (s t : ResolvedSelect) → same_heads schema params s t ≡ true → kinds t ≡ kinds s
-  heads_same s t e =
-      alike_map (kind_in schema params s) (kind_in schema params t) s.head t.head
-      (eqb-true (length s.head) (length t.head) (and_left (length s.head == length t.head) (alike (kind_in schema params s) (kind_in schema params t) s.head t.head) e))
-      (and_right (length s.head == length t.head) (alike (kind_in schema params s) (kind_in schema params t) s.head t.head) e)
+  abbrev alike : ResolvedSelect → ResolvedSelect → Bool
+  alike s t = faults.parts_match schema (kinds_of params) [] (written_part s) (written_part t)
 
-  same_from : (s t : ResolvedSelect) → kinds s ≡ kinds t → same_heads schema params s t ≡ true
-  same_from s t e =
-      and_both (length s.head == length t.head) (alike (kind_in schema params s) (kind_in schema params t) s.head t.head)
-      (equal_length (length s.head) (length t.head) (map_length (kind_in schema params s) (kind_in schema params t) s.head t.head e))
-      (map_alike (kind_in schema params s) (kind_in schema params t) s.head t.head e)
+  -- selects whose heads are like that of one, and that have no faults of names and kinds, have its kinds
+  all_same : (s : ResolvedSelect) → Known schema params s → (ss : List ResolvedSelect) → list_all (λ t. faults.columns_there schema (written_part t)) ss ≡ true → kinds_agree schema params ss ≡ true → list_all (λ t. faults.all_named (kinds_of params) [] (written_part t)) ss ≡ true
+      → list_all (alike s) ss ≡ true → AllByRecursion (λ t. kinds t ≡ kinds s) ss
+  all_same s k [] c n m e = tt
+  all_same s k (t ∷ ts) c n m e =
+      let l =
+      known schema params t (and_left (faults.columns_there schema (written_part t)) (list_all (λ u. faults.columns_there schema (written_part u)) ts) c)
+      (and_left (faults.kinds_agree schema (kinds_of params) [] (written_part t)) (kinds_agree schema params ts) n)
+      (and_left (faults.all_named (kinds_of params) [] (written_part t)) (list_all (λ u. faults.all_named (kinds_of params) [] (written_part u)) ts) m) in
+      let same : k.0 ≡ l.0 = kinds_match schema (kinds_of params) [] s.from t.from s.head t.head k.0 l.0 k.1 l.1 (and_left (alike s t) (list_all (alike s) ts) e) in (
+        l.1 ∙ ap (λ (ks : List Kind). map Some ks) (sym same) ∙ sym k.1,
+        all_same s k ts (and_right (faults.columns_there schema (written_part t)) (list_all (λ u. faults.columns_there schema (written_part u)) ts) c)
+            (and_right (faults.kinds_agree schema (kinds_of params) [] (written_part t)) (kinds_agree schema params ts) n)
+            (and_right (faults.all_named (kinds_of params) [] (written_part t)) (list_all (λ u. faults.all_named (kinds_of params) [] (written_part u)) ts) m) (and_right (alike s t) (list_all (alike s) ts) e),
+      )
 
-  all_same : (s : ResolvedSelect) (ss : List ResolvedSelect) → list_all (same_heads schema params s) ss ≡ true → AllByRecursion (λ t. kinds t ≡ kinds s) ss
-  all_same s [] e = tt
-  all_same s (t ∷ ts) e = (heads_same s t (and_left (same_heads schema params s t) (list_all (same_heads schema params s) ts) e), all_same s ts (and_right (same_heads schema params s t) (list_all (same_heads schema params s) ts) e))
+  match_from : (from others : List ℕ) (xs ys : List Operand) → map (kind_of schema (kinds_of params) [] from) xs ≡ map (kind_of schema (kinds_of params) [] others) ys → faults.heads_match schema (kinds_of params) [] from xs others ys ≡ true
+  match_from from others [] [] e = refl
+  match_from from others [] (y ∷ ys) e = cc
+  match_from from others (x ∷ xs) [] e = cc
+  match_from from others (x ∷ xs) (y ∷ ys) e =
+      let here : kind_of schema (kinds_of params) [] from x ≡ kind_of schema (kinds_of params) [] others y = cc in
+      and_both (faults.agree (kind_of schema (kinds_of params) [] from x) (kind_of schema (kinds_of params) [] others y)) (faults.heads_match schema (kinds_of params) [] from xs others ys)
+      (subst (λ (o : Option Kind). faults.agree (kind_of schema (kinds_of params) [] from x) o ≡ true) here (agree_itself schema params (kind_of schema (kinds_of params) [] from x)))
+      (match_from from others xs ys cc)
 
-  same_all : (s : ResolvedSelect) (ks : List (Option Kind)) (ss : List ResolvedSelect) → kinds s ≡ ks → AllByRecursion (λ t. kinds t ≡ ks) ss → list_all (same_heads schema params s) ss ≡ true
+  same_all : (s : ResolvedSelect) (ks : List (Option Kind)) (ss : List ResolvedSelect) → kinds s ≡ ks → AllByRecursion (λ t. kinds t ≡ ks) ss → list_all (alike s) ss ≡ true
   same_all s ks [] e h = refl
-  same_all s ks (t ∷ ts) e h = and_both (same_heads schema params s t) (list_all (same_heads schema params s) ts) (same_from s t (e ∙ sym h.0)) (same_all s ks ts e h.1)
+  same_all s ks (t ∷ ts) e h = and_both (alike s t) (list_all (alike s) ts) (match_from s.from t.from s.head t.head (e ∙ sym h.0)) (same_all s ks ts e h.1)
 
   some_kinds : (f : Operand → Option Kind) (xs : List Operand) → not (faults.is_empty xs) ≡ true → map f xs ≢ []
   some_kinds f [] e h = cc
@@ -145,20 +114,26 @@ module _ (schema : Schema) (params : List Parameter) where
   kinds_some f [] h = absurd (h refl)
   kinds_some f (x ∷ xs) h = refl
 
-  pub heads_sound : (ss : List ResolvedSelect) → heads_agree schema params ss ≡ true → HaveOneHead schema params ss
-  heads_sound [] e = cc
-  heads_sound (s ∷ ss) e = record {
+  pub heads_sound : (ss : List ResolvedSelect) → AreResolved schema params ss → kinds_agree schema params ss ≡ true → heads_agree schema params ss ≡ true → HaveOneHead schema params ss
+  heads_sound [] r n e = cc
+  heads_sound (s ∷ ss) r n e = record {
     kinds = kinds s;
-    some_kind = some_kinds (kind_in schema params s) s.head (and_left (not (faults.is_empty s.head)) (list_all (same_heads schema params s) ss) e);
+    some_kind = some_kinds (kind_in schema params s) s.head (and_left (not (faults.is_empty s.head)) (list_all (alike s) ss) e);
     some_select = λ k. cc;
-    heads = All-from_recursion (λ t. kinds t ≡ kinds s) (s ∷ ss) (refl, all_same s ss (and_right (not (faults.is_empty s.head)) (list_all (same_heads schema params s) ss) e));
+    heads = All-from_recursion (λ t. kinds t ≡ kinds s) (s ∷ ss) (
+      refl,
+      all_same s (first_known schema params s ss r n) ss (and_right (faults.columns_there schema (written_part s)) (list_all (λ t. faults.columns_there schema (written_part t)) ss) r.columns)
+          (and_right (faults.kinds_agree schema (kinds_of params) [] (written_part s)) (kinds_agree schema params ss) n)
+          (and_right (faults.all_named (kinds_of params) [] (written_part s)) (list_all (λ t. faults.all_named (kinds_of params) [] (written_part t)) ss) r.named)
+          (and_right (not (faults.is_empty s.head)) (list_all (alike s) ss) e),
+    );
   }
 
   pub heads_complete : (ss : List ResolvedSelect) → HaveOneHead schema params ss → heads_agree schema params ss ≡ true
   heads_complete [] h = absurd (h.some_select refl)
   heads_complete (s ∷ ss) h =
       let all = recursion_from_All (λ t. kinds t ≡ h.kinds) (s ∷ ss) h.heads in
-      and_both (not (faults.is_empty s.head)) (list_all (same_heads schema params s) ss)
+      and_both (not (faults.is_empty s.head)) (list_all (alike s) ss)
       (kinds_some (kind_in schema params s) s.head (λ k. h.some_kind (sym all.0 ∙ k)))
       (same_all s h.kinds ss all.0 all.1)
 
@@ -207,7 +182,7 @@ module _ (schema : Schema) (params : List Parameter) where
         made = sym parts ∙ sym (joined_map a.0);
         kinds = kinds_lacks a.0 ∙ none.kinds;
         orders = orders_lacks a.0 ∙ none.orders;
-        heads = heads_sound a.0 none.heads;
+        heads = heads_sound a.0 (names_good schema params text a.0 a.1) none.kinds none.heads;
         some_part = subst (λ (ps : List Part). ps ≢ []) parts (not_empty (parts_of a.0) none.some);
         few = subst (λ (ps : List Part). faults.within ps ≡ true) parts none.within;
       }

@@ -1,6 +1,6 @@
 -- The query that a text means, or the first fault.
-use Rattle.std.specs.Prelude.{ℕ, Bool, true, false, not, ◌&&◌, ◌==◌, List, [], ◌∷◌, length, Option, Some, None, Result, Ok, Err, if◌then◌else◌}
-use Rattle.std.specs.List.{list_all, zip}
+use Rattle.std.specs.Prelude.{ℕ, Bool, false, not, ◌&&◌, List, [], ◌∷◌, Option, Some, None, Result, Ok, Err, if◌then◌else◌}
+use Rattle.std.specs.List.{list_all}
 use Rattle.ba_model.specs.Fit.{kind_of, kinds_of}
 use Rattle.ba_model.specs.QueryFaults as faults
 use Rattle.ba_model.specs.Readings.{◌>>=◌}
@@ -10,7 +10,6 @@ use Rattle.ba_model.specs.declared.query.Operand.{Operand}
 use Rattle.ba_model.specs.declared.query.Part.{Part}
 use Rattle.ba_model.specs.declared.query.Query.{Query}
 use Rattle.ba_model.specs.declared.schema.Kind.{Kind}
-use Rattle.ba_model.specs.declared.schema.Kind.TheVariants.{Int as IntKind, Text as TextKind}
 use Rattle.ba_model.specs.declared.schema.Schema.{Schema}
 use Rattle.ba_sql_syntax.specs.declared.written.QueryText.{QueryText}
 use Rattle.ba_sql_query.specs.Parts.{parts_of, written_part}
@@ -33,23 +32,13 @@ orders_numbers schema params selects = list_all (λ select. faults.orders_number
 
 -- ---- heads
 
-abbrev pub same_kind : Option Kind → Option Kind → Bool
-same_kind None None = true
-same_kind (Some IntKind) (Some IntKind) = true
-same_kind (Some TextKind) (Some TextKind) = true
-same_kind _ _ = false
-
 abbrev pub kind_in : Schema → List Parameter → ResolvedSelect → Operand → Option Kind
 kind_in schema params select x = kind_of schema (kinds_of params) [] select.from x
 
--- the heads have as many operands, of the same kinds
-abbrev pub same_heads : Schema → List Parameter → ResolvedSelect → ResolvedSelect → Bool
-same_heads schema params s t = (length s.head == length t.head) && list_all (λ x. same_kind (kind_in schema params s x.0) (kind_in schema params t x.1)) (zip s.head t.head)
-
--- the first head isn't empty, and the others are like it
+-- the first head isn't empty, and the others have as many operands, of the same kinds
 abbrev pub heads_agree : Schema → List Parameter → List ResolvedSelect → Bool
 heads_agree schema params [] = false
-heads_agree schema params (s ∷ ss) = not (faults.is_empty s.head) && list_all (same_heads schema params s) ss
+heads_agree schema params (s ∷ ss) = not (faults.is_empty s.head) && list_all (λ t. faults.parts_match schema (kinds_of params) [] (written_part s) (written_part t)) ss
 
 -- ---- the query
 

@@ -1,10 +1,8 @@
 //! The query that a written text means.
 ghost use Rattle.std.specs.Prelude.{◌≡◌, [], IfOk};
 ghost use Rattle.ba_model.specs.Fit.{IsQuery, kinds_of};
-ghost use Rattle.ba_model.specs.QueryFaults.{HasNoFault};
 ghost use Rattle.ba_model.specs.Readings.{Gives};
-ghost use Rattle.ba_sql_query.specs.Meaning.{fault_of, query_of_parts, query_of_selects, query_of_written};
-ghost use Rattle.ba_sql_query.specs.Parts.{parts_of};
+ghost use Rattle.ba_sql_query.specs.Meaning.{fault_of, query_of_selects, query_of_written};
 ghost use Rattle.ba_sql_query.specs.Resolved.{AreResolved};
 
 use crate::count::size_of;
@@ -13,7 +11,7 @@ use crate::fault::ReadQueryFault;
 use crate::kinds::{heads_agree, kinds_agree, orders_numbers};
 use crate::resolve::names_of;
 use crate::resolved::ResolvedSelect;
-use ba_model::{Failure, List, Parameter, Query, QueryDraft, Schema};
+use ba_model::{Failure, List, Parameter, Query, Schema};
 use ba_sql_syntax::QueryText;
 use std::alloc::{AllocError, Global};
 
@@ -43,27 +41,6 @@ fn fault_of(
     Ok(None)
 }
 
-// The query of the parts, which have no fault.
-fn built(
-    alloc: Global,
-    schema: &Schema,
-    params: &List<Parameter>,
-    selects: &[ResolvedSelect],
-) -> Result<Query, Failure<ReadQueryFault>>
-    requires { HasNoFault schema.now (kinds_of params.now) [] (parts_of selects.now) }
-    ensures exact { Gives result (Ok (query_of_parts (parts_of selects.now))) }
-    ensures query { IfOk result (IsQuery schema.now (kinds_of params.now) []) }
-{
-    let parts = parts_of(alloc, selects)?;
-    let vars = List::new(alloc);
-    let checked = Query::check(schema, params, &vars, QueryDraft { parts });
-    match checked {
-        Ok(query) => Ok(query),
-        // It isn't reached.
-        Err(_) => Err(Failure::Fault(ReadQueryFault::TooMany)),
-    }
-}
-
 // The query of the selects, or the first fault beside those of names.
 fn query_of_selects(
     alloc: Global,
@@ -78,7 +55,10 @@ fn query_of_selects(
     let fault = fault_of(alloc, schema, params.as_slice(), selects)?;
     match fault {
         Some(fault) => Err(Failure::Fault(fault)),
-        None => built(alloc, schema, params, selects),
+        None => {
+            let parts = parts_of(alloc, selects)?;
+            Ok(Query { parts })
+        }
     }
 }
 
