@@ -4,6 +4,8 @@ use Rattle.ba_model.specs.declared.policy.Context.{Context}
 use Rattle.ba_model.specs.declared.query.Query.{Query}
 use Rattle.ba_model.specs.declared.value.Value.{Value}
 use Rattle.ba_outside.specs.Seen.{FilesSeen, SinkSeen}
+use Rattle.ba_script.specs.declared.entry.ScriptEntry.{ScriptEntry}
+use Rattle.ba_script.specs.declared.entry.ScriptEntry.TheVariants as said
 use Rattle.ba_top.specs.Headline.{Headline, IsAnswerEverywhere, IsNotCovered}
 use Rattle.ba_top.specs.Legal.{AreEntries, HasContext, IsEntry, Legal, Replies, trace_of}
 use Rattle.ba_top.specs.Ran.{Ran, Served}
@@ -18,8 +20,6 @@ use Rattle.ba_top.specs.declared.report.Reply.{Reply}
 use Rattle.ba_top.specs.declared.report.Reply.TheVariants.{Answer, Blocked}
 use Rattle.ba_top.specs.declared.report.Why.{Why}
 use Rattle.ba_top.specs.declared.report.Why.TheVariants.{Uncovered}
-use Rattle.ba_wire.specs.declared.entry.ScriptEntry.{ScriptEntry}
-use Rattle.ba_wire.specs.declared.entry.ScriptEntry.TheVariants as said
 
 -- the reply that a question's entry has
 record HasReply (input : Input) (earlier : List Entry) (request : ℕ) (reply : Reply) : Type 0 where

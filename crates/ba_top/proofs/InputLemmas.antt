@@ -4,27 +4,28 @@ use Rattle.std.proofs.lemmas.List.{take_more}
 use Rattle.std.specs.List.{All, AllZip}
 use Rattle.ba_model.specs.Conform.{Conforms, RowFits}
 use Rattle.ba_model.specs.Fit.{PolicyFits}
+use Rattle.ba_model.specs.Readings.{widened}
 use Rattle.ba_model.specs.declared.policy.Policy.{Policy}
 use Rattle.ba_model.specs.declared.schema.Schema.{Schema}
 use Rattle.ba_model.specs.declared.schema.Table.{Table}
 use Rattle.ba_model.specs.declared.value.Value.{Value}
+use Rattle.ba_model.specs.declared.limits.TheConstants.{MAX_FILE_BYTES}
 use Rattle.ba_outside.specs.Seen.{FilesSeen}
 use Rattle.ba_plan.proofs.Plans.{found_ok, then_err, then_ok}
 use Rattle.ba_plan.specs.Follows.{Follows, Gives, Got}
 use Rattle.ba_plan.specs.Plan.{found}
-use Rattle.ba_policy.specs.Reading.{policy_of}
-use Rattle.ba_sql_ddl.specs.Reading.{schema_of}
 use Rattle.ba_plan.specs.declared.stop.Stop.{Stop}
+use Rattle.ba_policy.specs.Reading.{policy_of}
+use Rattle.ba_script.specs.Scripts.{IsScript}
+use Rattle.ba_script.specs.declared.entry.Script.{Script}
+use Rattle.ba_sql_ddl.specs.Reading.{schema_of}
 use Rattle.ba_tables.specs.Broken.{checked}
 use Rattle.ba_tables.specs.TableSet.{TableSet}
 use Rattle.ba_top.specs.Legal.{IsInput, RowsOfTables}
 use Rattle.ba_top.specs.Reading.{Names, policy_plan, reading_of, rest_plan, rows_plan, script_plan, table_plan, tables_plan}
-use Rattle.ba_top.specs.Refusals.{broken_refusal, ddl_refusal, or_refused, policy_refusal}
-use Rattle.ba_top.specs.declared.input.TheConstants.{MAX_BYTES}
+use Rattle.ba_top.specs.Refusals.{broken_refusal, ddl_refusal, policy_refusal}
 use Rattle.ba_top.specs.declared.report.Input.{Input}
 use Rattle.ba_top.specs.declared.report.Refusal.{Refusal}
-use Rattle.ba_wire.specs.Scripts.{IsScript}
-use Rattle.ba_wire.specs.declared.entry.Script.{Script}
 
 -- what was read belongs together
 pub input_fits : (policy : Policy) (tables : TableSet) (script : Script) → PolicyFits policy → tables.schema ≡ policy.schema → Conforms tables.schema tables.rows → IsScript policy.params script
@@ -63,49 +64,49 @@ found_gives (Err e) s r h = (h, refl)
 
 -- the rows of all tables, and then what their keys and links come to
 pub tables_ok : (set : List ℕ) (schema : Schema) (lists : List (List (List Value))) (s t : FilesSeen) (r : Result TableSet (Stop Refusal)) → Follows (rows_plan set schema.tables []) s t (Ok lists)
-    → Gives r (or_refused (broken_refusal set schema) (checked schema (record { tables = lists }))) → Follows (tables_plan set schema) s t r
+    → Gives r (widened (broken_refusal set schema) (checked schema (record { tables = lists }))) → Follows (tables_plan set schema) s t r
 tables_ok set schema lists s t r rows is =
-    then_ok (rows_plan set schema.tables []) (λ z. found (or_refused (broken_refusal set schema) (checked schema (record { tables = z })))) s t t lists r rows
-    (found_gives (or_refused (broken_refusal set schema) (checked schema (record { tables = lists }))) t r is)
+    then_ok (rows_plan set schema.tables []) (λ z. found (widened (broken_refusal set schema) (checked schema (record { tables = z })))) s t t lists r rows
+    (found_gives (widened (broken_refusal set schema) (checked schema (record { tables = lists }))) t r is)
 
 pub tables_err : (set : List ℕ) (schema : Schema) (s t : FilesSeen) (e : Stop Refusal) → Follows (rows_plan set schema.tables []) s t (Err e) → Follows (tables_plan set schema) s t (Err e)
 tables_err set schema s t e rows =
-    then_err (rows_plan set schema.tables []) (λ z. found (or_refused (broken_refusal set schema) (checked schema (record { tables = z })))) s t e rows
+    then_err (rows_plan set schema.tables []) (λ z. found (widened (broken_refusal set schema) (checked schema (record { tables = z })))) s t e rows
 
 -- the schema, the policy, the tables, and then the rest
 pub named_ok : (names : Names) (bytes text : List ℕ) (schema : Schema) (policy : Policy) (tables : TableSet) (s m n o t : FilesSeen) (r : Result Input (Stop Refusal))
-    → Got names.schema MAX_BYTES bytes s m → or_refused (ddl_refusal names.schema) (schema_of bytes) ≡ Ok schema
-    → Got names.policy MAX_BYTES text m n → or_refused (policy_refusal names.policy) (policy_of schema text) ≡ Ok policy
+    → Got names.schema MAX_FILE_BYTES bytes s m → widened (ddl_refusal names.schema) (schema_of bytes) ≡ Ok schema
+    → Got names.policy MAX_FILE_BYTES text m n → widened (policy_refusal names.policy) (policy_of schema text) ≡ Ok policy
     → Follows (tables_plan names.tables schema) n o (Ok tables) → Follows (script_plan names.script policy tables) o t r → Follows (reading_of names) s t r
 named_ok names bytes text schema policy tables s m n o t r got read given is set rest = inr (
   bytes,
   m,
   got,
-  found_ok (or_refused (ddl_refusal names.schema) (schema_of bytes)) (policy_plan names) m t r schema read
+  found_ok (widened (ddl_refusal names.schema) (schema_of bytes)) (policy_plan names) m t r schema read
       (inr (
         text,
         n,
         given,
-        found_ok (or_refused (policy_refusal names.policy) (policy_of schema text)) (rest_plan names schema) n t r policy is
+        found_ok (widened (policy_refusal names.policy) (policy_of schema text)) (rest_plan names schema) n t r policy is
             (then_ok (tables_plan names.tables schema) (script_plan names.script policy) n o t tables r set rest),
       )),
 )
 
 -- the schema, the policy, and tables without a reading
 pub named_err : (names : Names) (bytes text : List ℕ) (schema : Schema) (policy : Policy) (s m n t : FilesSeen) (e : Stop Refusal)
-    → Got names.schema MAX_BYTES bytes s m → or_refused (ddl_refusal names.schema) (schema_of bytes) ≡ Ok schema
-    → Got names.policy MAX_BYTES text m n → or_refused (policy_refusal names.policy) (policy_of schema text) ≡ Ok policy
+    → Got names.schema MAX_FILE_BYTES bytes s m → widened (ddl_refusal names.schema) (schema_of bytes) ≡ Ok schema
+    → Got names.policy MAX_FILE_BYTES text m n → widened (policy_refusal names.policy) (policy_of schema text) ≡ Ok policy
     → Follows (tables_plan names.tables schema) n t (Err e) → Follows (reading_of names) s t (Err e)
 named_err names bytes text schema policy s m n t e got read given is set = inr (
   bytes,
   m,
   got,
-  found_ok (or_refused (ddl_refusal names.schema) (schema_of bytes)) (policy_plan names) m t (Err e) schema read
+  found_ok (widened (ddl_refusal names.schema) (schema_of bytes)) (policy_plan names) m t (Err e) schema read
       (inr (
         text,
         n,
         given,
-        found_ok (or_refused (policy_refusal names.policy) (policy_of schema text)) (rest_plan names schema) n t (Err e) policy is
+        found_ok (widened (policy_refusal names.policy) (policy_of schema text)) (rest_plan names schema) n t (Err e) policy is
             (then_err (tables_plan names.tables schema) (script_plan names.script policy) n t e set),
       )),
 )

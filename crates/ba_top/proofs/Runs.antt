@@ -1,5 +1,7 @@
 -- What follows from how a run went.
 use Rattle.std.proofs.Common.{◌≡◌, ◌≢◌, ◌⊎◌, ◌∙◌, inl, inr, refl, sym, ap, subst, ℕ, List, Option, Some, None, Result, Ok, Err, IfSome}
+use Rattle.ba_model.specs.declared.limits.Counted.{Counted}
+use Rattle.ba_model.specs.declared.limits.Counted.TheVariants.{FileBytes}
 use Rattle.ba_outside.specs.Causes.{Rose}
 use Rattle.ba_outside.specs.Seen.{Contents, FilesSeen, SinkSeen}
 use Rattle.ba_plan.proofs.Causes.{long_file, read_fault}
@@ -20,8 +22,6 @@ use Rattle.ba_top.specs.declared.report.Refusal.{Refusal}
 use Rattle.ba_top.specs.declared.report.Refusal.TheVariants as refusal
 use Rattle.ba_wire.specs.declared.fault.Fault.{Fault}
 use Rattle.ba_wire.specs.declared.fault.Fault.TheVariants as fault
-use Rattle.ba_wire.specs.declared.fault.What.{What}
-use Rattle.ba_wire.specs.declared.fault.What.TheVariants.{Bytes}
 
 -- ---- faults and their details
 
@@ -37,7 +37,7 @@ stops_as (Refused refusal.Words) s t detail ends = ends_as fault.Words s t detai
 stops_as (Refused (refusal.Input file reason)) s t detail ends = ends_as (fault.Input file reason) s t detail ends
 stops_as (Refused (refusal.Limit what limit)) s t detail ends = ends_as (fault.Limit what limit) s t detail ends
 stops_as (Unreadable file) s t detail ends = ends_as (fault.Read file) s t detail ends
-stops_as (TooLong file limit) s t detail ends = ends_as (fault.Limit Bytes limit) s t detail ends
+stops_as (TooLong file limit) s t detail ends = ends_as (fault.Limit FileBytes limit) s t detail ends
 stops_as NoMemory s t detail ends = inl ends.0
 
 -- a run's text ends with done, a write fault or want of memory
@@ -73,16 +73,16 @@ unreadable (Err (TooLong f n)) file e = absurd (cc)
 unreadable (Err NoMemory) file e = absurd (cc)
 
 -- a reading that comes to a limit
-abbrev ComesToLimit : Result Input (Stop Refusal) → What → ℕ → Type 0
-ComesToLimit reading what limit = (reading ≡ Err (Refused (refusal.Limit what limit))) ⊎ ((what ≡ Bytes) × ((file : List ℕ) × (reading ≡ Err (TooLong file limit))))
+abbrev ComesToLimit : Result Input (Stop Refusal) → Counted → ℕ → Type 0
+ComesToLimit reading what limit = (reading ≡ Err (Refused (refusal.Limit what limit))) ⊎ ((what ≡ FileBytes) × ((file : List ℕ) × (reading ≡ Err (TooLong file limit))))
 
-limit_of : (reading : Result Input (Stop Refusal)) (what : What) (limit : ℕ) → settled reading ≡ Limit what limit → ComesToLimit reading what limit
+limit_of : (reading : Result Input (Stop Refusal)) (what : Counted) (limit : ℕ) → settled reading ≡ Limit what limit → ComesToLimit reading what limit
 limit_of (Ok input) what limit e = absurd (cc)
 limit_of (Err (Refused refusal.Words)) what limit e = absurd (cc)
 limit_of (Err (Refused (refusal.Input f reason))) what limit e = absurd (cc)
 limit_of (Err (Refused (refusal.Limit w n))) what limit e = let h : w ≡ what = cc in let k : n ≡ limit = cc in inl (rw (h, k) refl)
 limit_of (Err (Unreadable f)) what limit e = absurd (cc)
-limit_of (Err (TooLong f n)) what limit e = let w : Bytes ≡ what = cc in let h : n ≡ limit = cc in inr (sym w, (f, ap (λ z. Err (TooLong f z)) h))
+limit_of (Err (TooLong f n)) what limit e = let w : FileBytes ≡ what = cc in let h : n ≡ limit = cc in inr (sym w, (f, ap (λ z. Err (TooLong f z)) h))
 limit_of (Err NoMemory) what limit e = absurd (cc)
 
 pub ran_read : (words : List (List ℕ)) (f g : FilesSeen) (s t : SinkSeen) (detail : Detail) (journal : Option Journal) → Ran words f g s t detail journal → (file : List ℕ) → detail ≡ Read file → FailedAt file f g
@@ -94,11 +94,11 @@ ran_read words f g s t detail journal ran file e = by_end (ended words f g s t d
     by_end (reading, follows, inr (inl (is, rose))) = absurd (cc)
     by_end (reading, follows, inr (inr is)) = absurd (cc)
 
-told_limit : (words : List (List ℕ)) (f g : FilesSeen) (reading : Result Input (Stop Refusal)) (what : What) (limit : ℕ) → Follows (plan_of words) f g reading → ComesToLimit reading what limit → IsLimit words what limit f g
+told_limit : (words : List (List ℕ)) (f g : FilesSeen) (reading : Result Input (Stop Refusal)) (what : Counted) (limit : ℕ) → Follows (plan_of words) f g reading → ComesToLimit reading what limit → IsLimit words what limit f g
 told_limit words f g reading what limit follows (inl is) = inl (subst (λ z. Follows (plan_of words) f g z) is follows)
 told_limit words f g reading what limit follows (inr (bytes, (file, is))) = inr (bytes, (file, long_file (plan_of words) f g file limit (subst (λ z. Follows (plan_of words) f g z) is follows)))
 
-pub ran_limit : (words : List (List ℕ)) (f g : FilesSeen) (s t : SinkSeen) (detail : Detail) (journal : Option Journal) → Ran words f g s t detail journal → (what : What) (limit : ℕ) → detail ≡ Limit what limit → IsLimit words what limit f g
+pub ran_limit : (words : List (List ℕ)) (f g : FilesSeen) (s t : SinkSeen) (detail : Detail) (journal : Option Journal) → Ran words f g s t detail journal → (what : Counted) (limit : ℕ) → detail ≡ Limit what limit → IsLimit words what limit f g
 unfolding Ended
 ran_limit words f g s t detail journal ran what limit e = by_end (ended words f g s t detail journal ran)
   where

@@ -16,6 +16,9 @@ use Rattle.ba_model.specs.declared.policy.Parameter.{Parameter}
 use Rattle.ba_model.specs.declared.query.Query.{Query}
 use Rattle.ba_model.specs.declared.value.RowSet.{RowSet}
 use Rattle.ba_model.specs.declared.value.Value.{Value}
+use Rattle.ba_script.specs.Scripts.{BeginFits, NumberedFrom}
+use Rattle.ba_script.specs.declared.entry.ScriptEntry.{ScriptEntry}
+use Rattle.ba_script.specs.declared.entry.ScriptEntry.TheVariants as said
 use Rattle.ba_top.specs.Legal.{Answered, AreEntries, HasContext, IsAsk, IsEntry, IsInput, Reads, Replies, answer_in, answer_of, context_in, contexts_of, trace_of}
 use Rattle.ba_top.specs.Serving.{IsContextOf, IsKnown, IsRecorded}
 use Rattle.ba_top.specs.declared.report.By.TheVariants.{Cover}
@@ -24,9 +27,6 @@ use Rattle.ba_top.specs.declared.report.Entry.TheVariants.{Ask}
 use Rattle.ba_top.specs.declared.report.Input.{Input}
 use Rattle.ba_top.specs.declared.report.Reply.{Reply}
 use Rattle.ba_top.specs.declared.report.Reply.TheVariants.{Answer, Blocked, Unread, NoMemory}
-use Rattle.ba_wire.specs.Scripts.{BeginFits, NumberedFrom}
-use Rattle.ba_wire.specs.declared.entry.ScriptEntry.{ScriptEntry}
-use Rattle.ba_wire.specs.declared.entry.ScriptEntry.TheVariants as said
 
 -- ---- a covered question
 

@@ -13,6 +13,10 @@ use Rattle.ba_model.specs.declared.query.Query.{Query}
 use Rattle.ba_model.specs.declared.schema.Table.{Table}
 use Rattle.ba_model.specs.declared.value.RowSet.{RowSet}
 use Rattle.ba_model.specs.declared.value.Value.{Value}
+use Rattle.ba_script.specs.Scripts.{IsScript}
+use Rattle.ba_script.specs.declared.entry.Script.{Script}
+use Rattle.ba_script.specs.declared.entry.ScriptEntry.{ScriptEntry}
+use Rattle.ba_script.specs.declared.entry.ScriptEntry.TheVariants as said
 use Rattle.ba_sql_query.specs.Reads.{ReadsQuery}
 use Rattle.ba_sql_query.specs.Texts.{query_of}
 use Rattle.ba_sql_query.specs.declared.fault.ReadQueryFault.{ReadQueryFault}
@@ -24,10 +28,6 @@ use Rattle.ba_top.specs.declared.report.Journal.{Journal}
 use Rattle.ba_top.specs.declared.report.Reply.{Reply}
 use Rattle.ba_top.specs.declared.report.Reply.TheVariants.{Answer, Blocked, Unread, NoMemory}
 use Rattle.ba_top.specs.declared.report.Why.TheVariants.{Uncovered}
-use Rattle.ba_wire.specs.Scripts.{IsScript}
-use Rattle.ba_wire.specs.declared.entry.Script.{Script}
-use Rattle.ba_wire.specs.declared.entry.ScriptEntry.{ScriptEntry}
-use Rattle.ba_wire.specs.declared.entry.ScriptEntry.TheVariants as said
 
 -- the rows fit their tables, list by list
 abbrev pub RowsOfTables : List Table → List (List (List Value)) → Type 0

@@ -1,15 +1,12 @@
 -- What a run may come to.
 use Rattle.std.specs.Prelude.{◌≡◌, ◌⊎◌, ℕ, List, [], ◌∷◌, Option, Some, None, Ok, Err, true, false}
+use Rattle.ba_model.specs.declared.limits.Counted.TheVariants.{FileBytes}
 use Rattle.ba_outside.specs.Seen.{FilesSeen, SinkSeen}
 use Rattle.ba_outside.specs.declared.sink.WriteFail.TheVariants.{Failed, NoMemory as NoRoom}
 use Rattle.ba_plan.specs.Follows.{Follows}
 use Rattle.ba_plan.specs.Sent.{SentLines, WroteLines}
 use Rattle.ba_plan.specs.declared.stop.Stop.{Stop}
 use Rattle.ba_plan.specs.declared.stop.Stop.TheVariants.{Refused, Read as Unreadable, TooLong, NoMemory}
-use Rattle.ba_wire.specs.Printed.{fault_bytes}
-use Rattle.ba_wire.specs.declared.fault.Fault.{Fault}
-use Rattle.ba_wire.specs.declared.fault.Fault.TheVariants as fault
-use Rattle.ba_wire.specs.declared.fault.What.TheVariants.{Bytes}
 use Rattle.ba_top.specs.Headline.{Headline}
 use Rattle.ba_top.specs.Legal.{Legal, lacks_memory}
 use Rattle.ba_top.specs.Reading.{plan_of}
@@ -20,6 +17,9 @@ use Rattle.ba_top.specs.declared.report.Input.{Input}
 use Rattle.ba_top.specs.declared.report.Journal.{Journal}
 use Rattle.ba_top.specs.declared.report.Refusal.{Refusal}
 use Rattle.ba_top.specs.declared.report.Refusal.TheVariants as refusal
+use Rattle.ba_wire.specs.Printed.{fault_bytes}
+use Rattle.ba_wire.specs.declared.fault.Fault.{Fault}
+use Rattle.ba_wire.specs.declared.fault.Fault.TheVariants as fault
 
 -- the exit status of each cause
 abbrev pub status_of : Detail → ℕ
@@ -61,7 +61,7 @@ EndsStop (Refused refusal.Words) s t detail = EndsFault fault.Words s t detail
 EndsStop (Refused (refusal.Input file reason)) s t detail = EndsFault (fault.Input file reason) s t detail
 EndsStop (Refused (refusal.Limit what limit)) s t detail = EndsFault (fault.Limit what limit) s t detail
 EndsStop (Unreadable file) s t detail = EndsFault (fault.Read file) s t detail
-EndsStop (TooLong file limit) s t detail = EndsFault (fault.Limit Bytes limit) s t detail
+EndsStop (TooLong file limit) s t detail = EndsFault (fault.Limit FileBytes limit) s t detail
 EndsStop NoMemory s t detail = (detail ≡ Memory) × (t ≡ s)
 
 -- A run with a journal: one input was read, for which the journal is legal and has the headline, and its text was written, or a front

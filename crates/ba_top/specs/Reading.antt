@@ -1,25 +1,28 @@
 -- How the input that the words name is read.
-use Rattle.std.specs.Prelude.{ℕ, List, [], ◌∷◌, ◌++◌, Option, Some, None}
+use Rattle.std.specs.Prelude.{ℕ, List, [], ◌∷◌, ◌++◌, Result, Ok, Err}
 use Rattle.ba_command.specs.Words.{command_of}
 use Rattle.ba_command.specs.declared.command.Command.{Command}
 use Rattle.ba_command.specs.declared.command.Command.TheVariants.{Run}
+use Rattle.ba_command.specs.declared.command.WordsFault.{WordsFault}
+use Rattle.ba_command.specs.declared.command.WordsFault.TheVariants.{NoForm}
+use Rattle.ba_model.specs.Readings.{widened}
 use Rattle.ba_model.specs.declared.policy.Policy.{Policy}
 use Rattle.ba_model.specs.declared.schema.Schema.{Schema}
 use Rattle.ba_model.specs.declared.schema.Table.{Table}
 use Rattle.ba_model.specs.declared.value.Value.{Value}
+use Rattle.ba_model.specs.declared.limits.TheConstants.{MAX_FILE_BYTES}
 use Rattle.ba_plan.specs.Plan.{Plan, done, refuse, ask, found, ◌>>=◌}
 use Rattle.ba_policy.specs.Reading.{policy_of}
+use Rattle.ba_script.specs.Reading.{script_of}
 use Rattle.ba_sql_ddl.specs.Reading.{schema_of}
 use Rattle.ba_tables.specs.Broken.{checked}
 use Rattle.ba_tables.specs.TableFile.{rows_of_file}
 use Rattle.ba_tables.specs.TableSet.{TableSet}
 use Rattle.ba_top.specs.Path.{path_of}
-use Rattle.ba_top.specs.Refusals.{broken_refusal, ddl_refusal, or_refused, policy_refusal, script_refusal, table_refusal}
-use Rattle.ba_top.specs.declared.input.TheConstants.{MAX_BYTES}
+use Rattle.ba_top.specs.Refusals.{broken_refusal, ddl_refusal, policy_refusal, script_refusal, table_refusal}
 use Rattle.ba_top.specs.declared.report.Input.{Input}
 use Rattle.ba_top.specs.declared.report.Refusal.{Refusal}
 use Rattle.ba_top.specs.declared.report.Refusal.TheVariants.{Words}
-use Rattle.ba_wire.specs.Reading.{script_of}
 
 -- the names of the files, and of the table set
 pub record Names : Type 0 where
@@ -29,12 +32,12 @@ pub record Names : Type 0 where
   pub script : List ℕ
 
 abbrev pub file_of : List ℕ → Plan Refusal (List ℕ)
-file_of name = ask name MAX_BYTES done
+file_of name = ask name MAX_FILE_BYTES done
 
 abbrev pub table_plan : List ℕ → Table → Plan Refusal (List (List Value))
 table_plan set table = do
   bytes ← file_of (path_of set table.name)
-  found (or_refused (table_refusal (path_of set table.name)) (rows_of_file table bytes))
+  found (widened (table_refusal (path_of set table.name)) (rows_of_file table bytes))
 
 -- the rows of each table, behind those that were read before
 abbrev pub rows_plan : List ℕ → List Table → List (List (List Value)) → Plan Refusal (List (List (List Value)))
@@ -47,12 +50,12 @@ rows_plan set (table ∷ tables) lists = do
 abbrev pub tables_plan : List ℕ → Schema → Plan Refusal TableSet
 tables_plan set schema = do
   lists ← rows_plan set schema.tables []
-  found (or_refused (broken_refusal set schema) (checked schema (record { tables = lists })))
+  found (widened (broken_refusal set schema) (checked schema (record { tables = lists })))
 
 abbrev pub script_plan : List ℕ → Policy → TableSet → Plan Refusal Input
 script_plan name policy tables = do
   bytes ← file_of name
-  script ← found (or_refused (script_refusal name) (script_of policy.params bytes))
+  script ← found (widened (script_refusal name) (script_of policy.params bytes))
   done (record { policy = policy; tables = tables; script = script })
 
 abbrev pub rest_plan : Names → Schema → Policy → Plan Refusal Input
@@ -63,23 +66,23 @@ rest_plan names schema policy = do
 abbrev pub policy_plan : Names → Schema → Plan Refusal Input
 policy_plan names schema = do
   bytes ← file_of names.policy
-  policy ← found (or_refused (policy_refusal names.policy) (policy_of schema bytes))
+  policy ← found (widened (policy_refusal names.policy) (policy_of schema bytes))
   rest_plan names schema policy
 
 -- first the schema, then the policy, then the tables in the schema's order with their keys and links, then the script
 abbrev pub reading_of : Names → Plan Refusal Input
 reading_of names = do
   bytes ← file_of names.schema
-  schema ← found (or_refused (ddl_refusal names.schema) (schema_of bytes))
+  schema ← found (widened (ddl_refusal names.schema) (schema_of bytes))
   policy_plan names schema
 
 -- the number of workers and the budget have no effect on what is read
 abbrev pub command_plan : Command → Plan Refusal Input
 command_plan (Run schema policy tables script workers budget) = reading_of (record { schema = schema; policy = policy; tables = tables; script = script })
 
-abbrev pub plan_at : Option Command → Plan Refusal Input
-plan_at None = refuse Words
-plan_at (Some command) = command_plan command
+abbrev pub plan_at : Result Command WordsFault → Plan Refusal Input
+plan_at (Err NoForm) = refuse Words
+plan_at (Ok command) = command_plan command
 
 -- the plan of the words
 abbrev pub plan_of : List (List ℕ) → Plan Refusal Input

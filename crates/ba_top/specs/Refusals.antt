@@ -1,16 +1,16 @@
 -- How the faults of files are told.
-use Rattle.std.specs.Prelude.{ℕ, List, [], Result, Ok, Err, option_map, slice_get, unwrap_or}
+use Rattle.std.specs.Prelude.{ℕ, List, [], option_map, slice_get, unwrap_or}
 use Rattle.ba_lex.specs.declared.token.LexFault.{LexFault}
 use Rattle.ba_lex.specs.declared.token.LexFault.TheVariants as lex
-use Rattle.ba_model.specs.declared.check_schema.Counted.{Counted}
-use Rattle.ba_model.specs.declared.check_schema.Counted.TheVariants as counted
 use Rattle.ba_model.specs.declared.check_schema.SchemaFault.{SchemaFault}
 use Rattle.ba_model.specs.declared.check_schema.SchemaFault.TheVariants as tables
 use Rattle.ba_model.specs.declared.schema.Schema.{Schema}
-use Rattle.ba_policy.specs.declared.error.Kept.{Kept}
-use Rattle.ba_policy.specs.declared.error.Kept.TheVariants as kept
+use Rattle.ba_model.specs.declared.limits.TheConstants.{MAX_TEXT_BYTES}
+use Rattle.ba_model.specs.declared.limits.Counted.TheVariants as what
 use Rattle.ba_policy.specs.declared.error.PolicyFault.{PolicyFault}
 use Rattle.ba_policy.specs.declared.error.PolicyFault.TheVariants as policy
+use Rattle.ba_script.specs.declared.fault.ScriptFault.{ScriptFault}
+use Rattle.ba_script.specs.declared.fault.ScriptFault.TheVariants.{BadLine, TooMany}
 use Rattle.ba_sql_ddl.specs.declared.fault.DdlFault.{DdlFault}
 use Rattle.ba_sql_ddl.specs.declared.fault.DdlFault.TheVariants as ddl
 use Rattle.ba_sql_query.specs.declared.fault.ReadQueryFault.{ReadQueryFault}
@@ -20,37 +20,21 @@ use Rattle.ba_tables.specs.declared.broken.TablesFault.TheVariants.{KeyBroken, L
 use Rattle.ba_tables.specs.declared.fault.TableFault.{TableFault}
 use Rattle.ba_tables.specs.declared.fault.TableFault.TheVariants as table
 use Rattle.ba_top.specs.Path.{path_of}
-use Rattle.ba_top.specs.declared.refusal.TheConstants.{MAX_TEXT}
 use Rattle.ba_top.specs.declared.report.Refusal.{Refusal}
 use Rattle.ba_top.specs.declared.report.Refusal.TheVariants.{Input, Limit}
-use Rattle.ba_wire.specs.declared.entry.ScriptFault.{ScriptFault}
-use Rattle.ba_wire.specs.declared.entry.ScriptFault.TheVariants.{BadLine, TooMany}
 use Rattle.ba_wire.specs.declared.fault.Reason.TheVariants as reason
-use Rattle.ba_wire.specs.declared.fault.What.{What}
-use Rattle.ba_wire.specs.declared.fault.What.TheVariants as what
-
--- what a reading gives, with its fault as a refusal
-abbrev pub or_refused : {X E : Type 0} → (E → Refusal) → Result X E → Result X Refusal
-or_refused refusal (Ok x) = Ok x
-or_refused refusal (Err e) = Err (refusal e)
 
 -- a fault that query texts have too
 abbrev pub text_fault : List ℕ → ReadQueryFault → Refusal
 text_fault file fault = Input file (reason.Text fault)
 
 abbrev pub lex_fault : List ℕ → LexFault → Refusal
-lex_fault file lex.TooLong = Limit what.Bytes MAX_TEXT
+lex_fault file lex.TooLong = Limit what.TextBytes MAX_TEXT_BYTES
 lex_fault file lex.BadByte = text_fault file (query.Lex lex.BadByte)
 lex_fault file lex.OpenQuote = text_fault file (query.Lex lex.OpenQuote)
 lex_fault file lex.NumberTooLarge = text_fault file (query.Lex lex.NumberTooLarge)
 
 -- ---- the schema
-
-abbrev pub counted_as : Counted → What
-counted_as counted.Tables = what.Tables
-counted_as counted.Columns = what.Columns
-counted_as counted.Keys = what.Keys
-counted_as counted.Links = what.Links
 
 abbrev pub schema_fault : List ℕ → SchemaFault → Refusal
 schema_fault file tables.DuplicateTable = Input file reason.DuplicateTable
@@ -60,7 +44,7 @@ schema_fault file tables.UnknownColumn = text_fault file query.UnknownColumn
 schema_fault file tables.WidthDiffers = Input file reason.WidthDiffers
 schema_fault file tables.KindDiffers = text_fault file query.KindDiffers
 schema_fault file tables.EmptyKey = Input file reason.EmptyKey
-schema_fault file (tables.TooMany it limit) = Limit (counted_as it) limit
+schema_fault file (tables.TooMany it limit) = Limit it limit
 
 unfoldable pub ddl_refusal : List ℕ → DdlFault → Refusal
 ddl_refusal file (ddl.Lex fault) = lex_fault file fault
@@ -71,17 +55,13 @@ ddl_refusal file (ddl.Schema fault) = schema_fault file fault
 
 -- ---- the policy
 
-abbrev pub kept_as : Kept → What
-kept_as kept.Views = what.Views
-kept_as kept.Params = what.Params
-
 unfoldable pub policy_refusal : List ℕ → PolicyFault → Refusal
 policy_refusal file (policy.Lex fault) = lex_fault file fault
 policy_refusal file policy.Syntax = text_fault file query.Syntax
 policy_refusal file (policy.DuplicateParam name) = Input file (reason.DuplicateParam name)
 policy_refusal file (policy.DuplicateView name) = Input file (reason.DuplicateView name)
 policy_refusal file (policy.View name fault) = Input file (reason.View name fault)
-policy_refusal file (policy.TooMany it limit) = Limit (kept_as it) limit
+policy_refusal file (policy.TooMany it limit) = Limit it limit
 
 -- ---- tables
 

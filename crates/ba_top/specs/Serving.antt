@@ -3,11 +3,11 @@ use Rattle.std.specs.Prelude.{◌≡◌, ℕ, List, ⊤, Some, slice_get}
 use Rattle.ba_comply.specs.Comply.{Records}
 use Rattle.ba_model.specs.Fit.{ContextFits, kinds_of}
 use Rattle.ba_model.specs.declared.policy.Context.{Context}
+use Rattle.ba_script.specs.declared.entry.ScriptEntry.{ScriptEntry}
+use Rattle.ba_script.specs.declared.entry.ScriptEntry.TheVariants as said
 use Rattle.ba_top.specs.Legal.{HasContext, trace_of}
 use Rattle.ba_top.specs.declared.report.Entry.{Entry}
 use Rattle.ba_top.specs.declared.report.Input.{Input}
-use Rattle.ba_wire.specs.declared.entry.ScriptEntry.{ScriptEntry}
-use Rattle.ba_wire.specs.declared.entry.ScriptEntry.TheVariants as said
 
 -- among the contexts stands that of this request, which fits the policy's parameters
 pub record IsContextOf (input : Input) (contexts : List Context) (request : ℕ) : Type 0 where

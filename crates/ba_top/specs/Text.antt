@@ -1,12 +1,8 @@
 -- What a run writes.
 use Rattle.std.specs.Prelude.{ℕ, ◌+◌, List, [], ◌∷◌, ◌++◌, Bool, true, false, length, sum_by, count_by}
-use Rattle.ba_wire.specs.Printed.{Printed, begin, end, answer, block, unread, memory, line_bytes, summary_bytes}
-use Rattle.ba_wire.specs.declared.line.By.TheVariants as by
-use Rattle.ba_wire.specs.declared.line.Block.TheVariants as blocked
-use Rattle.ba_wire.specs.declared.summary.Summary.{Summary}
-use Rattle.ba_wire.specs.declared.entry.Script.{Script}
-use Rattle.ba_wire.specs.declared.entry.ScriptEntry.{ScriptEntry}
-use Rattle.ba_wire.specs.declared.entry.ScriptEntry.TheVariants as said
+use Rattle.ba_script.specs.declared.entry.Script.{Script}
+use Rattle.ba_script.specs.declared.entry.ScriptEntry.{ScriptEntry}
+use Rattle.ba_script.specs.declared.entry.ScriptEntry.TheVariants as said
 use Rattle.ba_top.specs.Legal.{is_memory}
 use Rattle.ba_top.specs.declared.report.By.TheVariants.{Cover}
 use Rattle.ba_top.specs.declared.report.Entry.{Entry}
@@ -15,6 +11,10 @@ use Rattle.ba_top.specs.declared.report.Journal.{Journal}
 use Rattle.ba_top.specs.declared.report.Reply.{Reply}
 use Rattle.ba_top.specs.declared.report.Reply.TheVariants.{Answer, Blocked, Unread, NoMemory}
 use Rattle.ba_top.specs.declared.report.Why.TheVariants.{Uncovered}
+use Rattle.ba_wire.specs.Printed.{Printed, begin, end, answer, block, unread, memory, line_bytes, summary_bytes}
+use Rattle.ba_wire.specs.declared.line.By.TheVariants as by
+use Rattle.ba_wire.specs.declared.line.Block.TheVariants as blocked
+use Rattle.ba_wire.specs.declared.summary.Summary.{Summary}
 
 -- what the line of a reply says
 abbrev pub reply_line : List ℕ → ℕ → ℕ → Reply → Printed

@@ -2,37 +2,33 @@
 ghost use Rattle.std.specs.Prelude.{◌≡◌, [], All, IfOk, map, string_bytes, Err};
 ghost use Rattle.ba_model.specs.Conform.{RowFits};
 ghost use Rattle.ba_model.specs.Fit.{PolicyFits};
+ghost use Rattle.ba_model.specs.Readings.{widened};
 ghost use Rattle.ba_plan.specs.Follows.{Follows, Gives};
 ghost use Rattle.ba_policy.specs.Reading.{policy_of};
+ghost use Rattle.ba_script.specs.Reading.{script_of};
+ghost use Rattle.ba_script.specs.Scripts.{IsScript};
 ghost use Rattle.ba_sql_ddl.specs.Reading.{schema_of};
 ghost use Rattle.ba_tables.specs.Broken.{checked};
 ghost use Rattle.ba_tables.specs.TableFile.{rows_of_file};
 ghost use Rattle.ba_top.specs.Legal.{IsInput, RowsOfTables};
 ghost use Rattle.ba_top.specs.Reading.{command_plan, plan_of, reading_of, rows_plan, script_plan, table_plan, tables_plan};
-ghost use Rattle.ba_top.specs.Refusals.{broken_refusal, ddl_refusal, or_refused, policy_refusal, script_refusal, table_refusal};
-ghost use Rattle.ba_wire.specs.Reading.{script_of};
-ghost use Rattle.ba_wire.specs.Scripts.{IsScript};
+ghost use Rattle.ba_top.specs.Refusals.{broken_refusal, ddl_refusal, policy_refusal, script_refusal, table_refusal};
 
 use crate::refusal::{
     broken_refusal, ddl_refusal, path, policy_refusal, script_refusal, table_refusal,
 };
 use crate::report::{Input, Refusal};
-use ba_command::{Command, WordsError, read_words};
-use ba_model::{List, Parameter, Policy, Row, RowSet, Schema, Shared, Str, Table};
+use ba_command::{Command, WordsFault, read_words};
+use ba_model::{
+    Failure, List, MAX_FILE_BYTES, Parameter, Policy, Row, RowSet, Schema, Shared, Str, Table,
+};
 use ba_outside::Files;
 use ba_plan::{Stop, read_file};
-use ba_policy::{PolicyError, read_policy};
-use ba_sql_ddl::{DdlError, read_schema};
-use ba_tables::broken::TablesError;
-use ba_tables::fault::TableError;
-use ba_tables::file;
-use ba_tables::tables::Tables;
-use ba_wire::entry::{Script, ScriptError};
-use ba_wire::read::read_script;
+use ba_policy::read_policy;
+use ba_script::{Script, read_script};
+use ba_sql_ddl::read_schema;
+use ba_tables::{Tables, rows_of_file};
 use std::alloc::Global;
-
-/// The most bytes of a file.
-pub const MAX_BYTES: u64 = 67_108_864;
 
 /// The names of the files and of the table set.
 #[derive(Clone, Copy, Debug)]
@@ -43,21 +39,17 @@ struct Named<'a> {
     script: &'a str,
 }
 
-fn schema_at(
-    alloc: Global,
-    file: &str,
-    bytes: &List<u8>,
-) -> Result<Shared<Schema>, Stop<Refusal>>
-    ensures reads { Gives result (or_refused (ddl_refusal file.now) (schema_of bytes.now)) }
+fn schema_at(alloc: Global, file: &str, bytes: &List<u8>) -> Result<Shared<Schema>, Stop<Refusal>>
+    ensures reads { Gives result (widened (ddl_refusal file.now) (schema_of bytes.now)) }
     ensures rules { IfOk result (λ schema. schema.rules ≡ []) }
 {
     match read_schema(alloc, bytes.as_slice()) {
         Ok(schema) => Ok(Shared::new(alloc, schema)?),
-        Err(DdlError::Fault(fault)) => {
+        Err(Failure::Fault(fault)) => {
             let file = Str::new(alloc, file)?;
             Err(Stop::Refused(ddl_refusal(file, fault)))
         }
-        Err(DdlError::NoMemory) => Err(Stop::NoMemory),
+        Err(Failure::NoMemory) => Err(Stop::NoMemory),
     }
 }
 
@@ -67,17 +59,17 @@ fn policy_at(
     schema: &Shared<Schema>,
     bytes: &List<u8>,
 ) -> Result<Policy, Stop<Refusal>>
-    ensures reads { Gives result (or_refused (policy_refusal file.now) (policy_of schema.now bytes.now)) }
+    ensures reads { Gives result (widened (policy_refusal file.now) (policy_of schema.now bytes.now)) }
     ensures fits { IfOk result PolicyFits }
     ensures same { IfOk result (λ policy. policy.schema ≡ schema.now) }
 {
     match read_policy(alloc, schema, bytes.as_slice()) {
         Ok(policy) => Ok(policy),
-        Err(PolicyError::Fault(fault)) => {
+        Err(Failure::Fault(fault)) => {
             let file = Str::new(alloc, file)?;
             Err(Stop::Refused(policy_refusal(file, fault)))
         }
-        Err(PolicyError::NoMemory) => Err(Stop::NoMemory),
+        Err(Failure::NoMemory) => Err(Stop::NoMemory),
     }
 }
 
@@ -87,16 +79,16 @@ fn rows_at(
     table: &Table,
     bytes: &List<u8>,
 ) -> Result<List<Row>, Stop<Refusal>>
-    ensures reads { Gives result (or_refused (table_refusal file.now) (rows_of_file table.now bytes.now)) }
+    ensures reads { Gives result (widened (table_refusal file.now) (rows_of_file table.now bytes.now)) }
     ensures fit { IfOk result (All (RowFits table.now)) }
 {
-    match file::rows_of_file(alloc, table, bytes.as_slice()) {
+    match rows_of_file(alloc, table, bytes.as_slice()) {
         Ok(rows) => Ok(rows),
-        Err(TableError::Fault(fault)) => {
+        Err(Failure::Fault(fault)) => {
             let file = Str::new(alloc, file)?;
             Err(Stop::Refused(table_refusal(file, fault)))
         }
-        Err(TableError::NoMemory) => Err(Stop::NoMemory),
+        Err(Failure::NoMemory) => Err(Stop::NoMemory),
     }
 }
 
@@ -106,16 +98,16 @@ fn script_at(
     params: &List<Parameter>,
     bytes: &List<u8>,
 ) -> Result<Script, Stop<Refusal>>
-    ensures reads { Gives result (or_refused (script_refusal file.now) (script_of params.now bytes.now)) }
+    ensures reads { Gives result (widened (script_refusal file.now) (script_of params.now bytes.now)) }
     ensures script { IfOk result (IsScript params.now) }
 {
     match read_script(alloc, params, bytes.as_slice()) {
         Ok(script) => Ok(script),
-        Err(ScriptError::Fault(fault)) => {
+        Err(Failure::Fault(fault)) => {
             let file = Str::new(alloc, file)?;
             Err(Stop::Refused(script_refusal(file, fault)))
         }
-        Err(ScriptError::NoMemory) => Err(Stop::NoMemory),
+        Err(Failure::NoMemory) => Err(Stop::NoMemory),
     }
 }
 
@@ -128,15 +120,15 @@ fn checked_at(
 ) -> Result<Tables, Stop<Refusal>>
     requires fit { RowsOfTables schema.now.tables rows.tables }
     requires rules { schema.now.rules ≡ [] }
-    ensures { Gives result (or_refused (broken_refusal set.now schema.now) (checked schema.now rows)) }
+    ensures { Gives result (widened (broken_refusal set.now schema.now) (checked schema.now rows)) }
 {
     match Tables::check(alloc, schema, rows) {
         Ok(tables) => Ok(tables),
-        Err(TablesError::Fault(fault)) => {
+        Err(Failure::Fault(fault)) => {
             let refusal = broken_refusal(alloc, set, schema, fault)?;
             Err(Stop::Refused(refusal))
         }
-        Err(TablesError::NoMemory) => Err(Stop::NoMemory),
+        Err(Failure::NoMemory) => Err(Stop::NoMemory),
     }
 }
 
@@ -150,7 +142,7 @@ fn read_table<F: Files>(
     ensures fit { IfOk result (All (RowFits table.now)) }
 {
     let name = path(alloc, set, table.name.as_str())?;
-    let bytes = read_file(alloc, files, name.as_str(), MAX_BYTES)?;
+    let bytes = read_file(alloc, files, name.as_str(), MAX_FILE_BYTES)?;
     rows_at(alloc, name.as_str(), table, &bytes)
 }
 
@@ -201,7 +193,7 @@ fn read_rest<F: Files>(
     ensures follows { Follows (script_plan name.now policy tables) (F.seen files.old) (F.seen files.new) result }
     ensures input { IfOk result IsInput }
 {
-    let bytes = read_file(alloc, files, name, MAX_BYTES)?;
+    let bytes = read_file(alloc, files, name, MAX_FILE_BYTES)?;
     let script = script_at(alloc, name, &policy.params, &bytes)?;
     Ok(Input {
         policy,
@@ -219,9 +211,9 @@ fn read_named<F: Files>(
         (F.seen files.old) (F.seen files.new) result }
     ensures input { IfOk result IsInput }
 {
-    let bytes = read_file(alloc, files, named.schema, MAX_BYTES)?;
+    let bytes = read_file(alloc, files, named.schema, MAX_FILE_BYTES)?;
     let schema = schema_at(alloc, named.schema, &bytes)?;
-    let text = read_file(alloc, files, named.policy, MAX_BYTES)?;
+    let text = read_file(alloc, files, named.policy, MAX_FILE_BYTES)?;
     let policy = policy_at(alloc, named.policy, &schema, &text)?;
     let tables = read_tables(alloc, files, named.tables, &schema)?;
     read_rest(alloc, files, named.script, policy, tables)
@@ -265,7 +257,7 @@ pub(crate) fn read_input<F: Files>(
 {
     match read_words(alloc, words) {
         Ok(command) => read_command(alloc, &command, files),
-        Err(WordsError::Words) => Err(Stop::Refused(Refusal::Words)),
-        Err(WordsError::NoMemory) => Err(Stop::NoMemory),
+        Err(Failure::Fault(WordsFault::NoForm)) => Err(Stop::Refused(Refusal::Words)),
+        Err(Failure::NoMemory) => Err(Stop::NoMemory),
     }
 }

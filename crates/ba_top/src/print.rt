@@ -9,10 +9,8 @@ use crate::summary::summary;
 use ba_model::Str;
 use ba_outside::{Sink, WriteFail};
 use ba_plan::send;
-use ba_wire::entry::{Script, ScriptEntry};
-use ba_wire::fault::{Fault, fault_text};
-use ba_wire::line::{Block, By as PrintedBy, Line, line_text};
-use ba_wire::summary::summary_text;
+use ba_script::{Script, ScriptEntry};
+use ba_wire::{Block, By as PrintedBy, Fault, Line, fault_text, line_text, summary_text};
 use std::alloc::{AllocError, Global};
 
 fn reply_line<'a>(request: &'a Str, line: u64, version: u32, reply: &'a Reply) -> Line<'a>

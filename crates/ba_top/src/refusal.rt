@@ -2,22 +2,18 @@
 ghost use Rattle.std.specs.Prelude.{◌≡◌, Err, IfOk, string_bytes};
 ghost use Rattle.ba_plan.specs.Follows.{Gives};
 ghost use Rattle.ba_top.specs.Path.{path_of};
-ghost use Rattle.ba_top.specs.Refusals.{broken_refusal, counted_as, ddl_refusal, file_of_table, kept_as, lex_fault, policy_refusal, schema_fault, script_refusal, table_refusal, text_fault};
+ghost use Rattle.ba_top.specs.Refusals.{broken_refusal, ddl_refusal, file_of_table, lex_fault, policy_refusal, schema_fault, script_refusal, table_refusal, text_fault};
 
 use crate::report::Refusal;
 use ba_lex::LexFault;
-use ba_model::{Counted, Schema, SchemaFault, Str};
-use ba_policy::{Kept, PolicyFault};
+use ba_model::{Counted, MAX_TEXT_BYTES, Schema, SchemaFault, Str};
+use ba_policy::PolicyFault;
+use ba_script::ScriptFault;
 use ba_sql_ddl::DdlFault;
 use ba_sql_query::ReadQueryFault;
-use ba_tables::broken::TablesFault;
-use ba_tables::fault::TableFault;
-use ba_wire::entry::ScriptFault;
-use ba_wire::fault::{Reason, What};
+use ba_tables::{TableFault, TablesFault};
+use ba_wire::Reason;
 use std::alloc::{AllocError, Global};
-
-/// The most bytes of a schema and of a policy.
-pub const MAX_TEXT: u64 = 1_048_576;
 
 fn text_fault(file: Str, fault: ReadQueryFault) -> Refusal
     ensures { result ≡ text_fault file fault }
@@ -33,21 +29,10 @@ fn lex_fault(file: Str, fault: LexFault) -> Refusal
 {
     match fault {
         LexFault::TooLong => Refusal::Limit {
-            what: What::Bytes,
-            limit: MAX_TEXT,
+            what: Counted::TextBytes,
+            limit: MAX_TEXT_BYTES as u64,
         },
         _ => text_fault(file, ReadQueryFault::Lex(fault)),
-    }
-}
-
-fn counted_as(what: Counted) -> What
-    ensures { result ≡ counted_as what }
-{
-    match what {
-        Counted::Tables => What::Tables,
-        Counted::Columns => What::Columns,
-        Counted::Keys => What::Keys,
-        Counted::Links => What::Links,
     }
 }
 
@@ -62,10 +47,7 @@ fn schema_fault(file: Str, fault: SchemaFault) -> Refusal
         SchemaFault::UnknownTable => return text_fault(file, ReadQueryFault::UnknownTable),
         SchemaFault::UnknownColumn => return text_fault(file, ReadQueryFault::UnknownColumn),
         SchemaFault::KindDiffers => return text_fault(file, ReadQueryFault::KindDiffers),
-        SchemaFault::TooMany { what, limit } => {
-            let what = counted_as(what);
-            return Refusal::Limit { what, limit };
-        }
+        SchemaFault::TooMany { what, limit } => return Refusal::Limit { what, limit },
     };
     Refusal::Input { file, reason }
 }
@@ -87,15 +69,6 @@ pub(crate) fn ddl_refusal(file: Str, fault: DdlFault) -> Refusal
     }
 }
 
-fn kept_as(what: Kept) -> What
-    ensures { result ≡ kept_as what }
-{
-    match what {
-        Kept::Views => What::Views,
-        Kept::Params => What::Params,
-    }
-}
-
 /// A policy's fault.
 #[tactic(auto, unfolding(crate::specs::Refusals::policy_refusal))]
 pub(crate) fn policy_refusal(file: Str, fault: PolicyFault) -> Refusal
@@ -107,10 +80,7 @@ pub(crate) fn policy_refusal(file: Str, fault: PolicyFault) -> Refusal
         PolicyFault::DuplicateParam(name) => Reason::DuplicateParam { name },
         PolicyFault::DuplicateView(name) => Reason::DuplicateView { name },
         PolicyFault::View(name, fault) => Reason::View { name, fault },
-        PolicyFault::TooMany { what, limit } => {
-            let what = kept_as(what);
-            return Refusal::Limit { what, limit };
-        }
+        PolicyFault::TooMany { what, limit } => return Refusal::Limit { what, limit },
     };
     Refusal::Input { file, reason }
 }
@@ -126,7 +96,7 @@ pub(crate) fn table_refusal(file: Str, fault: TableFault) -> Refusal
         TableFault::BadUtf8(row) => Reason::Utf8 { row },
         TableFault::BadNumber(row, column) => Reason::Number { row, column },
         TableFault::TooMany(limit) => {
-            let what = What::Rows;
+            let what = Counted::Rows;
             return Refusal::Limit { what, limit };
         }
     };

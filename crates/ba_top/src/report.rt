@@ -1,11 +1,11 @@
 //! What a run reads, does and answers.
 
 use ba_direct::Cover;
-use ba_model::{List, Policy, Query, Row, Str};
+use ba_model::{Counted, List, Policy, Query, Row, Str};
+use ba_script::Script;
 use ba_sql_query::ReadQueryFault;
-use ba_tables::tables::Tables;
-use ba_wire::entry::Script;
-use ba_wire::fault::{Reason, What};
+use ba_tables::Tables;
+use ba_wire::Reason;
 
 /// What the words name, once it is read.
 #[derive(Debug, Drop)]
@@ -78,7 +78,7 @@ pub enum Refusal {
     /// A file without a reading, or one whose rows break a key or a link.
     Input { file: Str, reason: Reason },
     /// A count of a file above its limit.
-    Limit { what: What, limit: u64 },
+    Limit { what: Counted, limit: u64 },
 }
 
 /// How a run ended.
@@ -97,7 +97,7 @@ pub enum Detail {
     /// Want of memory.
     Memory,
     /// A count above its limit.
-    Limit { what: What, limit: u64 },
+    Limit { what: Counted, limit: u64 },
 }
 
 /// What the top call answers: the exit status, its cause, and the journal where lines were answered.

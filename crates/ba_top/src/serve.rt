@@ -12,11 +12,11 @@ use crate::report::{By, Entry, Input, Journal, Reply, Why};
 use ba_comply::laws::answer_everywhere;
 use ba_direct::cover;
 use ba_eval::answer;
-use ba_model::{Context, Duplicate, List, Query, Str};
+use ba_model::{Context, Duplicate, Failure, List, Query, Str};
 use ba_outside::Gate;
+use ba_script::ScriptEntry;
 use ba_sql_query::laws::query_reading;
-use ba_sql_query::{ReadQueryError, read_query};
-use ba_wire::entry::ScriptEntry;
+use ba_sql_query::read_query;
 use std::alloc::{AllocError, Global};
 
 // Answers the query where it is covered, and else blocks it.
@@ -67,8 +67,8 @@ fn reply_to(alloc: Global, input: &Input, context: &Context, text: &Str) -> Repl
             Ok(reply) => reply,
             Err(_) => Reply::NoMemory,
         },
-        Err(ReadQueryError::Fault(fault)) => Reply::Unread(fault),
-        Err(ReadQueryError::NoMemory) => Reply::NoMemory,
+        Err(Failure::Fault(fault)) => Reply::Unread(fault),
+        Err(Failure::NoMemory) => Reply::NoMemory,
     }
 }
 

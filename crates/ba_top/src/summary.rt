@@ -5,7 +5,7 @@ ghost use Rattle.ba_top.specs.Legal.{is_memory, lacks_memory};
 ghost use Rattle.ba_top.specs.Text.{is_answer, is_begin, is_block, is_unread, more, row_count, summary_of, with_entry};
 
 use crate::report::{Entry, Journal, Reply};
-use ba_wire::summary::Summary;
+use ba_wire::Summary;
 
 #[tactic(auto, unfolding(crate::specs::Text::is_begin))]
 fn is_begin(entry: &Entry) -> bool

@@ -1,21 +1,22 @@
 //! The top call.
 ghost use Rattle.std.specs.Prelude.{◌≡◌, ◌⊎◌, List, ℕ, length, map, string_bytes, IfSome};
+ghost use Rattle.ba_model.specs.declared.limits.Counted.{Counted};
 ghost use Rattle.ba_outside.specs.Causes.{Rose};
 ghost use Rattle.ba_plan.specs.Ends.{AsksFront, FailedAt};
 ghost use Rattle.ba_plan.specs.Plan.{names_of, outcome_of};
 ghost use Rattle.ba_top.specs.Causes.{IsLimit, Tells, settled};
 ghost use Rattle.ba_top.specs.Ran.{EndsFault, EndsRun, EndsStop, Ran, Served, detail_of, status_of};
 ghost use Rattle.ba_top.specs.Reading.{plan_of};
-ghost use Rattle.ba_wire.specs.declared.fault.What.{What};
 
 use crate::input::read_input;
 use crate::print::{print, print_fault};
 use crate::report::{Detail, Input, Journal, Outcome, Refusal};
 use crate::serve::serve;
 use crate::summary::has_memory_line;
+use ba_model::Counted;
 use ba_outside::{Files, Gate, Sink, WriteFail};
 use ba_plan::Stop;
-use ba_wire::fault::{Fault, What};
+use ba_wire::Fault;
 use std::alloc::Global;
 
 fn status(detail: &Detail) -> u8
@@ -83,7 +84,7 @@ fn end_stop<S: Sink>(alloc: Global, stop: Stop<Refusal>, sink: &mut S) -> Detail
         },
         Stop::Read(file) => end_fault(alloc, Fault::Read { file }, sink),
         Stop::TooLong(_, limit) => {
-            let what = What::Bytes;
+            let what = Counted::FileBytes;
             end_fault(alloc, Fault::Limit { what, limit }, sink)
         }
         Stop::NoMemory => Detail::Memory,
@@ -138,7 +139,7 @@ pub fn blockaid<F: Files, S: Sink, G: Gate + Sync>(
     // A read fault names the last name asked for, and the files' count rose.
     ensures read { (file : List ℕ) → result.detail ≡ Detail.Read file → FailedAt file (F.seen files.old) (F.seen files.new) }
     // A count above its limit is one of what was read, or of the bytes of the last name asked for.
-    ensures limit { (what : What) (limit : ℕ) → result.detail ≡ Detail.Limit what limit
+    ensures limit { (what : Counted) (limit : ℕ) → result.detail ≡ Detail.Limit what limit
         → IsLimit (map string_bytes words.now) what limit (F.seen files.old) (F.seen files.new) }
     // A write fault comes only where the sink's count rose.
     ensures write { result.detail ≡ Detail.Write → Rose (S.seen sink.old).faults (S.seen sink.new).faults }

@@ -3,12 +3,12 @@
 use super::cases::{Reading, Told, all_are_so};
 use ba_lex::LexFault;
 use ba_model::{Counted, SchemaFault, Str};
-use ba_policy::{Kept, PolicyFault};
+use ba_policy::PolicyFault;
+use ba_script::ScriptFault;
 use ba_sql_ddl::DdlFault;
 use ba_sql_query::ReadQueryFault;
 use ba_tables::{TableFault, TablesFault};
-use ba_wire::entry::ScriptFault;
-use ba_wire::fault::{Fault, Reason, What, fault_text};
+use ba_wire::{Fault, Reason, fault_text};
 use std::alloc::Global;
 use std::test::Fail;
 
@@ -35,7 +35,7 @@ pub(super) fn write_reason(alloc: Global, reason: Reason, told: &mut String) -> 
 }
 
 /// Writes the whole fault line.
-fn write_limit(alloc: Global, what: What, limit: u64, told: &mut String) -> Told {
+fn write_limit(alloc: Global, what: Counted, limit: u64, told: &mut String) -> Told {
     write_line(alloc, &Fault::Limit { what, limit }, told)
 }
 
@@ -50,17 +50,8 @@ pub(super) fn write_lex_fault(alloc: Global, fault: LexFault, told: &mut String)
 /// The fault of a file without tokens.
 fn write_file_fault(alloc: Global, fault: LexFault, told: &mut String) -> Told {
     match fault {
-        LexFault::TooLong => write_limit(alloc, What::Bytes, 1_048_576, told),
+        LexFault::TooLong => write_limit(alloc, Counted::TextBytes, 1_048_576, told),
         _ => write_lex_fault(alloc, fault, told),
-    }
-}
-
-fn counted(what: Counted) -> What {
-    match what {
-        Counted::Tables => What::Tables,
-        Counted::Columns => What::Columns,
-        Counted::Keys => What::Keys,
-        Counted::Links => What::Links,
     }
 }
 
@@ -84,7 +75,7 @@ fn schema_reason(fault: SchemaFault) -> Reason {
 
 fn write_schema_fault(alloc: Global, fault: SchemaFault, told: &mut String) -> Told {
     match fault {
-        SchemaFault::TooMany { what, limit } => write_limit(alloc, counted(what), limit, told),
+        SchemaFault::TooMany { what, limit } => write_limit(alloc, what, limit, told),
         _ => write_reason(alloc, schema_reason(fault), told),
     }
 }
@@ -114,11 +105,7 @@ pub(super) fn write_policy_fault(alloc: Global, fault: PolicyFault, told: &mut S
             write_reason(alloc, Reason::DuplicateView { name }, told)
         }
         PolicyFault::View(name, fault) => write_reason(alloc, Reason::View { name, fault }, told),
-        PolicyFault::TooMany { what, limit } => {
-            let views = what == Kept::Views;
-            let what = if views { What::Views } else { What::Params };
-            write_limit(alloc, what, limit, told)
-        }
+        PolicyFault::TooMany { what, limit } => write_limit(alloc, what, limit, told),
     }
 }
 
@@ -130,7 +117,7 @@ pub(super) fn write_table_fault(alloc: Global, fault: TableFault, told: &mut Str
         TableFault::BadNumber(row, column) => {
             write_reason(alloc, Reason::Number { row, column }, told)
         }
-        TableFault::TooMany(limit) => write_limit(alloc, What::Rows, limit, told),
+        TableFault::TooMany(limit) => write_limit(alloc, Counted::Rows, limit, told),
     }
 }
 

@@ -4,8 +4,7 @@ use super::cases::Told;
 use ba_lex::LexFault;
 use ba_model::{List, Row, Str, Value};
 use ba_sql_query::ReadQueryFault;
-use ba_wire::line::{Block, By, Line, line_text};
-use ba_wire::summary::{Summary, summary_text};
+use ba_wire::{Block, By, Line, Summary, line_text, summary_text};
 use std::alloc::{AllocError, Global};
 use std::test::Fail;
 

@@ -3,10 +3,10 @@
 use super::cases::{Reading, Told, all_are_so, bytes_of, write_value};
 use super::faults::write_script_fault;
 use super::standard::policy_of;
-use ba_model::Context;
-use ba_wire::entry::{ScriptEntry, ScriptError};
-use ba_wire::read::read_script;
-use ba_wire::script::{Given, LineError, LineReason, Member, ScriptLine, read_line};
+use ba_model::{Context, Failure};
+use ba_script::{
+    Given, LineFault, Member, ScriptEntry, ScriptLine, read_line, read_script,
+};
 use std::alloc::{AllocError, Global};
 use std::fmt::Write;
 use std::test::Fail;
@@ -47,9 +47,10 @@ impl Reading for Lines {
             }
             Ok(ScriptLine::Ask { ask, query }) => write!(told, "ask {ask}: {query}"),
             Ok(ScriptLine::End { end }) => write!(told, "end {end}"),
-            Err(LineError::NoMemory) => Err(AllocError),
-            Err(LineError::Bad(LineReason::Json)) => told.push_str("json"),
-            Err(LineError::Bad(LineReason::Shape)) => told.push_str("shape"),
+            Err(Failure::NoMemory) => Err(AllocError),
+            Err(Failure::Fault(LineFault::Json)) => told.push_str("json"),
+            Err(Failure::Fault(LineFault::Shape)) => told.push_str("shape"),
+            Err(Failure::Fault(_)) => told.push_str("no line's fault"),
         }
     }
 }
@@ -159,8 +160,8 @@ impl Reading for Scripts {
         let policy = policy_of(alloc, "", "PARAM Name TEXT; PARAM MyUId INT;")?;
         match read_script(alloc, &policy.params, bytes.as_slice()) {
             Ok(script) => write_entries(told, script.entries.as_slice()),
-            Err(ScriptError::NoMemory) => Err(AllocError),
-            Err(ScriptError::Fault(fault)) => write_script_fault(alloc, fault, told),
+            Err(Failure::NoMemory) => Err(AllocError),
+            Err(Failure::Fault(fault)) => write_script_fault(alloc, fault, told),
         }
     }
 }
