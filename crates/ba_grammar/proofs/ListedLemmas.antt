@@ -30,7 +30,7 @@ abbrev put_all : {X : Type 0} → X → List X → Result (List X) Syntax
 put_all x ys = Ok (x ∷ ys)
 
 abbrev and_more : {X : Type 0} → (List Lexeme → Read X) → ℕ → X × List Lexeme → Read (List X)
-and_more item fuel x = more item fuel x.1 >>= put x.0
+and_more item fuel x = more (is_sign Comma) item fuel x.1 >>= put x.0
 
 abbrev and_all : {X : Type 0} → (List Lexeme → Read X) → ℕ → X × List Lexeme → Result (List X) Syntax
 and_all item fuel x = all item fuel x.1 >>= put_all x.0
@@ -52,9 +52,9 @@ module _ {X : Type 0} (item : List Lexeme → Read X) (items_of : X → List Ite
   }
 
   abbrev SoundBelow : ℕ → Type 0
-  SoundBelow fuel = (words rest : List Lexeme) (xs : List X) → more item fuel words ≡ Ok (xs, rest) → ReadsMore items_of P words rest xs
+  SoundBelow fuel = (words rest : List Lexeme) (xs : List X) → more (is_sign Comma) item fuel words ≡ Ok (xs, rest) → ReadsMore items_of P words rest xs
 
-  pub more_sound : IsSound item items_of P → (fuel : ℕ) (words rest : List Lexeme) (xs : List X) → more item fuel words ≡ Ok (xs, rest) → ReadsMore items_of P words rest xs
+  pub more_sound : IsSound item items_of P → (fuel : ℕ) (words rest : List Lexeme) (xs : List X) → more (is_sign Comma) item fuel words ≡ Ok (xs, rest) → ReadsMore items_of P words rest xs
   unfolding more
   more_sound sound zero words rest xs e = nothing_more words rest xs e
   more_sound sound (suc fuel) [] rest xs e = nothing_more [] rest xs e
@@ -63,7 +63,7 @@ module _ {X : Type 0} (item : List Lexeme → Read X) (items_of : X → List Ite
       taken : is_sign Comma c ≡ true → ((item cs >>= and_more item fuel) ≡ Ok (xs, rest)) → SoundBelow fuel → ReadsMore items_of P (c ∷ cs) rest xs
       taken comma f below =
           let a = bind_ok (item cs) (and_more item fuel) (xs, rest) f in
-          let b = bind_ok (more item fuel a.0.1) (put a.0.0) (xs, rest) a.2 in
+          let b = bind_ok (more (is_sign Comma) item fuel a.0.1) (put a.0.0) (xs, rest) a.2 in
           let s = sound cs a.0.1 a.0.0 a.1 in
           let r = below a.0.1 b.0.1 b.0.0 b.1 in
           subst (λ (p : List X × List Lexeme). ReadsMore items_of P (c ∷ cs) p.1 p.0) (ok_same (a.0.0 ∷ b.0.0, b.0.1) (xs, rest) b.2) (one_more c cs a.0.1 b.0.1 a.0.0 b.0.0 comma s.0 s.1 r)
@@ -72,7 +72,7 @@ module _ {X : Type 0} (item : List Lexeme → Read X) (items_of : X → List Ite
       at true h below = taken h (rw h at e) below
       at false h below = nothing_more (c ∷ cs) rest xs (rw h at e)
 
-  pub more_complete : IsComplete item items_of P → (xs : List X) (fuel : ℕ) (words rest : List Lexeme) → length xs ≤ fuel → Takes (after_commas (map items_of xs)) words rest → AllByRecursion P xs → begins (is_sign Comma) rest ≡ false → more item fuel words ≡ Ok (xs, rest)
+  pub more_complete : IsComplete item items_of P → (xs : List X) (fuel : ℕ) (words rest : List Lexeme) → length xs ≤ fuel → Takes (after_commas (map items_of xs)) words rest → AllByRecursion P xs → begins (is_sign Comma) rest ≡ false → more (is_sign Comma) item fuel words ≡ Ok (xs, rest)
   unfolding more
   more_complete complete [] zero words rest le t ps stop = ap (λ (r : List Lexeme). Ok ([], r)) t
   more_complete complete [] (suc fuel) words rest le t ps stop = rw t (rw stop refl)
@@ -95,10 +95,10 @@ some_of : {X : Type 0} (x : X) (xs : List X) → x ∷ xs ≢ []
 some_of x xs e = cc
 
 module _ {X : Type 0} (item : List Lexeme → Read X) (items_of : X → List Item) (P : X → Type 0) where
-  pub listed_sound : IsSound item items_of P → (words rest : List Lexeme) (xs : List X) → listed item words ≡ Ok (xs, rest) → ReadsListed items_of P words rest xs
+  pub listed_sound : IsSound item items_of P → (words rest : List Lexeme) (xs : List X) → listed (is_sign Comma) item words ≡ Ok (xs, rest) → ReadsListed items_of P words rest xs
   listed_sound sound words rest xs e =
       let a = bind_ok (item words) (and_more item (length words)) (xs, rest) e in
-      let b = bind_ok (more item (length words) a.0.1) (put a.0.0) (xs, rest) a.2 in
+      let b = bind_ok (more (is_sign Comma) item (length words) a.0.1) (put a.0.0) (xs, rest) a.2 in
       let s = sound words a.0.1 a.0.0 a.1 in
       let r = more_sound item items_of P sound (length words) a.0.1 b.0.1 b.0.0 b.1 in
       subst (λ (p : List X × List Lexeme). ReadsListed items_of P words p.1 p.0) (ok_same (a.0.0 ∷ b.0.0, b.0.1) (xs, rest) b.2) (record {
@@ -107,7 +107,7 @@ module _ {X : Type 0} (item : List Lexeme → Read X) (items_of : X → List Ite
         each = (s.1, r.each);
       })
 
-  pub listed_complete : IsComplete item items_of P → (words rest : List Lexeme) (xs : List X) → ReadsListed items_of P words rest xs → begins (is_sign Comma) rest ≡ false → listed item words ≡ Ok (xs, rest)
+  pub listed_complete : IsComplete item items_of P → (words rest : List Lexeme) (xs : List X) → ReadsListed items_of P words rest xs → begins (is_sign Comma) rest ≡ false → listed (is_sign Comma) item words ≡ Ok (xs, rest)
   listed_complete complete words rest [] r stop = absurd (r.some refl)
   listed_complete complete words rest (x ∷ xs) r stop =
       let p = parts (items_of x) (after_commas (map items_of xs)) words rest r.takes in

@@ -1,61 +1,60 @@
 -- Several of one sort, one after the other, as the loops read them.
-use Rattle.std.proofs.Common.{◌≡◌, ℕ, suc, ◌+◌, ◌-◌, ◌<◌, ◌≤◌, true, false, List, [], ◌∷◌, ◌++◌, length, drop, Result, Ok, Err, refl, sym, ap, ◌∙◌, append_assoc, arith}
+use Rattle.std.proofs.Common.{◌≡◌, ℕ, suc, ◌+◌, ◌-◌, ◌<◌, ◌≤◌, Bool, true, false, List, [], ◌∷◌, ◌++◌, length, drop, Result, Ok, Err, refl, sym, ap, ◌∙◌, append_assoc, arith}
 use Rattle.std.proofs.lemmas.List.{append-nil, nil_from_length}
 use Rattle.ba_lex.specs.declared.token.Lexeme.{Lexeme}
-use Rattle.ba_lex.specs.declared.token.Sign.TheVariants.{Comma}
 use Rattle.ba_model.specs.Readings.{◌>>=◌, Fails}
-use Rattle.ba_grammar.specs.Front.{Read, all, begins, is_sign, listed, more, syntax}
+use Rattle.ba_grammar.specs.Front.{Read, ReadOf, all, begins, listed, more, syntax}
 use Rattle.ba_model.specs.declared.failure.Failure.{Failure}
 use Rattle.ba_model.specs.declared.failure.Failure.TheVariants.{NoMemory, Fault}
 use Rattle.ba_grammar.specs.declared.error.Syntax.{Syntax}
 
 -- ---- behind commas
 
-abbrev pub onto : {X : Type 0} → List X → Read (List X) → Read (List X)
+abbrev pub onto : {W X : Type 0} → List X → ReadOf W (List X) → ReadOf W (List X)
 onto found read = read >>= λ y. Ok (found ++ y.0, y.1)
 
-onto_more : {X : Type 0} (found : List X) (x : X) (read : Read (List X)) → onto found (read >>= λ y. Ok (x ∷ y.0, y.1)) ≡ onto (found ++ x ∷ []) read
+pub onto_more : {W X : Type 0} (found : List X) (x : X) (read : ReadOf W (List X)) → onto found (read >>= λ y. Ok (x ∷ y.0, y.1)) ≡ onto (found ++ x ∷ []) read
 onto_more found x (Ok y) = ap (λ ys. Ok (ys, y.1)) (simp append_assoc)
 onto_more found x (Err e) = refl
 
 -- where a loop is: what it found, and what the words that are left give
-pub record At {X : Type 0} (item : List Lexeme → Read X) (most i : ℕ) (found : List X) (rest : List Lexeme) (total : Read (List X)) : Type 0 where
-  pub so_far : onto found (more item (most - i) rest) ≡ total
+pub record At {W X : Type 0} (comma : W → Bool) (item : List W → ReadOf W X) (most i : ℕ) (found : List X) (rest : List W) (total : ReadOf W (List X)) : Type 0 where
+  pub so_far : onto found (more comma item (most - i) rest) ≡ total
 
-pub one_read : {X : Type 0} (item : List Lexeme → Read X) (words behind : List Lexeme) (x : X) (found : List X) → item words ≡ Ok (x, behind) → found ≡ [] ++ x ∷ [] → At item (length words) 0 found behind (listed item words)
-one_read item words behind x found e f =
+pub one_read : {W X : Type 0} (comma : W → Bool) (item : List W → ReadOf W X) (words behind : List W) (x : X) (found : List X) → item words ≡ Ok (x, behind) → found ≡ [] ++ x ∷ [] → At comma item (length words) 0 found behind (listed comma item words)
+one_read comma item words behind x found e f =
     let fuel : length words - 0 ≡ length words = omega arith in
     record { so_far = rw (f, fuel, e) refl }
 
-none_read : {X : Type 0} (item : List Lexeme → Read X) (words : List Lexeme) (e : Failure Syntax) → Fails e (item words) → Fails e (listed item words)
-none_read item words NoMemory h = tt
-none_read item words (Fault f) h = rw h refl
+none_read : {W X : Type 0} (comma : W → Bool) (item : List W → ReadOf W X) (words : List W) (e : Failure Syntax) → Fails e (item words) → Fails e (listed comma item words)
+none_read comma item words NoMemory h = tt
+none_read comma item words (Fault f) h = rw h refl
 
-pub first_fails : {X : Type 0} (item : List Lexeme → Read X) (words : List Lexeme) (e : Failure Syntax) → Fails e (item words) → Fails e (listed item words)
-first_fails item words e h = none_read item words e h
+pub first_fails : {W X : Type 0} (comma : W → Bool) (item : List W → ReadOf W X) (words : List W) (e : Failure Syntax) → Fails e (item words) → Fails e (listed comma item words)
+first_fails comma item words e h = none_read comma item words e h
 
 split : (most i : ℕ) → i < most → most - i ≡ suc (most - (i + 1))
 split most i lt = omega arith
 
-pub stops : {X : Type 0} (item : List Lexeme → Read X) (most i : ℕ) (found : List X) (rest : List Lexeme) (total : Read (List X)) → At item most i found rest total → i < most → begins (is_sign Comma) rest ≡ false → total ≡ Ok (found, rest)
+pub stops : {W X : Type 0} (comma : W → Bool) (item : List W → ReadOf W X) (most i : ℕ) (found : List X) (rest : List W) (total : ReadOf W (List X)) → At comma item most i found rest total → i < most → begins comma rest ≡ false → total ≡ Ok (found, rest)
 unfolding more
-stops item most i found rest total at lt e = sym (rw (split most i lt, e) at at.so_far) ∙ ap (λ ys. Ok (ys, rest)) (append-nil found)
+stops comma item most i found rest total at lt e = sym (rw (split most i lt, e) at at.so_far) ∙ ap (λ ys. Ok (ys, rest)) (append-nil found)
 
-pub goes_on : {X : Type 0} (item : List Lexeme → Read X) (most i : ℕ) (found found2 : List X) (rest behind : List Lexeme) (x : X) (total : Read (List X)) → At item most i found rest total → i < most → begins (is_sign Comma) rest ≡ true
-    → item (drop 1 rest) ≡ Ok (x, behind) → found2 ≡ found ++ x ∷ [] → At item most (i + 1) found2 behind total
+pub goes_on : {W X : Type 0} (comma : W → Bool) (item : List W → ReadOf W X) (most i : ℕ) (found found2 : List X) (rest behind : List W) (x : X) (total : ReadOf W (List X)) → At comma item most i found rest total → i < most → begins comma rest ≡ true
+    → item (drop 1 rest) ≡ Ok (x, behind) → found2 ≡ found ++ x ∷ [] → At comma item most (i + 1) found2 behind total
 unfolding more
-goes_on item most i found found2 rest behind x total at lt e read f =
-    record { so_far = rw f (sym (onto_more found x (more item (most - (i + 1)) behind)) ∙ rw (split most i lt, e, read) at at.so_far) }
+goes_on comma item most i found found2 rest behind x total at lt e read f =
+    record { so_far = rw f (sym (onto_more found x (more comma item (most - (i + 1)) behind)) ∙ rw (split most i lt, e, read) at at.so_far) }
 
-pub fails : {X : Type 0} (item : List Lexeme → Read X) (most i : ℕ) (found : List X) (rest : List Lexeme) (total : Read (List X)) (err : Failure Syntax) → At item most i found rest total → i < most → begins (is_sign Comma) rest ≡ true
+pub fails : {W X : Type 0} (comma : W → Bool) (item : List W → ReadOf W X) (most i : ℕ) (found : List X) (rest : List W) (total : ReadOf W (List X)) (err : Failure Syntax) → At comma item most i found rest total → i < most → begins comma rest ≡ true
     → Fails err (item (drop 1 rest)) → Fails err total
 unfolding more
-fails item most i found rest total NoMemory at lt e h = tt
-fails item most i found rest total (Fault f) at lt e h = sym (rw (split most i lt, e, h) at at.so_far)
+fails comma item most i found rest total NoMemory at lt e h = tt
+fails comma item most i found rest total (Fault f) at lt e h = sym (rw (split most i lt, e, h) at at.so_far)
 
-pub over : {X : Type 0} (item : List Lexeme → Read X) (most i : ℕ) (found : List X) (rest : List Lexeme) (total : Read (List X)) → At item most i found rest total → most ≤ i → total ≡ Ok (found, rest)
+pub over : {W X : Type 0} (comma : W → Bool) (item : List W → ReadOf W X) (most i : ℕ) (found : List X) (rest : List W) (total : ReadOf W (List X)) → At comma item most i found rest total → most ≤ i → total ≡ Ok (found, rest)
 unfolding more
-over item most i found rest total at le =
+over comma item most i found rest total at le =
     let fuel : most - i ≡ 0 = omega arith in
     sym (rw fuel at at.so_far) ∙ ap (λ ys. Ok (ys, rest)) (append-nil found)
 

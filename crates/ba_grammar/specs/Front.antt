@@ -4,7 +4,6 @@ use Rattle.ba_lex.specs.Word.{is_word}
 use Rattle.ba_lex.specs.declared.token.Lexeme.{Lexeme}
 use Rattle.ba_lex.specs.declared.token.Lexeme.TheVariants.{Word, Quoted, Number, Text, Param, Sign as SignWord}
 use Rattle.ba_lex.specs.declared.token.Sign.{Sign}
-use Rattle.ba_lex.specs.declared.token.Sign.TheVariants.{Comma}
 use Rattle.ba_model.specs.Readings.{◌>>=◌}
 use Rattle.ba_grammar.specs.Items.{is_among, sign_number}
 use Rattle.ba_grammar.specs.declared.error.Syntax.{Syntax}
@@ -13,8 +12,11 @@ abbrev pub syntax : Syntax
 syntax = record {}
 
 -- what was read, and the words behind it
+abbrev pub ReadOf : Type 0 → Type 0 → Type 0
+ReadOf W A = Result (A × List W) Syntax
+
 abbrev pub Read : Type 0 → Type 0
-Read A = Result (A × List Lexeme) Syntax
+Read A = ReadOf Lexeme A
 
 -- ---- one word
 
@@ -34,14 +36,19 @@ word_of (Text t) = None
 word_of (Param p) = None
 word_of (SignWord s) = None
 
-abbrev pub begins : (Lexeme → Bool) → List Lexeme → Bool
+abbrev pub begins : {W : Type 0} → (W → Bool) → List W → Bool
 begins test [] = false
 begins test (x ∷ xs) = test x
 
 -- the words behind the first, which passes the test
-abbrev pub past : (Lexeme → Bool) → List Lexeme → Result (List Lexeme) Syntax
+abbrev pub past : {W : Type 0} → (W → Bool) → List W → Result (List W) Syntax
 past test [] = Err syntax
 past test (x ∷ xs) = if test x then Ok xs else Err syntax
+
+-- without the first, if it passes the test
+abbrev pub skip : {W : Type 0} → (W → Bool) → List W → List W
+skip test [] = []
+skip test (x ∷ xs) = if test x then xs else x ∷ xs
 
 abbrev pub is_sign : Sign → Lexeme → Bool
 is_sign s (SignWord t) = sign_number t == sign_number s
@@ -91,15 +98,15 @@ number_at (x ∷ xs) = number_of x xs
 -- ---- several, of which item reads one; there are at most fuel of them
 
 -- those behind commas
-unfoldable pub more : {X : Type 0} → (List Lexeme → Read X) → ℕ → List Lexeme → Read (List X)
-more item zero words = Ok ([], words)
-more item (suc fuel) words =
-    if begins (is_sign Comma) words then (item (drop 1 words) >>= λ x. (more item fuel x.1 >>= λ y. Ok (x.0 ∷ y.0, y.1)))
+unfoldable pub more : {W X : Type 0} → (W → Bool) → (List W → ReadOf W X) → ℕ → List W → ReadOf W (List X)
+more comma item zero words = Ok ([], words)
+more comma item (suc fuel) words =
+    if begins comma words then (item (drop 1 words) >>= λ x. (more comma item fuel x.1 >>= λ y. Ok (x.0 ∷ y.0, y.1)))
     else Ok ([], words)
 
 -- one, and those behind commas
-abbrev pub listed : {X : Type 0} → (List Lexeme → Read X) → List Lexeme → Read (List X)
-listed item words = item words >>= λ x. (more item (length words) x.1 >>= λ y. Ok (x.0 ∷ y.0, y.1))
+abbrev pub listed : {W X : Type 0} → (W → Bool) → (List W → ReadOf W X) → List W → ReadOf W (List X)
+listed comma item words = item words >>= λ x. (more comma item (length words) x.1 >>= λ y. Ok (x.0 ∷ y.0, y.1))
 
 -- one after the other, all of the words
 unfoldable pub all : {X : Type 0} → (List Lexeme → Read X) → ℕ → List Lexeme → Result (List X) Syntax

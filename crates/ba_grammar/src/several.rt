@@ -2,31 +2,31 @@
 ghost use Rattle.std.specs.Prelude.{◌≡◌, length};
 ghost use Rattle.ba_model.specs.Readings.{Gives, Sees};
 ghost use Rattle.ba_grammar.specs.Front.{all, listed};
+ghost use Rattle.ba_lex.specs.declared.token.Sign.TheVariants.{Comma};
 
 use crate::error::Syntax;
-use crate::word::begins_with_sign;
+use crate::sign::{Signed, begins_with_sign};
 use ba_lex::{Lexeme, Sign};
 use ba_model::{Failure, List};
 use std::alloc::Global;
 
 /// What a grammar reads at the front of words.
-pub trait Element: Drop {
-    ghost use Rattle.ba_lex.specs.declared.token.Lexeme.{Lexeme as Word};
-    ghost use Rattle.ba_grammar.specs.Front.{Read};
+pub trait Element<W>: Drop {
+    ghost use Rattle.ba_grammar.specs.Front.{ReadOf};
     ghost use Rattle.std.specs.Prelude.{List as Sequence};
 
-    ghost read_at: { Sequence Word → Read Self };
+    ghost read_at: { Sequence W → ReadOf W Self };
 
-    fn read(alloc: Global, words: &[Lexeme]) -> Result<(Self, &[Lexeme]), Failure<Syntax>>
+    fn read(alloc: Global, words: &[W]) -> Result<(Self, &[W]), Failure<Syntax>>
         ensures { Sees (λ x. (x.0, x.1.now)) result (read_at words.now) };
 }
 
 /// One or more, with commas between them, and the words behind.
-pub fn listed<T: Element>(
+pub fn listed<W: Signed, T: Element<W>>(
     alloc: Global,
-    words: &[Lexeme],
-) -> Result<(List<T>, &[Lexeme]), Failure<Syntax>>
-    ensures { Sees (λ x. (x.0, x.1.now)) result (listed T.read_at words.now) }
+    words: &[W],
+) -> Result<(List<T>, &[W]), Failure<Syntax>>
+    ensures { Sees (λ x. (x.0, x.1.now)) result (listed (W.sign_test Comma) T.read_at words.now) }
 {
     let (first, behind) = T::read(alloc, words)?;
     let mut found = List::new(alloc);
@@ -44,7 +44,7 @@ pub fn listed<T: Element>(
 }
 
 /// All of the words, one after the other; of no words none.
-pub fn all<T: Element>(alloc: Global, words: &[Lexeme]) -> Result<List<T>, Failure<Syntax>>
+pub fn all<T: Element<Lexeme>>(alloc: Global, words: &[Lexeme]) -> Result<List<T>, Failure<Syntax>>
     ensures { Gives result (all T.read_at (length words.now) words.now) }
 {
     let mut found = List::new(alloc);

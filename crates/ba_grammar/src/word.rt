@@ -4,7 +4,7 @@ ghost use Rattle.std.specs.List.{list_any};
 ghost use Rattle.ba_lex.specs.Word.{is_word};
 ghost use Rattle.ba_model.specs.Readings.{Sees};
 ghost use Rattle.ba_grammar.specs.Items.{is_among};
-ghost use Rattle.ba_grammar.specs.Front.{any_at, begins, is_keyword, is_sign, name_at, number_at, past};
+ghost use Rattle.ba_grammar.specs.Front.{begins, is_keyword, is_sign, name_at, number_at, past};
 
 use crate::error::Syntax;
 use ba_lex::{Lexeme, Sign, is_word};
@@ -42,15 +42,6 @@ pub fn is_keyword(word: &Lexeme, keyword: &str) -> bool
     }
 }
 
-pub fn begins_with_sign(words: &[Lexeme], sign: Sign) -> bool
-    ensures { result ≡ begins (is_sign sign) words.now }
-{
-    match words {
-        [] => false,
-        [first, ..] => is_sign(first, sign),
-    }
-}
-
 pub fn begins_with_keyword(words: &[Lexeme], keyword: &str) -> bool
     ensures { result ≡ begins (is_keyword keyword.now) words.now }
 {
@@ -60,31 +51,11 @@ pub fn begins_with_keyword(words: &[Lexeme], keyword: &str) -> bool
     }
 }
 
-pub fn past_sign(words: &[Lexeme], sign: Sign) -> Result<&[Lexeme], Failure<Syntax>>
-    ensures { Sees (λ rest. rest.now) result (past (is_sign sign) words.now) }
-{
-    match words {
-        [first, rest @ ..] if is_sign(first, sign) => Ok(rest),
-        _ => Err(Failure::Fault(Syntax)),
-    }
-}
-
 pub fn past_keyword<'a>(words: &'a [Lexeme], keyword: &str) -> Result<&'a [Lexeme], Failure<Syntax>>
     ensures { Sees (λ rest. rest.now) result (past (is_keyword keyword.now) words.now) }
 {
     match words {
         [first, rest @ ..] if is_keyword(first, keyword) => Ok(rest),
-        _ => Err(Failure::Fault(Syntax)),
-    }
-}
-
-/// Any word.
-#[tactic(auto, unfolding(crate::specs::Front::any_at))]
-pub fn any_word(alloc: Global, words: &[Lexeme]) -> Result<(Str, &[Lexeme]), Failure<Syntax>>
-    ensures { Sees (λ x. (x.0, x.1.now)) result (any_at words.now) }
-{
-    match words {
-        [Lexeme::Word(word), rest @ ..] => Ok((word.copy(alloc)?, rest)),
         _ => Err(Failure::Fault(Syntax)),
     }
 }

@@ -66,13 +66,13 @@ abbrev names_right : List (List ℕ) × List Lexeme → Read (List (List ℕ))
 names_right ns = past (is_sign RightParen) ns.1 >>= names_end ns.0
 
 abbrev names_left : List Lexeme → Read (List (List ℕ))
-names_left rest = listed ddl_name_at rest >>= names_right
+names_left rest = listed (is_sign Comma) ddl_name_at rest >>= names_right
 
 pub names_sound : (words : List Lexeme) (p : List (List ℕ) × List Lexeme) → names_at words ≡ Ok p → IsNamesRead words p
 unfolding names_at
 names_sound words p e =
     let a = bind_ok (past (is_sign LeftParen) words) names_left p e in
-    let b = bind_ok (listed ddl_name_at a.0) names_right p a.2 in
+    let b = bind_ok (listed (is_sign Comma) ddl_name_at a.0) names_right p a.2 in
     let c = bind_ok (past (is_sign RightParen) b.0.1) (names_end b.0.0) p b.2 in
     let read = listed_sound ddl_name_at name_items Always name_sound a.0 b.0.1 b.0.0 b.1 in
     let made : Takes (names_items b.0.0) words c.0 =
@@ -90,7 +90,7 @@ names_complete words rest ns t some =
     let r = p.2 in
     let names : ReadsListed name_items Always t.1 p.0 ns = record { some = some; takes = p.1; each = always ns } in
     let left_is : past (is_sign LeftParen) words ≡ Ok t.1 = past_sign LeftParen t.0 words t.1 t.2 t.3 in
-    let names_are : listed ddl_name_at t.1 ≡ Ok (ns, p.0) = listed_complete ddl_name_at name_items Always name_complete t.1 p.0 ns names (sign_no_comma r.0 p.0 r.1 r.2 r.3) in
+    let names_are : listed (is_sign Comma) ddl_name_at t.1 ≡ Ok (ns, p.0) = listed_complete ddl_name_at name_items Always name_complete t.1 p.0 ns names (sign_no_comma r.0 p.0 r.1 r.2 r.3) in
     let right_is : past (is_sign RightParen) p.0 ≡ Ok rest = past_sign RightParen r.0 p.0 rest (last_word r.0 p.0 r.1 rest r.2 r.4) r.3 in
     rw left_is (rw names_are (rw right_is refl))
 

@@ -6,14 +6,10 @@ use Rattle.ba_grammar.specs.Front.{Read, begins}
 use Rattle.ba_grammar.specs.declared.error.Syntax.{Syntax}
 use Rattle.ba_model.specs.declared.failure.Failure.{Failure}
 use Rattle.ba_model.specs.declared.failure.Failure.TheVariants.{NoMemory, Fault}
-use Rattle.ba_grammar.proofs.SeveralLemmas.{onto}
+use Rattle.ba_grammar.proofs.SeveralLemmas.{onto, onto_more}
 use Rattle.ba_lex.specs.declared.token.Lexeme.{Lexeme}
 use Rattle.ba_sql_ddl.specs.Reader.{is_rule_word, rule_at, rules_at}
 use Rattle.ba_sql_ddl.specs.declared.written.ColumnRule.{ColumnRule}
-
-onto_more : {X : Type 0} (found : List X) (x : X) (read : Read (List X)) → onto found (read >>= λ y. Ok (x ∷ y.0, y.1)) ≡ onto (found ++ x ∷ []) read
-onto_more found x (Ok y) = ap (λ ys. Ok (ys, y.1)) (simp append_assoc)
-onto_more found x (Err e) = refl
 
 onto_nothing : {X : Type 0} (read : Read (List X)) → onto [] read ≡ read
 onto_nothing (Ok y) = refl

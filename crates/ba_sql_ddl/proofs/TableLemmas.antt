@@ -414,7 +414,7 @@ ends_behind : (xs : List TableItem) (words rest : List Lexeme) → Takes (items_
 ends_behind [] words rest t ends = subst Ends (sym t) ends
 ends_behind (x ∷ xs) words rest t ends = ends_at_comma t.0 words t.1 t.2 t.3
 
-more_items : (xs : List TableItem) (fuel : ℕ) (words rest : List Lexeme) → length xs ≤ fuel → Takes (items_of xs) words rest → AllByRecursion IsItem xs → begins (is_sign Comma) rest ≡ false → Ends rest → more item_at fuel words ≡ Ok (xs, rest)
+more_items : (xs : List TableItem) (fuel : ℕ) (words rest : List Lexeme) → length xs ≤ fuel → Takes (items_of xs) words rest → AllByRecursion IsItem xs → begins (is_sign Comma) rest ≡ false → Ends rest → more (is_sign Comma) item_at fuel words ≡ Ok (xs, rest)
 unfolding more
 more_items [] zero words rest le t ps stop ends = ap (λ (r : List Lexeme). Ok ([], r)) t
 more_items [] (suc fuel) words rest le t ps stop ends = rw t (rw stop refl)
@@ -427,7 +427,7 @@ items_size : (xs : List TableItem) → length xs ≤ length (items_of xs)
 items_size [] = omega arith
 items_size (x ∷ xs) = let more = items_size xs in omega (arith, more, length-append (item_items x) (items_of xs))
 
-items_complete : (words rest : List Lexeme) (xs : List TableItem) → xs ≢ [] → Takes (with_commas (map item_items xs)) words rest → AllByRecursion IsItem xs → begins (is_sign Comma) rest ≡ false → Ends rest → listed item_at words ≡ Ok (xs, rest)
+items_complete : (words rest : List Lexeme) (xs : List TableItem) → xs ≢ [] → Takes (with_commas (map item_items xs)) words rest → AllByRecursion IsItem xs → begins (is_sign Comma) rest ≡ false → Ends rest → listed (is_sign Comma) item_at words ≡ Ok (xs, rest)
 items_complete words rest [] some t ps stop ends = absurd (some refl)
 items_complete words rest (x ∷ xs) some t ps stop ends =
     let p = parts (item_items x) (items_of xs) words rest t in
@@ -448,7 +448,7 @@ abbrev table_right : List ℕ → List TableItem × List Lexeme → Read TableTe
 table_right n items = past (is_sign RightParen) items.1 >>= table_semicolon n items.0
 
 abbrev table_items_at : List ℕ → List Lexeme → Read TableText
-table_items_at n rest = listed item_at rest >>= table_right n
+table_items_at n rest = listed (is_sign Comma) item_at rest >>= table_right n
 
 abbrev table_left : List ℕ × List Lexeme → Read TableText
 table_left n = past (is_sign LeftParen) n.1 >>= table_items_at n.0
@@ -466,7 +466,7 @@ table_sound words rest x e =
     let b = bind_ok (past (is_keyword (codes "TABLE")) a.0) table_name (x, rest) a.2 in
     let c = bind_ok (ddl_name_at b.0) table_left (x, rest) b.2 in
     let d = bind_ok (past (is_sign LeftParen) c.0.1) (table_items_at c.0.0) (x, rest) c.2 in
-    let f = bind_ok (listed item_at d.0) (table_right c.0.0) (x, rest) d.2 in
+    let f = bind_ok (listed (is_sign Comma) item_at d.0) (table_right c.0.0) (x, rest) d.2 in
     let g = bind_ok (past (is_sign RightParen) f.0.1) (table_semicolon c.0.0 f.0.0) (x, rest) f.2 in
     let h = bind_ok (past (is_sign Semicolon) g.0) (table_end c.0.0 f.0.0) (x, rest) g.2 in
     let items = listed_sound item_at item_items IsItem item_sound d.0 f.0.1 f.0.0 f.1 in

@@ -4,7 +4,7 @@ use Rattle.ba_model.specs.Readings.{◌>>=◌}
 use Rattle.ba_grammar.specs.Front.{Read, all, begins, is_keyword, is_sign, listed, name_at, number_at, past, syntax}
 use Rattle.ba_grammar.specs.declared.error.Syntax.{Syntax}
 use Rattle.ba_lex.specs.declared.token.Lexeme.{Lexeme}
-use Rattle.ba_lex.specs.declared.token.Sign.TheVariants.{LeftParen, RightParen, Semicolon}
+use Rattle.ba_lex.specs.declared.token.Sign.TheVariants.{LeftParen, RightParen, Semicolon, Comma}
 use Rattle.ba_sql_ddl.specs.Written.{reserved}
 use Rattle.ba_sql_ddl.specs.declared.written.ColumnRule.{ColumnRule}
 use Rattle.ba_sql_ddl.specs.declared.written.ColumnRule.TheVariants.{NotNull, Null, PrimaryKey, Unique, References}
@@ -25,7 +25,7 @@ ddl_name_at = name_at reserved
 unfoldable pub names_at : List Lexeme → Read (List (List ℕ))
 names_at words = do
   rest ← past (is_sign LeftParen) words
-  names ← listed ddl_name_at rest
+  names ← listed (is_sign Comma) ddl_name_at rest
   rest ← past (is_sign RightParen) names.1
   Ok (names.0, rest)
 
@@ -170,7 +170,7 @@ table_at words = do
   rest ← past (is_keyword (codes "TABLE")) rest
   name ← ddl_name_at rest
   rest ← past (is_sign LeftParen) name.1
-  items ← listed item_at rest
+  items ← listed (is_sign Comma) item_at rest
   rest ← past (is_sign RightParen) items.1
   rest ← past (is_sign Semicolon) rest
   Ok (record { name = name.0; items = items.0 }, rest)

@@ -42,7 +42,7 @@ const RESERVED: [&str; 23] = [
     "FOREIGN",
 ];
 
-impl Element for Name {
+impl Element<Lexeme> for Name {
     ghost use Rattle.ba_sql_ddl.specs.Reader.{ddl_name_at};
 
     ghost read_at = { ddl_name_at };
@@ -59,7 +59,7 @@ fn names(alloc: Global, words: &[Lexeme]) -> Result<(List<Name>, &[Lexeme]), Fai
     ensures { Sees (λ x. (x.0, x.1.now)) result (reader.names_at words.now) }
 {
     let rest = past_sign(words, Sign::LeftParen)?;
-    let (names, rest) = listed::<Name>(alloc, rest)?;
+    let (names, rest) = listed::<Lexeme, Name>(alloc, rest)?;
     let rest = past_sign(rest, Sign::RightParen)?;
     Ok((names, rest))
 }
@@ -310,7 +310,7 @@ fn item(alloc: Global, words: &[Lexeme]) -> Result<(TableItem, &[Lexeme]), Failu
     Ok((TableItem::Column(column), rest))
 }
 
-impl Element for TableItem {
+impl Element<Lexeme> for TableItem {
     ghost use Rattle.ba_sql_ddl.specs.Reader.{item_at};
 
     ghost read_at = { item_at };
@@ -328,13 +328,13 @@ fn table(alloc: Global, words: &[Lexeme]) -> Result<(TableText, &[Lexeme]), Fail
     let rest = past_keyword(rest, "TABLE")?;
     let (name, rest) = Name::read(alloc, rest)?;
     let rest = past_sign(rest, Sign::LeftParen)?;
-    let (items, rest) = listed::<TableItem>(alloc, rest)?;
+    let (items, rest) = listed::<Lexeme, TableItem>(alloc, rest)?;
     let rest = past_sign(rest, Sign::RightParen)?;
     let rest = past_sign(rest, Sign::Semicolon)?;
     Ok((TableText { name, items }, rest))
 }
 
-impl Element for TableText {
+impl Element<Lexeme> for TableText {
     ghost use Rattle.ba_sql_ddl.specs.Reader.{table_at};
 
     ghost read_at = { table_at };

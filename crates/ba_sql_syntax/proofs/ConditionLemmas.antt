@@ -1,6 +1,7 @@
 -- Conditions: what the reader's steps read is spelled by a tree, and each tree's spelling is read.
 use Rattle.std.proofs.Common.{◌≡◌, ℕ, suc, ◌<◌, Bool, true, false, cond, List, [], ◌∷◌, ◌++◌, length, Result, Ok, refl, sym, ap, subst, ◌∙◌, append_assoc, arith, length-append}
 use Rattle.std.proofs.lemmas.List.{append-nil}
+use Rattle.ba_grammar.specs.Front.{begins, past}
 use Rattle.ba_model.specs.Readings.{◌>>=◌}
 use Rattle.ba_grammar.specs.declared.error.Syntax.{Syntax}
 use Rattle.ba_grammar.proofs.WordLemmas.{bind_ok, err_ok, ok_same}
@@ -9,7 +10,7 @@ use Rattle.ba_sql_syntax.specs.Grammar.{Cond, IsCond, IsConj, IsPrim, IsTest, bo
 use Rattle.ba_sql_syntax.specs.Grammar.IsCond.{conj, or}
 use Rattle.ba_sql_syntax.specs.Grammar.IsConj.{prim, and}
 use Rattle.ba_sql_syntax.specs.Grammar.IsPrim.{brackets, of_test}
-use Rattle.ba_sql_syntax.specs.Reader.{Reading, begins, close, condition_at, condition_goes, condition_step, finish, finished, have_step, level, past, reading, run, start, test_at, turn_step, waiting, want_step}
+use Rattle.ba_sql_syntax.specs.Reader.{Reading, close, condition_at, condition_goes, condition_step, finish, finished, have_step, level, reading, run, start, test_at, turn_step, waiting, want_step}
 use Rattle.ba_sql_syntax.specs.Terminals.{Terminal, is_key, is_sign, key, sign}
 use Rattle.ba_sql_syntax.specs.declared.condition.Level.{Level}
 use Rattle.ba_sql_syntax.specs.declared.condition.Turn.{Turn}

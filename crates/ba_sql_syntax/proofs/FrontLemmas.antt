@@ -1,16 +1,19 @@
 -- What is read at the front is spelled so; steps that are taken.
-use Rattle.std.proofs.Common.{◌≡◌, ℕ, zero, suc, ◌<◌, ◌≤◌, Bool, true, false, cond, List, [], ◌∷◌, ◌++◌, length, Result, Ok, refl, sym, ap, subst, ◌∙◌, append_assoc, arith, length-append}
+use Rattle.std.proofs.Common.{◌≡◌, ℕ, zero, suc, ◌<◌, ◌≤◌, Bool, true, false, cond, List, [], ◌∷◌, ◌++◌, length, Result, Ok, Err, refl, sym, ap, subst, ◌∙◌, append_assoc, arith, length-append}
 use Rattle.std.proofs.lemmas.Bool.{eqb-true}
+use Rattle.std.proofs.lemmas.List.{append-nil}
+use Rattle.ba_grammar.specs.Front.{begins, listed, more, past, skip, syntax}
 use Rattle.ba_model.specs.Readings.{◌>>=◌}
 use Rattle.ba_grammar.specs.declared.error.Syntax.{Syntax}
+use Rattle.ba_grammar.proofs.SeveralLemmas.{onto, onto_more}
 use Rattle.ba_grammar.proofs.WordLemmas.{bind_ok, err_ok, ok_same, sign_spelled}
 use Rattle.ba_lex.specs.declared.token.Lexeme.TheVariants as lexemes
 use Rattle.ba_lex.specs.declared.token.Lexeme.{Lexeme}
 use Rattle.ba_lex.specs.declared.token.Sign.{Sign}
 use Rattle.ba_lex.specs.declared.token.Sign.TheVariants.{Comma}
 use Rattle.ba_sql_syntax.specs.Grammar.{IsListed}
-use Rattle.ba_sql_syntax.specs.Grammar.IsListed.{one, more}
-use Rattle.ba_sql_syntax.specs.Reader.{Read, begins, comma_goes, comma_step, constant_at, listed, name_at, past, run, skip}
+use Rattle.ba_sql_syntax.specs.Grammar.IsListed.{one, more as more_listed}
+use Rattle.ba_sql_syntax.specs.Reader.{Read, constant_at, name_at, run}
 use Rattle.ba_sql_syntax.specs.Terminals.{Terminal, constant, is_key, is_sign, key, key_number, name, sign, unsupported}
 use Rattle.ba_sql_syntax.specs.declared.word.Key.{Key}
 use Rattle.ba_sql_syntax.specs.declared.word.Key.TheVariants.{Select, Distinct, From, Where, Join, Inner, Cross, On, As, And, Or, Union, In}
@@ -167,10 +170,38 @@ shorter vs rest = omega (arith, length-append vs rest)
 abbrev rest_length : {X : Type 0} → X × List Terminal → ℕ
 rest_length p = length p.1
 
+abbrev comma_goes : {X : Type 0} → List X × List Terminal → Bool
+comma_goes s = begins (is_sign Comma) s.1
+
+-- one more behind a comma
+abbrev comma_step : {X : Type 0} → (List Terminal → Read X) → List X × List Terminal → Read (List X)
+comma_step item s = past (is_sign Comma) s.1 >>= λ rest. (item rest >>= λ x. Ok (s.0 ++ x.0 ∷ [], x.1))
+
+-- the others, step by step
+more_runs : {X : Type 0} (item : List Terminal → Read X) (fuel : ℕ) (found : List X) (ts : List Terminal)
+    → run comma_goes (comma_step item) fuel (found, ts) ≡ onto found (more (is_sign Comma) item fuel ts)
+unfolding run more
+more_runs item zero found ts = ap (λ xs. Ok (xs, ts)) (sym (append-nil found))
+more_runs item (suc fuel) found [] = ap (λ xs. Ok (xs, [])) (sym (append-nil found))
+more_runs {X} item (suc fuel) found (t ∷ ts) = at (is_sign Comma t) (more_runs item fuel)
+  where
+    one_more : (r : Read X)
+        → ((found : List X) (ts : List Terminal) → run comma_goes (comma_step item) fuel (found, ts) ≡ onto found (more (is_sign Comma) item fuel ts))
+        → ((r >>= λ x. Ok (found ++ x.0 ∷ [], x.1)) >>= run comma_goes (comma_step item) fuel)
+        ≡ onto found (r >>= λ x. (more (is_sign Comma) item fuel x.1 >>= λ y. Ok (x.0 ∷ y.0, y.1)))
+    one_more (Ok x) below = below (found ++ x.0 ∷ []) x.1 ∙ sym (onto_more found x.0 (more (is_sign Comma) item fuel x.1))
+    one_more (Err e) below = refl
+
+    at : (b : Bool)
+        → ((found : List X) (ts : List Terminal) → run comma_goes (comma_step item) fuel (found, ts) ≡ onto found (more (is_sign Comma) item fuel ts))
+        → cond b ((cond b (Ok ts) (Err syntax) >>= λ rest. (item rest >>= λ x. Ok (found ++ x.0 ∷ [], x.1))) >>= run comma_goes (comma_step item) fuel) (Ok (found, t ∷ ts))
+        ≡ onto found (cond b (item ts >>= λ x. (more (is_sign Comma) item fuel x.1 >>= λ y. Ok (x.0 ∷ y.0, y.1))) (Ok ([], t ∷ ts)))
+    at true below = one_more (item ts) below
+    at false below = ap (λ xs. Ok (xs, t ∷ ts)) (sym (append-nil found))
+
 module _ {X : Type 0} (item : List Terminal → Read X) (Is : X → List Terminal → Type 0) where
   comma_keeps : IsSound item Is → (ts : List Terminal) (s t : List X × List Terminal) → comma_step item s ≡ Ok t → Spelled (IsListed Is) s.0 ts s.1
       → Spelled (IsListed Is) t.0 ts t.1
-  unfolding comma_step
   comma_keeps sound ts s t e h =
       let a = bind_ok (past (is_sign Comma) s.1) (λ rest. item rest >>= λ x. Ok (s.0 ++ x.0 ∷ [], x.1)) t e in
       let b = bind_ok (item a.0) (λ x. Ok (s.0 ++ x.0 ∷ [], x.1)) t a.2 in
@@ -178,16 +209,16 @@ module _ {X : Type 0} (item : List Terminal → Read X) (Is : X → List Termina
       let comma : s.1 ≡ sign Comma ∷ (i.us ++ b.0.1) = past_sign Comma s.1 a.0 a.1 ∙ ap (λ (r : List Terminal). sign Comma ∷ r) i.all in
       subst (λ (q : List X × List Terminal). Spelled (IsListed Is) q.0 ts q.1) (ok_same (s.0 ++ b.0.0 ∷ [], b.0.1) t b.2) (record {
         us = h.us ++ sign Comma ∷ i.us;
-        is = more h.is i.is;
+        is = more_listed h.is i.is;
         all = h.all ∙ ap (λ (r : List Terminal). h.us ++ r) comma ∙ sym (append_assoc h.us (sign Comma ∷ i.us) b.0.1);
       })
 
-  pub listed_sound : IsSound item Is → IsSound (listed item) (IsListed Is)
-  unfolding listed
+  pub listed_sound : IsSound item Is → IsSound (listed (is_sign Comma) item) (IsListed Is)
   listed_sound sound ts p e =
-      let a = bind_ok (item ts) (λ first. run comma_goes (comma_step item) (length ts) (first.0 ∷ [], first.1)) p e in
+      let a = bind_ok (item ts) (λ first. more (is_sign Comma) item (length ts) first.1 >>= λ y. Ok (first.0 ∷ y.0, y.1)) p e in
+      let ran : run comma_goes (comma_step item) (length ts) (a.0.0 ∷ [], a.0.1) ≡ Ok p = more_runs item (length ts) (a.0.0 ∷ []) a.0.1 ∙ a.2 in
       let i = sound ts a.0 a.1 in
-      run_keeps comma_goes (comma_step item) (λ s. Spelled (IsListed Is) s.0 ts s.1) (λ s t g f h. comma_keeps sound ts s t f h) (length ts) (a.0.0 ∷ [], a.0.1) p a.2 (record { us = i.us; is = one i.is; all = i.all })
+      run_keeps comma_goes (comma_step item) (λ s. Spelled (IsListed Is) s.0 ts s.1) (λ s t g f h. comma_keeps sound ts s t f h) (length ts) (a.0.0 ∷ [], a.0.1) p ran (record { us = i.us; is = one i.is; all = i.all })
 
 -- the first is read, and then the others
 record Begun {X : Type 0} (item : List Terminal → Read X) (ts : List Terminal) (xs : List X) (rest : List Terminal) : Type 0 where
@@ -200,7 +231,6 @@ record Begun {X : Type 0} (item : List Terminal → Read X) (ts : List Terminal)
 module _ {X : Type 0} (item : List Terminal → Read X) (Is : X → List Terminal → Type 0) (Ends : List Terminal → Type 0) where
   comma_moves : IsComplete item Is Ends → (xs : List X) (x : X) (vs rest : List Terminal) → Is x vs → Ends rest
       → Moves rest_length comma_goes (comma_step item) (xs, sign Comma ∷ (vs ++ rest)) (xs ++ x ∷ [], rest)
-  unfolding comma_step
   comma_moves complete xs x vs rest i ends = go refl (rw (complete x vs rest i ends) refl) (shorter vs rest) stay
 
   listed_begun : IsComplete item Is Ends → ((ts : List Terminal) → Ends (sign Comma ∷ ts)) → {xs : List X} {us : List Terminal} → IsListed Is xs us
@@ -212,7 +242,7 @@ module _ {X : Type 0} (item : List Terminal → Read X) (Is : X → List Termina
     size = omega (arith, length-append us rest);
     moves = stay;
   }
-  listed_begun complete commas (more {xs} {x} {us} {vs} l i) rest ends =
+  listed_begun complete commas (more_listed {xs} {x} {us} {vs} l i) rest ends =
       let b = listed_begun complete commas l (sign Comma ∷ (vs ++ rest)) (commas (vs ++ rest)) in
       let same = append_assoc us (sign Comma ∷ vs) rest in
       record {
@@ -224,8 +254,7 @@ module _ {X : Type 0} (item : List Terminal → Read X) (Is : X → List Termina
       }
 
   pub listed_complete : IsComplete item Is Ends → ((ts : List Terminal) → Ends (sign Comma ∷ ts)) → (xs : List X) (us rest : List Terminal)
-      → IsListed Is xs us → Ends rest → begins (is_sign Comma) rest ≡ false → listed item (us ++ rest) ≡ Ok (xs, rest)
-  unfolding listed
+      → IsListed Is xs us → Ends rest → begins (is_sign Comma) rest ≡ false → listed (is_sign Comma) item (us ++ rest) ≡ Ok (xs, rest)
   listed_complete complete commas xs us rest l ends stop =
       let b = listed_begun complete commas l rest ends in
-      rw b.read (run_moves rest_length comma_goes (comma_step item) b.moves stop (length (us ++ rest)) b.size)
+      rw b.read (sym (more_runs item (length (us ++ rest)) (b.first ∷ []) b.behind) ∙ run_moves rest_length comma_goes (comma_step item) b.moves stop (length (us ++ rest)) b.size)

@@ -1,5 +1,6 @@
 -- Heads, sources and selects: what is read is spelled so, and what is spelled so is read.
 use Rattle.std.proofs.Common.{◌≡◌, ℕ, suc, ◌<◌, ◌≤◌, Bool, true, false, cond, List, [], ◌∷◌, ◌++◌, length, Option, Some, None, Result, Ok, refl, sym, ap, subst, ◌∙◌, append_assoc, arith, length-append}
+use Rattle.ba_grammar.specs.Front.{begins, listed, past, skip}
 use Rattle.ba_model.specs.Readings.{◌>>=◌}
 use Rattle.ba_grammar.specs.declared.error.Syntax.{Syntax}
 use Rattle.ba_grammar.proofs.WordLemmas.{bind_ok, ok_same}
@@ -16,7 +17,7 @@ use Rattle.ba_sql_syntax.specs.Grammar.IsSelect.{select}
 use Rattle.ba_sql_syntax.specs.Grammar.IsSide.{qualified, plain as plain_side, literal as literal_side}
 use Rattle.ba_sql_syntax.specs.Grammar.IsSource.{source}
 use Rattle.ba_sql_syntax.specs.Grammar.IsWhere.{none as no_where, where_}
-use Rattle.ba_sql_syntax.specs.Reader.{Joined, Read, alias_at, and_also, begins, condition_at, cross_source, free_source, has_source, heads_at, is_all_of, item_at, join_goes, join_step, joined, listed, name_at, next_source, on_source, past, run, select_at, side_at, skip, source_at, sources_at, where_at}
+use Rattle.ba_sql_syntax.specs.Reader.{Joined, Read, alias_at, and_also, condition_at, cross_source, free_source, has_source, heads_at, is_all_of, item_at, join_goes, join_step, joined, name_at, next_source, on_source, run, select_at, side_at, source_at, sources_at, where_at}
 use Rattle.ba_sql_syntax.specs.Terminals.{Terminal, constant, is_key, is_sign, key, name, sign}
 use Rattle.ba_sql_syntax.specs.declared.word.Key.TheVariants.{Select, Distinct, From, Where, Join, Inner, Cross, On}
 use Rattle.ba_sql_syntax.specs.declared.written.Heads.{Heads}
@@ -116,12 +117,12 @@ abbrev heads_items : List Item × List Terminal → Read Heads
 heads_items items = Ok (Items items.0, items.1)
 
 heads_chosen : (b : Bool) (ts : List Terminal) (p : Heads × List Terminal)
-    → cond b (past (is_sign Star) ts >>= heads_all) (listed item_at ts >>= heads_items) ≡ Ok p → Spelled IsHeads p.0 ts p.1
+    → cond b (past (is_sign Star) ts >>= heads_all) (listed (is_sign Comma) item_at ts >>= heads_items) ≡ Ok p → Spelled IsHeads p.0 ts p.1
 heads_chosen true ts p e =
     let a = bind_ok (past (is_sign Star) ts) heads_all p e in
     subst (λ (q : Heads × List Terminal). Spelled IsHeads q.0 ts q.1) (ok_same (All, a.0) p a.2) (record { us = sign Star ∷ []; is = all_heads; all = past_sign Star ts a.0 a.1 })
 heads_chosen false ts p e =
-    let a = bind_ok (listed item_at ts) heads_items p e in
+    let a = bind_ok (listed (is_sign Comma) item_at ts) heads_items p e in
     let l = listed_sound item_at IsItem item_sound ts a.0 a.1 in
     subst (λ (q : Heads × List Terminal). Spelled IsHeads q.0 ts q.1) (ok_same (Items a.0.0, a.0.1) p a.2) (record { us = l.us; is = item_heads l.is; all = l.all })
 

@@ -1,5 +1,6 @@
 -- Aliases, sides and tests: what is read is spelled so, and what is spelled so is read.
 use Rattle.std.proofs.Common.{◌≡◌, ℕ, ◌<◌, Bool, true, false, cond, List, [], ◌∷◌, ◌++◌, length, Option, Some, None, Ok, refl, sym, ap, subst, ◌∙◌, append_assoc, arith, length-append}
+use Rattle.ba_grammar.specs.Front.{begins, listed, past}
 use Rattle.ba_model.specs.Readings.{◌>>=◌}
 use Rattle.ba_grammar.proofs.WordLemmas.{bind_ok, err_ok, ok_same}
 use Rattle.ba_lex.specs.declared.token.Sign.{Sign}
@@ -9,7 +10,7 @@ use Rattle.ba_sql_syntax.specs.Grammar.IsAlias.{none as no_alias, plain as plain
 use Rattle.ba_sql_syntax.specs.Grammar.IsConstant.{literal as literal_constant}
 use Rattle.ba_sql_syntax.specs.Grammar.IsSide.{qualified, plain as plain_side, literal as literal_side}
 use Rattle.ba_sql_syntax.specs.Grammar.IsTest.{compare, among}
-use Rattle.ba_sql_syntax.specs.Reader.{Read, alias_at, among_at, begins, column_at, compared_at, comparison_at, constant_at, is_name, listed, name_at, past, side_at, some_comparison, test_at}
+use Rattle.ba_sql_syntax.specs.Reader.{Read, alias_at, among_at, column_at, compared_at, comparison_at, constant_at, is_name, name_at, side_at, some_comparison, test_at}
 use Rattle.ba_sql_syntax.specs.Terminals.{Terminal, constant, is_key, is_sign, key, name, sign, unsupported}
 use Rattle.ba_sql_syntax.specs.declared.compare.Comparison.{Comparison}
 use Rattle.ba_sql_syntax.specs.declared.word.Key.TheVariants.{As, In}
@@ -193,7 +194,7 @@ abbrev among_close : Side → List Constant × List Terminal → Read Test
 among_close a cs = past (is_sign RightParen) cs.1 >>= among_end a cs.0
 
 abbrev among_list : Side → List Terminal → Read Test
-among_list a rest = listed constant_at rest >>= among_close a
+among_list a rest = listed (is_sign Comma) constant_at rest >>= among_close a
 
 abbrev among_open : Side → List Terminal → Read Test
 among_open a rest = past (is_sign LeftParen) rest >>= among_list a
@@ -210,7 +211,7 @@ unfolding among_at
 among_sound ts rest us a p is all e =
     let b = bind_ok (past (is_key In) rest) (among_open a) p e in
     let c = bind_ok (past (is_sign LeftParen) b.0) (among_list a) p b.2 in
-    let d = bind_ok (listed constant_at c.0) (among_close a) p c.2 in
+    let d = bind_ok (listed (is_sign Comma) constant_at c.0) (among_close a) p c.2 in
     let f = bind_ok (past (is_sign RightParen) d.0.1) (among_end a d.0.0) p d.2 in
     let l = listed_sound constant_at IsConstant constant_sound c.0 d.0 d.1 in
     let close : d.0.1 ≡ sign RightParen ∷ f.0 = past_sign RightParen d.0.1 f.0 f.1 in

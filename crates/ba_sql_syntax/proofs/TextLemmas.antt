@@ -4,6 +4,7 @@ use Rattle.std.specs.List.{AllByRecursion}
 use Rattle.std.specs.Prelude.{IfOk}
 use Rattle.std.proofs.lemmas.List.{append-nil}
 use Rattle.std.proofs.lemmas.List.Elements.{All-from_recursion}
+use Rattle.ba_grammar.specs.Front.{begins, past, skip}
 use Rattle.ba_model.specs.Readings.{◌>>=◌, Gives}
 use Rattle.ba_grammar.specs.declared.error.Syntax.{Syntax}
 use Rattle.ba_grammar.proofs.WordLemmas.{bind_ok, err_ok, ok_same}
@@ -13,7 +14,7 @@ use Rattle.ba_sql_syntax.specs.Grammar.{AreSelects, Cond, HasTree, IsDistinct, I
 use Rattle.ba_sql_syntax.specs.Grammar.AreSelects.{first as first_select, union}
 use Rattle.ba_sql_syntax.specs.Grammar.IsQuery.{plain, semicolon}
 use Rattle.ba_sql_syntax.specs.Grammar.IsSelect.{select}
-use Rattle.ba_sql_syntax.specs.Reader.{Read, begins, ended, has_source, past, run, select_at, selects_at, skip, text_of, union_goes, union_step}
+use Rattle.ba_sql_syntax.specs.Reader.{Read, ended, has_source, run, select_at, selects_at, text_of, union_goes, union_step}
 use Rattle.ba_sql_syntax.specs.Scan.{IsFirstUnsupported, IsSupported, scan}
 use Rattle.ba_sql_syntax.specs.Terminals.{Terminal, is_key, is_sign, key, sign, terminals}
 use Rattle.ba_sql_syntax.specs.Written.{HaveTrees, if_supported, or_syntax, written_of}

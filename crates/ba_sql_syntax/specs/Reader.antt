@@ -1,6 +1,6 @@
 -- A query read from the left: what stands at the front, and the terminals behind it.
 use Rattle.std.specs.Prelude.{ℕ, zero, suc, Bool, true, false, List, [], ◌∷◌, ◌++◌, length, Option, Some, None, Result, Ok, Err, if◌then◌else◌, ◌&&◌, ◌||◌}
-use Rattle.ba_grammar.specs.Front.{syntax}
+use Rattle.ba_grammar.specs.Front.{ReadOf, begins, listed, past, skip, syntax}
 use Rattle.ba_grammar.specs.declared.error.Syntax.{Syntax}
 use Rattle.ba_lex.specs.declared.token.Sign.TheVariants.{LeftParen, RightParen, Comma, Dot, Semicolon, Star}
 use Rattle.ba_model.specs.Readings.{◌>>=◌}
@@ -28,23 +28,9 @@ use Rattle.ba_sql_syntax.specs.declared.written.Test.TheVariants.{Among}
 
 -- what was read, and the terminals behind it
 abbrev pub Read : Type 0 → Type 0
-Read A = Result (A × List Terminal) Syntax
+Read A = ReadOf Terminal A
 
 -- ---- one terminal
-
-abbrev pub begins : (Terminal → Bool) → List Terminal → Bool
-begins test [] = false
-begins test (t ∷ ts) = test t
-
--- the terminals behind the first, which passes the test
-abbrev pub past : (Terminal → Bool) → List Terminal → Result (List Terminal) Syntax
-past test [] = Err syntax
-past test (t ∷ ts) = if test t then Ok ts else Err syntax
-
--- without the first, if it passes the test
-abbrev pub skip : (Terminal → Bool) → List Terminal → List Terminal
-skip test [] = []
-skip test (t ∷ ts) = if test t then ts else t ∷ ts
 
 abbrev pub is_name : Terminal → Bool
 is_name (name n) = true
@@ -80,22 +66,6 @@ constant_at (t ∷ ts) = constant_of t ts
 unfoldable pub run : {S : Type 0} → (S → Bool) → (S → Result S Syntax) → ℕ → S → Result S Syntax
 run goes step zero here = Ok here
 run goes step (suc fuel) here = if goes here then (step here >>= run goes step fuel) else Ok here
-
-abbrev pub comma_goes : {X : Type 0} → List X × List Terminal → Bool
-comma_goes (found, ts) = begins (is_sign Comma) ts
-
--- one more behind a comma
-unfoldable pub comma_step : {X : Type 0} → (List Terminal → Read X) → List X × List Terminal → Read (List X)
-comma_step item (found, ts) = do
-  rest ← past (is_sign Comma) ts
-  x ← item rest
-  Ok (found ++ x.0 ∷ [], x.1)
-
--- one, and those behind commas
-unfoldable pub listed : {X : Type 0} → (List Terminal → Read X) → List Terminal → Read (List X)
-listed item ts = do
-  first ← item ts
-  run comma_goes (comma_step item) (length ts) (first.0 ∷ [], first.1)
 
 -- ---- names and sides
 
@@ -153,7 +123,7 @@ unfoldable pub among_at : Side → List Terminal → Read Test
 among_at side ts = do
   rest ← past (is_key In) ts
   rest ← past (is_sign LeftParen) rest
-  among ← listed constant_at rest
+  among ← listed (is_sign Comma) constant_at rest
   rest ← past (is_sign RightParen) among.1
   Ok (Among side among.0, rest)
 
@@ -271,7 +241,7 @@ heads_at ts =
       rest ← past (is_sign Star) ts
       Ok (All, rest))
     else (do
-      items ← listed item_at ts
+      items ← listed (is_sign Comma) item_at ts
       Ok (Items items.0, items.1))
 
 unfoldable pub source_at : List Terminal → Read Source

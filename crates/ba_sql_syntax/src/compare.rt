@@ -4,12 +4,11 @@ ghost use Rattle.ba_model.specs.Readings.{Sees};
 ghost use Rattle.ba_sql_syntax.specs.Grammar.{compared, comparison};
 ghost use Rattle.ba_sql_syntax.specs.Reader.{among_at, compared_at, comparison_at, comparison_of, constant_at, test_at};
 
-use crate::front::{begins_with, constant, past, past_sign};
-use crate::several::{Element, listed};
+use crate::front::{begins_with, constant, past};
 use crate::side::side;
 use crate::word::{Key, Terminal};
 use crate::written::{Constant, Side, Test};
-use ba_grammar::Syntax;
+use ba_grammar::{Element, Syntax, listed, past_sign};
 use ba_lex::Sign;
 use ba_model::{Failure, Op};
 use std::alloc::Global;
@@ -52,7 +51,7 @@ impl Comparison {
     }
 }
 
-impl Element for Constant {
+impl Element<Terminal> for Constant {
     ghost read_at = { constant_at };
 
     fn read(alloc: Global, words: &[Terminal]) -> Result<(Constant, &[Terminal]), Failure<Syntax>> {
@@ -108,7 +107,7 @@ fn among(
 {
     let rest = past(words, Key::In)?;
     let rest = past_sign(rest, Sign::LeftParen)?;
-    let (among, rest) = listed::<Constant>(alloc, rest)?;
+    let (among, rest) = listed::<Terminal, Constant>(alloc, rest)?;
     let rest = past_sign(rest, Sign::RightParen)?;
     Ok((Test::Among { side, among }, rest))
 }

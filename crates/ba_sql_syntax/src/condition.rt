@@ -6,10 +6,10 @@ ghost use Rattle.ba_sql_syntax.specs.Reader.{can_close, close, condition_at, con
 ghost use Rattle.ba_sql_syntax.specs.Terminals.{Terminal as Word};
 
 use crate::compare::test;
-use crate::front::{begins_with, begins_with_sign, past, past_sign};
+use crate::front::{begins_with, past};
 use crate::word::{Key, Terminal};
 use crate::written::Node;
-use ba_grammar::Syntax;
+use ba_grammar::{Syntax, begins_with_sign, past_sign};
 use ba_lex::Sign;
 use ba_model::{Failure, List};
 use std::alloc::{AllocError, Global};

@@ -1,12 +1,13 @@
 //! One terminal at the front.
 ghost use Rattle.std.specs.Prelude.{◌≡◌};
+ghost use Rattle.ba_grammar.specs.Front.{begins, past, skip};
 ghost use Rattle.ba_model.specs.Readings.{Sees};
-ghost use Rattle.ba_sql_syntax.specs.Reader.{begins, constant_at, is_name, name_at, past, skip};
-ghost use Rattle.ba_sql_syntax.specs.Terminals.{is_key, is_sign};
+ghost use Rattle.ba_sql_syntax.specs.Reader.{constant_at, is_name, name_at};
+ghost use Rattle.ba_sql_syntax.specs.Terminals.{is_key};
 
 use crate::word::{Key, Terminal};
 use crate::written::Constant;
-use ba_grammar::Syntax;
+use ba_grammar::{Signed, Syntax};
 use ba_lex::Sign;
 use ba_model::{Duplicate, Failure, Str};
 use std::alloc::Global;
@@ -20,12 +21,16 @@ fn is_key(word: &Terminal, key: Key) -> bool
     }
 }
 
-pub fn is_sign(word: &Terminal, sign: Sign) -> bool
-    ensures { result ≡ is_sign sign word.now }
-{
-    match word {
-        Terminal::Sign(found) => *found as u8 == sign as u8,
-        _ => false,
+impl Signed for Terminal {
+    ghost use Rattle.ba_sql_syntax.specs.Terminals.{is_sign};
+
+    ghost sign_test = { is_sign };
+
+    fn has_sign(&self, sign: Sign) -> bool {
+        match self {
+            Terminal::Sign(found) => *found as u8 == sign as u8,
+            _ => false,
+        }
     }
 }
 
@@ -35,15 +40,6 @@ pub fn begins_with(words: &[Terminal], key: Key) -> bool
     match words {
         [] => false,
         [first, ..] => is_key(first, key),
-    }
-}
-
-pub fn begins_with_sign(words: &[Terminal], sign: Sign) -> bool
-    ensures { result ≡ begins (is_sign sign) words.now }
-{
-    match words {
-        [] => false,
-        [first, ..] => is_sign(first, sign),
     }
 }
 
@@ -66,32 +62,12 @@ pub fn past(words: &[Terminal], key: Key) -> Result<&[Terminal], Failure<Syntax>
     }
 }
 
-/// The words behind a sign.
-pub fn past_sign(words: &[Terminal], sign: Sign) -> Result<&[Terminal], Failure<Syntax>>
-    ensures { Sees (λ rest. rest.now) result (past (is_sign sign) words.now) }
-{
-    match words {
-        [first, rest @ ..] if is_sign(first, sign) => Ok(rest),
-        _ => Err(Failure::Fault(Syntax)),
-    }
-}
-
 /// The words without a keyword at the front.
 pub fn skip(words: &[Terminal], key: Key) -> &[Terminal]
     ensures { result.now ≡ skip (is_key key) words.now }
 {
     match words {
         [first, rest @ ..] if is_key(first, key) => rest,
-        _ => words,
-    }
-}
-
-/// The words without a sign at the front.
-pub fn skip_sign(words: &[Terminal], sign: Sign) -> &[Terminal]
-    ensures { result.now ≡ skip (is_sign sign) words.now }
-{
-    match words {
-        [first, rest @ ..] if is_sign(first, sign) => rest,
         _ => words,
     }
 }

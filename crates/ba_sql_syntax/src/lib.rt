@@ -8,7 +8,6 @@ mod front;
 pub mod laws;
 mod scan;
 mod select;
-mod several;
 mod side;
 mod text;
 mod word;

@@ -4,12 +4,11 @@ ghost use Rattle.ba_model.specs.Readings.{Sees};
 ghost use Rattle.ba_sql_syntax.specs.Reader.{and_also, cross_source, free_source, has_source, heads_at, is_all_of, item_at, joined, next_source, on_source, select_at, source_at, sources_at, where_at};
 
 use crate::condition::condition;
-use crate::front::{begins_with, begins_with_sign, is_sign, name, past, past_sign, skip};
-use crate::several::{Element, listed};
+use crate::front::{begins_with, name, past, skip};
 use crate::side::{alias, side};
 use crate::word::{Key, Terminal};
 use crate::written::{Heads, Item, Node, Select, Source};
-use ba_grammar::Syntax;
+use ba_grammar::{Element, Signed, Syntax, begins_with_sign, listed, past_sign};
 use ba_lex::Sign;
 use ba_model::{Failure, List};
 use std::alloc::{AllocError, Global};
@@ -33,12 +32,12 @@ fn is_all_of(words: &[Terminal]) -> bool
     ensures { result ≡ is_all_of words.now }
 {
     match words {
-        [_, second, third, ..] => is_sign(second, Sign::Dot) && is_sign(third, Sign::Star),
+        [_, second, third, ..] => second.has_sign(Sign::Dot) && third.has_sign(Sign::Star),
         _ => false,
     }
 }
 
-impl Element for Item {
+impl Element<Terminal> for Item {
     ghost read_at = { item_at };
 
     #[tactic(auto, unfolding(crate::specs::Reader::item_at))]
@@ -64,7 +63,7 @@ fn heads(alloc: Global, words: &[Terminal]) -> Result<(Heads, &[Terminal]), Fail
         let rest = past_sign(words, Sign::Star)?;
         return Ok((Heads::All, rest));
     }
-    let (items, rest) = listed::<Item>(alloc, words)?;
+    let (items, rest) = listed::<Terminal, Item>(alloc, words)?;
     Ok((Heads::Items(items), rest))
 }
 

@@ -3,12 +3,10 @@ ghost use Rattle.std.specs.Prelude.{◌≡◌};
 ghost use Rattle.ba_model.specs.Readings.{Sees};
 ghost use Rattle.ba_sql_syntax.specs.Reader.{alias_at, column_at, side_at};
 
-use crate::front::{
-    begins_with, begins_with_name, begins_with_sign, constant, name, past, past_sign,
-};
+use crate::front::{begins_with, begins_with_name, constant, name, past};
 use crate::word::{Key, Terminal};
 use crate::written::{Named, Side};
-use ba_grammar::Syntax;
+use ba_grammar::{Syntax, begins_with_sign, past_sign};
 use ba_lex::Sign;
 use ba_model::{Failure, Str};
 use std::alloc::Global;

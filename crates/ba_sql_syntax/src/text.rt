@@ -6,12 +6,12 @@ ghost use Rattle.ba_sql_syntax.specs.Terminals.{terminals};
 ghost use Rattle.ba_sql_syntax.specs.Written.{HaveTrees, or_syntax, written_of};
 
 use crate::fault::SyntaxFault;
-use crate::front::{begins_with, past, skip, skip_sign};
+use crate::front::{begins_with, past, skip};
 use crate::scan::scan;
 use crate::select::select;
 use crate::word::{Key, Terminal, terminals};
 use crate::written::{QueryText, Select};
-use ba_grammar::Syntax;
+use ba_grammar::{Syntax, skip_sign};
 use ba_lex::{Lexeme, Sign};
 use ba_model::{Failure, List};
 use std::alloc::Global;

@@ -21,7 +21,7 @@ struct Count {
     count: i64,
 }
 
-impl Element for Count {
+impl Element<Lexeme> for Count {
     ghost use Rattle.ba_model.specs.Readings.{◌>>=◌};
     ghost use Rattle.ba_grammar.specs.Front.{number_at};
     ghost use Rattle.std.specs.Prelude.{Ok};
@@ -44,7 +44,7 @@ impl Reading for Fronts {
         let words = words.as_slice();
         match what {
             "name" => write!(told, "{:?}", name(alloc, words, &["FROM", "END"])),
-            "listed" => write!(told, "{:?}", listed::<Count>(alloc, words)),
+            "listed" => write!(told, "{:?}", listed::<Lexeme, Count>(alloc, words)),
             _ => write!(told, "{:?}", all::<Count>(alloc, words)),
         }
     }

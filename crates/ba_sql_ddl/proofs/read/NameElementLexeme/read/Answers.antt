@@ -1,5 +1,5 @@
 use Rattle.std.proofs.lemmas.Result.{err_from_is_err_and}
-use Rattle.ba_sql_ddl.proofs.read.NameElement.read.Goals as goal
+use Rattle.ba_sql_ddl.proofs.read.NameElementLexeme.read.Goals as goal
 
 pub returns-in_err-text : goal.returns-in_err-text
 returns-in_err-text c =
