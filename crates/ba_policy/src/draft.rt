@@ -62,7 +62,8 @@ fn add_view(
     words: &[Lexeme],
 ) -> Result<(), Failure<PolicyFault>>
     requires { DraftFits schema.now draft.old }
-    ensures exact { Sees (λ _. draft.new) result (view_added schema.now draft.old name.now words.now) }
+    ensures exact { Sees (λ _. draft.new) result
+        (view_added schema.now draft.old name.now words.now) }
     ensures fits { OnOk result (DraftFits schema.now draft.new) }
 {
     let is_new = draft.view_names.add(alloc, name)?;

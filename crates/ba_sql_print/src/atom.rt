@@ -29,7 +29,8 @@ pub fn atom(
     from: &[u32],
     atom: &Atom,
 ) -> Result<String, AllocError>
-    ensures { IfOk result (λ s. string_bytes s ≡ atom_text schema.now params.now from.now atom.now) }
+    ensures { IfOk result
+        (λ s. string_bytes s ≡ atom_text schema.now params.now from.now atom.now) }
 {
     let left = operand(alloc, schema, params, from, &atom.left)?;
     let right = operand(alloc, schema, params, from, &atom.right)?;

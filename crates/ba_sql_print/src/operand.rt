@@ -43,7 +43,8 @@ pub fn operand(
     from: &[u32],
     operand: &Operand,
 ) -> Result<String, AllocError>
-    ensures { IfOk result (λ s. string_bytes s ≡ operand_text schema.now params.now from.now operand.now) }
+    ensures { IfOk result
+        (λ s. string_bytes s ≡ operand_text schema.now params.now from.now operand.now) }
 {
     match operand {
         Operand::Col(place, column) => {

@@ -15,7 +15,8 @@ fn heads(
     from: &[u32],
     head: &[Operand],
 ) -> Result<String, AllocError>
-    ensures { IfOk result (λ s. string_bytes s ≡ heads_text schema.now params.now from.now head.now) }
+    ensures { IfOk result
+        (λ s. string_bytes s ≡ heads_text schema.now params.now from.now head.now) }
 {
     let mut texts = Vec::new(alloc);
     for x in head {
@@ -64,7 +65,8 @@ fn conditions(
     from: &[u32],
     atoms: &[Atom],
 ) -> Result<String, AllocError>
-    ensures { IfOk result (λ s. string_bytes s ≡ conditions_text schema.now params.now from.now atoms.now) }
+    ensures { IfOk result
+        (λ s. string_bytes s ≡ conditions_text schema.now params.now from.now atoms.now) }
 {
     let mut texts = Vec::new(alloc);
     for x in atoms {
@@ -83,7 +85,8 @@ fn condition(
     from: &[u32],
     atoms: &[Atom],
 ) -> Result<String, AllocError>
-    ensures { IfOk result (λ s. string_bytes s ≡ where_text schema.now params.now from.now atoms.now) }
+    ensures { IfOk result
+        (λ s. string_bytes s ≡ where_text schema.now params.now from.now atoms.now) }
 {
     if atoms.is_empty() {
         return Ok(String::new(alloc));

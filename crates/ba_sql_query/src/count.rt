@@ -104,7 +104,8 @@ fn count_sum(stack: &mut Vec<Count>) -> Result<(), AllocError>
 
 #[tactic(auto, unfolding(crate::specs::Parts::count_after))]
 fn count_after(stack: &mut Vec<Count>, node: &ResolvedNode) -> Result<(), AllocError>
-    ensures { OnOk result (reverse stack.new.items ≡ count_after node.now (reverse stack.old.items)) }
+    ensures { OnOk result
+        (reverse stack.new.items ≡ count_after node.now (reverse stack.old.items)) }
 {
     match node {
         ResolvedNode::Test(test) => {
@@ -150,8 +151,10 @@ fn fits(select: &ResolvedSelect, count: Count) -> bool
 }
 
 fn total_of(alloc: Global, selects: &[ResolvedSelect]) -> Result<Total, AllocError>
-    ensures parts { IfOk result (λ total. total.parts ≡ min (length (parts_of selects.now)) (suc MAX_PARTS)) }
-    ensures fits { IfOk result (λ total. total.fits ≡ list_all faults.part_within (parts_of selects.now)) }
+    ensures parts { IfOk result
+        (λ total. total.parts ≡ min (length (parts_of selects.now)) (suc MAX_PARTS)) }
+    ensures fits { IfOk result
+        (λ total. total.fits ≡ list_all faults.part_within (parts_of selects.now)) }
 {
     let mut parts = 0;
     let mut all_fit = true;

@@ -19,7 +19,8 @@ fn all_agree(
     side: &Operand,
     among: &[Operand],
 ) -> bool
-    ensures { result ≡ list_all (λ c. atom_kinds schema.now params.now from.now (equation side.now c)) among.now }
+    ensures { result ≡ list_all
+        (λ c. atom_kinds schema.now params.now from.now (equation side.now c)) among.now }
 {
     among.iter().all(|constant| sides_agree(schema, params, &[], from, side, constant))
 }
@@ -45,7 +46,8 @@ fn node_kinds(schema: &Schema, params: &[Parameter], from: &[u32], node: &Resolv
 }
 
 fn nodes_kinds(schema: &Schema, params: &[Parameter], from: &[u32], nodes: &[ResolvedNode]) -> bool
-    ensures { result ≡ list_all (λ node. list_all (atom_kinds schema.now params.now from.now) (node_atoms node)) nodes.now }
+    ensures { result ≡ list_all
+        (λ node. list_all (atom_kinds schema.now params.now from.now) (node_atoms node)) nodes.now }
 {
     nodes
         .iter()
@@ -53,7 +55,8 @@ fn nodes_kinds(schema: &Schema, params: &[Parameter], from: &[u32], nodes: &[Res
 }
 
 fn select_kinds(schema: &Schema, params: &[Parameter], select: &ResolvedSelect) -> bool
-    ensures { result ≡ faults.kinds_agree schema.now (kinds_of params.now) [] (written_part select.now) }
+    ensures { result ≡ faults.kinds_agree schema.now (kinds_of params.now) []
+        (written_part select.now) }
 {
     let from = select.from.as_slice();
     nodes_kinds(schema, params, from, select.condition.as_slice())
@@ -70,7 +73,8 @@ pub fn kinds_agree(schema: &Schema, params: &[Parameter], selects: &[ResolvedSel
 }
 
 fn test_order(schema: &Schema, params: &[Parameter], from: &[u32], test: &ResolvedTest) -> bool
-    ensures { result ≡ list_all (faults.atom_order schema.now (kinds_of params.now) [] from.now) (test_atoms test.now) }
+    ensures { result ≡ list_all (faults.atom_order schema.now (kinds_of params.now) [] from.now)
+        (test_atoms test.now) }
 {
     match test {
         ResolvedTest::One(atom) => atom_order(schema, params, &[], from, atom),
@@ -79,7 +83,8 @@ fn test_order(schema: &Schema, params: &[Parameter], from: &[u32], test: &Resolv
 }
 
 fn node_order(schema: &Schema, params: &[Parameter], from: &[u32], node: &ResolvedNode) -> bool
-    ensures { result ≡ list_all (faults.atom_order schema.now (kinds_of params.now) [] from.now) (node_atoms node.now) }
+    ensures { result ≡ list_all (faults.atom_order schema.now (kinds_of params.now) [] from.now)
+        (node_atoms node.now) }
 {
     match node {
         ResolvedNode::Test(test) => test_order(schema, params, from, test),
@@ -88,7 +93,9 @@ fn node_order(schema: &Schema, params: &[Parameter], from: &[u32], node: &Resolv
 }
 
 fn nodes_order(schema: &Schema, params: &[Parameter], from: &[u32], nodes: &[ResolvedNode]) -> bool
-    ensures { result ≡ list_all (λ node. list_all (faults.atom_order schema.now (kinds_of params.now) [] from.now) (node_atoms node)) nodes.now }
+    ensures { result ≡ list_all
+        (λ node. list_all (faults.atom_order schema.now (kinds_of params.now) [] from.now)
+        (node_atoms node)) nodes.now }
 {
     nodes
         .iter()
@@ -96,7 +103,8 @@ fn nodes_order(schema: &Schema, params: &[Parameter], from: &[u32], nodes: &[Res
 }
 
 fn select_order(schema: &Schema, params: &[Parameter], select: &ResolvedSelect) -> bool
-    ensures { result ≡ faults.orders_numbers schema.now (kinds_of params.now) [] (written_part select.now) }
+    ensures { result ≡ faults.orders_numbers schema.now (kinds_of params.now) []
+        (written_part select.now) }
 {
     let from = select.from.as_slice();
     nodes_order(schema, params, from, select.condition.as_slice())

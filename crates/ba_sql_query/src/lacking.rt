@@ -42,7 +42,8 @@ fn constants_lack(rank: u8, params: &[Parameter], constants: &[Constant]) -> boo
 
 #[tactic(auto, unfolding(crate::specs::Resolve::side_lacks))]
 fn side_lacks(rank: u8, scope: &Scope, params: &[Parameter], side: &Side) -> bool
-    ensures { result ≡ side_lacks rank scope.now.schema.now params.now scope.now.sources scope.now.from side.now }
+    ensures { result ≡ side_lacks rank scope.now.schema.now params.now scope.now.sources
+        scope.now.from side.now }
 {
     match side {
         Side::Column(name) => lacks(rank, column_of(scope, name)),
@@ -52,7 +53,8 @@ fn side_lacks(rank: u8, scope: &Scope, params: &[Parameter], side: &Side) -> boo
 
 #[tactic(auto, unfolding(crate::specs::Resolve::test_lacks))]
 fn test_lacks(rank: u8, scope: &Scope, params: &[Parameter], test: &Test) -> bool
-    ensures { result ≡ test_lacks rank scope.now.schema.now params.now scope.now.sources scope.now.from test.now }
+    ensures { result ≡ test_lacks rank scope.now.schema.now params.now scope.now.sources
+        scope.now.from test.now }
 {
     match test {
         Test::Compare { left, right, .. } => {
@@ -66,7 +68,8 @@ fn test_lacks(rank: u8, scope: &Scope, params: &[Parameter], test: &Test) -> boo
 
 #[tactic(auto, unfolding(crate::specs::Resolve::node_lacks))]
 fn node_lacks(rank: u8, scope: &Scope, params: &[Parameter], node: &Node) -> bool
-    ensures { result ≡ node_lacks rank scope.now.schema.now params.now scope.now.sources scope.now.from node.now }
+    ensures { result ≡ node_lacks rank scope.now.schema.now params.now scope.now.sources
+        scope.now.from node.now }
 {
     match node {
         Node::Test(test) => test_lacks(rank, scope, params, test),
@@ -75,7 +78,9 @@ fn node_lacks(rank: u8, scope: &Scope, params: &[Parameter], node: &Node) -> boo
 }
 
 fn nodes_lack(rank: u8, scope: &Scope, params: &[Parameter], nodes: &[Node]) -> bool
-    ensures { result ≡ list_all (node_lacks rank scope.now.schema.now params.now scope.now.sources scope.now.from) nodes.now }
+    ensures { result ≡ list_all
+        (node_lacks rank scope.now.schema.now params.now scope.now.sources scope.now.from)
+        nodes.now }
 {
     nodes
         .iter()
@@ -84,7 +89,8 @@ fn nodes_lack(rank: u8, scope: &Scope, params: &[Parameter], nodes: &[Node]) -> 
 
 #[tactic(auto, unfolding(crate::specs::Resolve::item_lacks))]
 fn item_lacks(rank: u8, scope: &Scope, params: &[Parameter], item: &Item) -> bool
-    ensures { result ≡ item_lacks rank scope.now.schema.now params.now scope.now.sources scope.now.from item.now }
+    ensures { result ≡ item_lacks rank scope.now.schema.now params.now scope.now.sources
+        scope.now.from item.now }
 {
     match item {
         Item::AllOf(name) => lacks(rank, scope.sources.source_of(name)),
@@ -93,7 +99,9 @@ fn item_lacks(rank: u8, scope: &Scope, params: &[Parameter], item: &Item) -> boo
 }
 
 fn items_lack(rank: u8, scope: &Scope, params: &[Parameter], items: &[Item]) -> bool
-    ensures { result ≡ list_all (item_lacks rank scope.now.schema.now params.now scope.now.sources scope.now.from) items.now }
+    ensures { result ≡ list_all
+        (item_lacks rank scope.now.schema.now params.now scope.now.sources scope.now.from)
+        items.now }
 {
     items
         .iter()
@@ -102,7 +110,8 @@ fn items_lack(rank: u8, scope: &Scope, params: &[Parameter], items: &[Item]) -> 
 
 #[tactic(auto, unfolding(crate::specs::Resolve::heads_lack))]
 fn heads_lack(rank: u8, scope: &Scope, params: &[Parameter], heads: &Heads) -> bool
-    ensures { result ≡ heads_lack rank scope.now.schema.now params.now scope.now.sources scope.now.from heads.now }
+    ensures { result ≡ heads_lack rank scope.now.schema.now params.now scope.now.sources
+        scope.now.from heads.now }
 {
     match heads {
         Heads::All => true,
@@ -119,7 +128,8 @@ fn names_lack(
     select: &Select,
     from: &[u32],
 ) -> Result<bool, AllocError>
-    ensures { IfOk result (λ lacking. lacking ≡ names_lack rank schema.now params.now select.now from.now) }
+    ensures { IfOk result
+        (λ lacking. lacking ≡ names_lack rank schema.now params.now select.now from.now) }
 {
     let scope = Scope::new(alloc, schema, select.sources.as_slice(), from)?;
     Ok(
@@ -136,7 +146,8 @@ fn select_lacks(
     params: &[Parameter],
     select: &Select,
 ) -> Result<bool, AllocError>
-    ensures { IfOk result (λ lacking. lacking ≡ select_lacks rank schema.now params.now select.now) }
+    ensures { IfOk result
+        (λ lacking. lacking ≡ select_lacks rank schema.now params.now select.now) }
 {
     let from = tables_of(alloc, schema, select.sources.as_slice());
     match from {

@@ -60,7 +60,8 @@ pub fn param_of(params: &[Parameter], name: &Str) -> Result<Operand, ReadQueryFa
 }
 
 fn place_at(scope: &Scope, name: &Str, place: u32) -> Option<usize>
-    ensures { result ≡ option_and_then (column_place scope.now.schema.now name.now) (slice_get scope.now.from place) }
+    ensures { result ≡ option_and_then (column_place scope.now.schema.now name.now)
+        (slice_get scope.now.from place) }
 {
     match scope.from.as_slice().get(place as usize) {
         Some(table) => column_place(scope.schema, name, *table),
@@ -123,7 +124,8 @@ pub fn operand_of(
     params: &[Parameter],
     side: &Side,
 ) -> Result<Operand, Failure<ReadQueryFault>>
-    ensures { Gives result (operand_of scope.now.schema.now params.now scope.now.sources scope.now.from side.now) }
+    ensures { Gives result
+        (operand_of scope.now.schema.now params.now scope.now.sources scope.now.from side.now) }
 {
     match side {
         Side::Column(name) => column_of(scope, name).map_err(Failure::Fault),

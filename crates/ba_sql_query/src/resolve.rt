@@ -79,7 +79,8 @@ fn item_of(
     params: &[Parameter],
     item: &Item,
 ) -> Result<Vec<Operand>, Failure<ReadQueryFault>>
-    ensures { Sees (λ v. v.items) result (item_of scope.now.schema.now params.now scope.now.sources scope.now.from item.now) }
+    ensures { Sees (λ v. v.items) result
+        (item_of scope.now.schema.now params.now scope.now.sources scope.now.from item.now) }
 {
     match item {
         Item::AllOf(name) => {
@@ -99,7 +100,9 @@ fn items_of(
     params: &[Parameter],
     items: &[Item],
 ) -> Result<List<Operand>, Failure<ReadQueryFault>>
-    ensures { Gives result (each_flat (item_of scope.now.schema.now params.now scope.now.sources scope.now.from) items.now) }
+    ensures { Gives result
+        (each_flat (item_of scope.now.schema.now params.now scope.now.sources scope.now.from)
+        items.now) }
 {
     let mut found = Vec::new(alloc);
     for item in items {
@@ -116,7 +119,8 @@ fn heads_of(
     params: &[Parameter],
     heads: &Heads,
 ) -> Result<List<Operand>, Failure<ReadQueryFault>>
-    ensures { Gives result (heads_of scope.now.schema.now params.now scope.now.sources scope.now.from heads.now) }
+    ensures { Gives result
+        (heads_of scope.now.schema.now params.now scope.now.sources scope.now.from heads.now) }
 {
     match heads {
         Heads::All => Ok(all_columns(alloc, scope.schema, scope.from.as_slice())?),
@@ -146,7 +150,8 @@ fn test_of(
     params: &[Parameter],
     test: &Test,
 ) -> Result<ResolvedTest, Failure<ReadQueryFault>>
-    ensures { Gives result (test_of scope.now.schema.now params.now scope.now.sources scope.now.from test.now) }
+    ensures { Gives result
+        (test_of scope.now.schema.now params.now scope.now.sources scope.now.from test.now) }
 {
     match test {
         Test::Compare { op, left, right } => {
@@ -170,7 +175,8 @@ fn node_of(
     params: &[Parameter],
     node: &Node,
 ) -> Result<ResolvedNode, Failure<ReadQueryFault>>
-    ensures { Gives result (node_of scope.now.schema.now params.now scope.now.sources scope.now.from node.now) }
+    ensures { Gives result
+        (node_of scope.now.schema.now params.now scope.now.sources scope.now.from node.now) }
 {
     match node {
         Node::Test(test) => {
@@ -188,7 +194,9 @@ fn nodes_of(
     params: &[Parameter],
     nodes: &[Node],
 ) -> Result<List<ResolvedNode>, Failure<ReadQueryFault>>
-    ensures { Gives result (each (node_of scope.now.schema.now params.now scope.now.sources scope.now.from) nodes.now) }
+    ensures { Gives result
+        (each (node_of scope.now.schema.now params.now scope.now.sources scope.now.from)
+        nodes.now) }
 {
     let mut found = List::new(alloc);
     for node in nodes {
