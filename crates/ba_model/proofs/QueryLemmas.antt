@@ -210,7 +210,7 @@ module _ (s : Schema) (params vars : List Kind) where
       let ks = head_kinds from xs (and_right (faults.column_there s from x) _ c) (and_right (not (faults.is_null x)) _ n) (and_right (faults.named params vars x) _ m) in
       (k.0 ∷ ks.0, ap₂ (λ a b. a ∷ b) k.1 ks.1)
 
-  kinds_match : (from others : List ℕ) (xs ys : List Operand) (ks ls : List Kind) → map (kind_of s params vars from) xs ≡ map Some ks → map (kind_of s params vars others) ys ≡ map Some ls → faults.heads_match s params vars from xs others ys ≡ true → ks ≡ ls
+  pub kinds_match : (from others : List ℕ) (xs ys : List Operand) (ks ls : List Kind) → map (kind_of s params vars from) xs ≡ map Some ks → map (kind_of s params vars others) ys ≡ map Some ls → faults.heads_match s params vars from xs others ys ≡ true → ks ≡ ls
   kinds_match from others [] [] [] [] p q e = refl
   kinds_match from others [] [] (k ∷ ks) ls p q e = cc
   kinds_match from others [] [] [] (l ∷ ls) p q e = cc
@@ -244,7 +244,7 @@ module _ (s : Schema) (params vars : List Kind) where
   -- ---- parts
 
   -- a part without faults has kinds, and fits them
-  part_kinds : (part : Part) → faults.columns_there s part ≡ true → faults.kinds_agree s params vars part ≡ true → faults.all_named params vars part ≡ true → (ks : List Kind) × (map (kind_of s params vars part.from) part.head ≡ map Some ks)
+  pub part_kinds : (part : Part) → faults.columns_there s part ≡ true → faults.kinds_agree s params vars part ≡ true → faults.all_named params vars part ≡ true → (ks : List Kind) × (map (kind_of s params vars part.from) part.head ≡ map Some ks)
   part_kinds part c n m =
       head_kinds part.from part.head (and_right (list_all (faults.atom_columns s part.from) part.conds) _ c) (and_right (list_all (λ atom. faults.atom_kinds s params vars part.from atom.op atom.left atom.right) part.conds) _ n) (and_right (list_all (faults.atom_named params vars) part.conds) _ m)
 

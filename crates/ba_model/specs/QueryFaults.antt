@@ -1,7 +1,7 @@
 -- The faults of a query, in the order in which they are told.
-use Rattle.std.specs.Prelude.{◌≡◌, ℕ, ◌<◌, Bool, true, false, not, ◌&&◌, ◌||◌, ◌==◌, nat_le, List, [], ◌∷◌, Option, Some, None, is_some, length, slice_get}
+use Rattle.std.specs.Prelude.{◌≡◌, ℕ, ◌<◌, Bool, true, false, not, ◌&&◌, ◌||◌, ◌==◌, ◌↔◌, nat_le, List, [], ◌∷◌, Option, Some, None, is_some, length, slice_get}
 use Rattle.std.specs.List.{list_all}
-use Rattle.ba_model.specs.Fit.{kind_of}
+use Rattle.ba_model.specs.Fit.{IsQuery, kind_of}
 use Rattle.ba_model.specs.Order.{value_cmp}
 use Rattle.std.specs.Ordering.{eq_by_cmp}
 use Rattle.ba_model.specs.declared.limits.TheConstants.{MAX_ATOMS, MAX_HEAD, MAX_PARTS, MAX_PART_TABLES}
@@ -11,6 +11,7 @@ use Rattle.ba_model.specs.declared.query.Op.TheVariants.{Eq, Ne, Lt, Le, IsNull,
 use Rattle.ba_model.specs.declared.query.Operand.{Operand}
 use Rattle.ba_model.specs.declared.query.Operand.TheVariants.{Col, Val, Param, Var}
 use Rattle.ba_model.specs.declared.query.Part.{Part}
+use Rattle.ba_model.specs.declared.query.Query.{Query}
 use Rattle.ba_model.specs.declared.check_query.QueryFault.{QueryFault}
 use Rattle.ba_model.specs.declared.check_query.QueryFault.TheVariants.{BadTable, BadColumn, KindDiffers, OrderOnText, HeadDiffers, UnknownParam, TooMany}
 use Rattle.ba_model.specs.declared.schema.Kind.{Kind}
@@ -173,3 +174,7 @@ pub record IsFirstFault (f : QueryFault) (s : Schema) (params vars : List Kind) 
 -- the query has no fault
 abbrev pub HasNoFault : Schema → List Kind → List Kind → List Part → Type 0
 HasNoFault s params vars parts = (f : QueryFault) → Lacks f s params vars parts
+
+-- a query for a schema, parameters and variables is what has no fault
+abbrev pub QueryHasNoFault : Type 0
+QueryHasNoFault = (s : Schema) (params vars : List Kind) (q : Query) → IsQuery s params vars q ↔ HasNoFault s params vars q.parts

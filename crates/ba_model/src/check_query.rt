@@ -186,7 +186,8 @@ pub(crate) fn agree(left: Option<Kind>, right: Option<Kind>) -> bool
     }
 }
 
-fn sides_agree(
+/// Whether the sides of a comparison are of one kind where both are known, and neither is NULL.
+pub fn sides_agree(
     schema: &Schema,
     params: &[Parameter],
     vars: &[Kind],
@@ -205,7 +206,9 @@ fn sides_agree(
     )
 }
 
-fn atom_kinds(
+/// Whether the sides of an atom are of one kind where both are known, and none is NULL; the right side of IS NULL and IS NOT NULL
+/// repeats the left.
+pub fn atom_kinds(
     schema: &Schema,
     params: &[Parameter],
     vars: &[Kind],
@@ -238,7 +241,8 @@ fn all_atom_kinds(
         .all(|atom| atom_kinds(schema, params, vars, from, atom))
 }
 
-fn none_is_null(head: &[Operand]) -> bool
+/// Whether no operand is the literal NULL.
+pub fn none_is_null(head: &[Operand]) -> bool
     ensures { result ≡ list_all (λ x. not (faults.is_null x)) head.now }
 {
     head.iter().all(|operand| !is_null(operand))
@@ -278,7 +282,8 @@ fn is_order(op: Op) -> bool
     }
 }
 
-fn atom_order(
+/// Whether an atom is no order on a text.
+pub fn atom_order(
     schema: &Schema,
     params: &[Parameter],
     vars: &[Kind],
@@ -322,8 +327,8 @@ fn all_order_numbers(schema: &Schema, params: &[Parameter], vars: &[Kind], parts
     })
 }
 
-// Whether two heads, each over its part's tables, have as many operands, of one kind where both are known.
-fn heads_match(
+/// Whether two heads, each over its part's tables, have as many operands, of one kind where both are known.
+pub fn heads_match(
     schema: &Schema,
     params: &[Parameter],
     vars: &[Kind],

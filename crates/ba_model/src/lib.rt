@@ -17,7 +17,10 @@ mod shared;
 mod text;
 mod value;
 
-pub use check_query::{QueryDraft, QueryFault, column_kind, operand_kind};
+pub use check_query::{
+    QueryDraft, QueryFault, atom_kinds, atom_order, column_kind, heads_match, none_is_null,
+    operand_kind, sides_agree,
+};
 pub use check_schema::{SchemaDraft, SchemaFault};
 pub use failure::Failure;
 pub use limits::{
