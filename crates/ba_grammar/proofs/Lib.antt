@@ -2,3 +2,4 @@ pub mod WordLemmas
 pub mod ListedLemmas
 pub mod SeveralLemmas
 pub mod KeywordLemmas
+pub mod MapLemmas

@@ -67,7 +67,8 @@ pub fn name<'a>(
     words: &'a [Lexeme],
     reserved: &[&str],
 ) -> Result<(Str, &'a [Lexeme]), Failure<Syntax>>
-    ensures { Sees (λ x. (x.0, x.1.now)) result (name_at (map (λ keyword. keyword.now) reserved.now) words.now) }
+    ensures { Sees (λ x. (x.0, x.1.now)) result
+        (name_at (map (λ keyword. keyword.now) reserved.now) words.now) }
 {
     match words {
         [Lexeme::Word(word), rest @ ..] => {

@@ -1,7 +1,6 @@
 -- Parts of the draft.
-use Rattle.std.proofs.Common.{◌≡◌, ℕ, ◌+◌, ◌<◌, List, [], ◌∷◌, ◌++◌, length, map, take, get_or, sym, ap, ◌∙◌}
+use Rattle.std.proofs.Common.{◌≡◌, ℕ, List, map, ap, ◌∙◌}
 use Rattle.std.specs.List.{flat_map}
-use Rattle.std.proofs.lemmas.List.{map-append, take_more}
 use Rattle.ba_model.specs.declared.schema.Column.{Column}
 use Rattle.ba_model.specs.declared.schema.Link.{Link}
 use Rattle.ba_sql_ddl.specs.Meaning.{column_of, columns_in, key_of, keys_in, link_of, links_in, names_in, primary_names, table_of}
@@ -18,9 +17,3 @@ table_is scope t items names name columns keys links is e n c k l =
     let ks : keys ≡ map (key_of (once (names_in t.items))) (flat_map keys_in t.items) = k ∙ ap (λ (ns : List (List ℕ)). map (key_of ns) (flat_map keys_in items)) e ∙ ap (λ (its : List TableItem). map (key_of (once (names_in its))) (flat_map keys_in its)) is in
     let ls : links ≡ map (link_of scope (once (names_in t.items))) (flat_map links_in t.items) = l ∙ ap (λ (ns : List (List ℕ)). map (link_of scope ns) (flat_map links_in items)) e ∙ ap (λ (its : List TableItem). map (link_of scope (once (names_in its))) (flat_map links_in its)) is in
     λ i. record { name = n i; columns = cs i; keys = ks i; links = ls i }
-
--- one more of a list that is mapped
-pub map_more : {A B : Type 0} (f : A → B) (xs : List A) (i : ℕ) (x : A) (y : B) (found found2 : List B) → found ≡ map f (take i xs) → i < length xs → x ≡ get_or xs i x → y ≡ f x → found2 ≡ found ++ y ∷ [] → found2 ≡ map f (take (i + 1) xs)
-map_more f xs i x y found found2 so_far lt is made more =
-    let e : take (i + 1) xs ≡ take i xs ++ x ∷ [] = take_more xs i x lt ∙ ap (λ z. take i xs ++ z ∷ []) (sym is) in
-    more ∙ rw (so_far, made) (sym (ap (map f) e ∙ map-append f (take i xs) (x ∷ [])))

@@ -1,8 +1,10 @@
 -- Which terminal a word is.
-use Rattle.std.proofs.Common.{◌≡◌, ℕ, pos, Bool, true, false, cond, List, [], ◌∷◌, ◌+◌, ◌<◌, ◌++◌, length, map, take, get_or, codes, Option, Some, None, refl, sym, ap, ◌∙◌}
-use Rattle.std.proofs.lemmas.List.{map-append, take_more}
+use Rattle.std.proofs.Common.{◌≡◌, ℕ, pos, Bool, true, false, ◌||◌, cond, List, [], ◌∷◌, map, codes, Option, Some, None, refl, ap}
+use Rattle.std.specs.List.{list_any}
+use Rattle.std.specs.Prelude.{is_some}
+use Rattle.ba_grammar.specs.Items.{is_among}
 use Rattle.ba_lex.specs.Word.{is_word}
-use Rattle.ba_sql_syntax.specs.Terminals.{Terminal, first_key, is_unsupported, key, key_text, keys, meaning, name, truth, unsupported, word_terminal}
+use Rattle.ba_sql_syntax.specs.Terminals.{Terminal, first_key, has_meaning, is_unsupported, key, key_text, keys, meaning, name, truth, unsupported, word_terminal}
 use Rattle.ba_sql_syntax.specs.declared.word.Key.{Key}
 
 abbrev otherwise : List ℕ → Terminal
@@ -27,9 +29,15 @@ pub word_means : (w : List ℕ) → word_terminal w
 unfolding word_terminal
 word_means w = ap (λ (t : Terminal). cond (is_word w (codes "TRUE")) (truth (pos 1)) (cond (is_word w (codes "FALSE")) (truth (pos 0)) t)) (keys_mean keys w)
 
--- one more of a list that is mapped
-pub map_more : {A B : Type 0} (f : A → B) (xs : List A) (i : ℕ) (x : A) (y : B) (found found2 : List B) → found ≡ map f (take i xs) → i < length xs
-    → x ≡ get_or xs i x → y ≡ f x → found2 ≡ found ++ y ∷ [] → found2 ≡ map f (take (i + 1) xs)
-map_more f xs i x y found found2 so_far lt is made more =
-    let e : take (i + 1) xs ≡ take i xs ++ x ∷ [] = take_more xs i x lt ∙ ap (λ z. take i xs ++ z ∷ []) (sym is) in
-    more ∙ rw (so_far, made) (sym (ap (map f) e ∙ map-append f (take i xs) (x ∷ [])))
+any_key : (ks : List Key) (w : List ℕ) → list_any (λ k. is_word w k) (map key_text ks) ≡ is_some (first_key ks w)
+any_key [] w = refl
+any_key (k ∷ ks) w = at (is_word w (key_text k)) (any_key ks w)
+  where
+    at : (t : Bool) → list_any (λ k. is_word w k) (map key_text ks) ≡ is_some (first_key ks w)
+        → (t || list_any (λ k. is_word w k) (map key_text ks)) ≡ is_some (cond t (Some k) (first_key ks w))
+    at true next = refl
+    at false next = next
+
+pub has_so : (w : List ℕ) → has_meaning w ≡ is_word w (codes "TRUE") || (is_word w (codes "FALSE") || is_some (first_key keys w))
+unfolding has_meaning is_among
+has_so w = ap (λ (t : Bool). is_word w (codes "TRUE") || (is_word w (codes "FALSE") || t)) (any_key keys w)

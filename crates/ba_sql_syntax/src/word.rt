@@ -8,12 +8,6 @@ use ba_lex::{Lexeme, Sign, is_word};
 use ba_model::{Duplicate, List, Str, Value};
 use std::alloc::{AllocError, Global};
 
-/// The words that mean something where they stand.
-const MEANINGS: [&str; 15] = [
-    "TRUE", "FALSE", "SELECT", "DISTINCT", "FROM", "WHERE", "JOIN", "INNER", "CROSS", "ON", "AS",
-    "AND", "OR", "UNION", "IN",
-];
-
 /// The words that are reserved and not supported.
 const UNSUPPORTED: [&str; 25] = [
     "ALL",
@@ -119,14 +113,6 @@ pub fn is_unsupported(word: &Str) -> bool
     is_among(word, &UNSUPPORTED)
 }
 
-/// Whether the word is a keyword, TRUE or FALSE.
-#[tactic(auto, unfolding(crate::specs::Terminals::has_meaning))]
-pub fn has_meaning(word: &Str) -> bool
-    ensures { result ≡ has_meaning word.now }
-{
-    is_among(word, &MEANINGS)
-}
-
 fn key_among(word: &Str, keys: &[Key]) -> Option<Key>
     ensures { result ≡ first_key keys.now word.now }
 {
@@ -143,6 +129,14 @@ fn key_of(word: &Str) -> Option<Key>
     ensures { result ≡ first_key keys word.now }
 {
     key_among(word, &KEYS)
+}
+
+/// Whether the word is a keyword, TRUE or FALSE.
+#[tactic(auto, using(crate::proofs::TerminalLemmas::has_so))]
+pub fn has_meaning(word: &Str) -> bool
+    ensures { result ≡ has_meaning word.now }
+{
+    is_word(word, "TRUE") || is_word(word, "FALSE") || key_of(word).is_some()
 }
 
 fn truth(n: i64) -> Terminal

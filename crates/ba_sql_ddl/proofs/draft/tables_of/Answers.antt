@@ -1,5 +1,5 @@
 use Rattle.ba_sql_ddl.specs.Meaning.{table_of}
-use Rattle.ba_sql_ddl.proofs.DraftLemmas.{map_more}
+use Rattle.ba_grammar.proofs.MapLemmas.{map_more}
 use Rattle.ba_sql_ddl.proofs.draft.tables_of.Goals as goal
 
 pub loop-text-preserved : goal.loop-text-preserved

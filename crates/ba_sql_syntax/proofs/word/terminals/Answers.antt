@@ -1,5 +1,5 @@
 use Rattle.ba_sql_syntax.specs.Terminals.{terminal}
-use Rattle.ba_sql_syntax.proofs.TerminalLemmas.{map_more}
+use Rattle.ba_grammar.proofs.MapLemmas.{map_more}
 use Rattle.ba_sql_syntax.proofs.word.terminals.Goals as goal
 
 pub loop-word-preserved : goal.loop-word-preserved
