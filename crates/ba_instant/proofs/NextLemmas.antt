@@ -1,0 +1,221 @@
+-- What a search does next, and how it ends.
+use Rattle.std.proofs.Common.{◌≡◌, ◌∙◌, ℕ, ◌+◌, ◌<◌, ◌≤◌, Bool, true, false, inl, inr, [], ◌∷◌, ◌++◌, get_or, length, refl, sym, ap, subst, arith, List}
+use Rattle.std.proofs.lemmas.Option.{slice_get-get_or, slice_get_within}
+use Rattle.std.specs.Cmp.{upto}
+use Rattle.std.specs.Ordering.{is_gt, ordering_reverse}
+use Rattle.std.specs.declared.cmp.Ordering.{Ordering}
+use Rattle.std.specs.declared.cmp.Ordering.TheVariants.{Less, Equal, Greater}
+use Rattle.std.specs.Prelude.{IfOk, Option, Some, None, Result, Ok, Err, option_and_then, slice_get}
+use Rattle.std.specs.declared.alloc.AllocError.{AllocError}
+use Rattle.ba_facts.proofs.PlaceLemmas.{upto as up_to_bound}
+use Rattle.ba_facts.specs.declared.branch.Branch.{Branch}
+use Rattle.ba_model.specs.declared.failure.Failure.{Failure}
+use Rattle.ba_model.specs.declared.failure.Failure.TheVariants.{Fault}
+use Rattle.ba_kernel.proofs.NewLemmas.{all_at}
+use Rattle.ba_kernel.proofs.TestLemmas.{not_both}
+use Rattle.ba_kernel.specs.Courses.{AllClosed, IsOpen, IsStart, Slots, Takes, branch_of}
+use Rattle.ba_kernel.specs.News.{IsNewOn}
+use Rattle.ba_kernel.specs.Tests.{Course, IsErrorOf, IsRefusedAt, open_at}
+use Rattle.ba_kernel.specs.declared.problem.Problem.{Problem}
+use Rattle.ba_kernel.specs.declared.step.Step.{Step}
+use Rattle.ba_kernel.specs.declared.step.StepFault.{StepFault}
+use Rattle.ba_instant.proofs.ChaseLemmas.{open_is}
+use Rattle.ba_instant.proofs.DueLemmas.{gt_false, new_in, not_greater, one_open}
+use Rattle.ba_instant.proofs.OrderLemmas.{pick_total}
+use Rattle.ba_instant.specs.Dues.{DueList, Ends, HasNew, HaveNewBelow, IsSaturated, Searches}
+use Rattle.ba_instant.specs.Nexts.{IsFirstBelow, IsLeafOf, IsLeastSaturated, IsNext, IsPickedBelow, IsTaken, Passes, SaturatedAt, first_step, first_step_by}
+use Rattle.ba_instant.specs.Offers.{IsDueIfAny, IsDueOn}
+use Rattle.ba_instant.specs.Order.{pick_cmp}
+use Rattle.ba_instant.specs.declared.due.Next.{Next}
+use Rattle.ba_instant.specs.declared.due.Next.TheVariants as nexts
+use Rattle.ba_instant.specs.declared.ends.Settled.{Settled}
+use Rattle.ba_instant.specs.declared.ends.Settled.TheVariants as settled
+use Rattle.ba_instant.specs.declared.order.Pick.{Pick}
+
+-- ---- branches
+
+slot_is : (found : Option (Option Branch)) (b : Branch) → option_and_then (λ slot. slot) found ≡ Some b → found ≡ Some (Some b)
+slot_is None b e = cc
+slot_is (Some None) b e = cc
+slot_is (Some (Some d)) b e = ap Some e
+
+pub open_back : (slots : Slots) (n : ℕ) (b : Branch) → open_at slots n ≡ Some b → IsOpen slots n b
+open_back slots n b e = slot_is (slice_get slots n) b e
+
+not_open : (slots : Slots) (n : ℕ) (b : Branch) → open_at slots n ≡ None → IsOpen slots n b → ⊥
+not_open slots n b none h = let wrong : Some b ≡ None = sym (open_is slots n b h) ∙ none in cc
+
+not_behind : (r : Ordering) → is_gt r ≡ true → is_gt (ordering_reverse r) ≡ false
+not_behind Less e = let wrong : false ≡ true = e in cc
+not_behind Equal e = refl
+not_behind Greater e = refl
+
+module _ (pick : Pick) (c : Course) (n : ℕ) where
+  -- the branch isn't open
+  pub passes_closed : (first : Option Step) → open_at c.slots n ≡ None → Passes pick c n first first
+  passes_closed first none = record { has = λ b h. absurd (not_open c.slots n b none h); first = more first }
+    where
+      more : (first : Option Step) → IsFirstBelow pick c.problem c.slots n first → IsFirstBelow pick c.problem c.slots (n + 1) first
+      more None h = λ number b below is. elim (up_to_bound number n below) [
+        | inl less ↦ h number b less is
+        | inr same ↦ not_open c.slots n b none (subst (λ m. IsOpen c.slots m b) same is)
+      ]
+      more (Some step) h = record {
+        due = h.due;
+        first = λ other below due. elim (up_to_bound (branch_of other) n below) [
+          | inl less ↦ h.first other less due
+          | inr same ↦ absurd (not_open c.slots n due.branch none (subst (λ m. IsOpen c.slots m due.branch) same due.open_))
+        ];
+      }
+
+  -- it has a due step
+  module _ (step : Step) (it : IsDueOn c pick n step) where
+    has_new : (b : Branch) → IsOpen c.slots n b → HasNew c.problem n b
+    has_new b h =
+        let same : it.due.branch ≡ b = one_open c.slots n it.due.branch b (subst (λ m. IsOpen c.slots m it.due.branch) it.on it.due.open_) h in
+        record { step = step; on = it.on; new_ = subst (λ d. IsNewOn c.problem d step) same it.due.new_ }
+
+    kept : (best : Step) (b : Bool) → is_gt (pick_cmp pick best step) ≡ b → IsPickedBelow pick c.problem c.slots n best →
+        IsFirstBelow pick c.problem c.slots (n + 1) (first_step_by b best step)
+    kept best false e h = record {
+      due = h.due;
+      first = λ other below due. elim (up_to_bound (branch_of other) n below) [
+        | inl less ↦ h.first other less due
+        | inr same ↦ not_greater (pick_cmp pick best other) (upto (pick_total pick) best step other e (gt_false (pick_cmp pick step other) (it.first other same due)))
+      ];
+    }
+    kept best true e h =
+        let less : is_gt (pick_cmp pick step best) ≡ false = ap is_gt ((pick_total pick).antisymm step best) ∙ not_behind (pick_cmp pick best step) e in
+        record {
+          due = it.due;
+          first = λ other below due. elim (up_to_bound (branch_of other) n below) [
+            | inl before ↦ not_greater (pick_cmp pick step other) (upto (pick_total pick) step best other less (gt_false (pick_cmp pick best other) (h.first other before due)))
+            | inr same ↦ it.first other same due
+          ];
+        }
+
+    picked_more : (first : Option Step) → IsFirstBelow pick c.problem c.slots n first → IsFirstBelow pick c.problem c.slots (n + 1) (first_step pick first step)
+    picked_more None h = record {
+      due = it.due;
+      first = λ other below due. elim (up_to_bound (branch_of other) n below) [
+        | inl less ↦ absurd (h (branch_of other) due.branch less due.open_)
+        | inr same ↦ it.first other same due
+      ];
+    }
+    picked_more (Some best) h = kept best (is_gt (pick_cmp pick best step)) refl h
+
+    pub passes_due : (old new : Option Step) → new ≡ first_step pick old step → Passes pick c n old new
+    passes_due old new is = record {
+      has = has_new;
+      first = λ h. subst (IsFirstBelow pick c.problem c.slots (n + 1)) (sym is) (picked_more old h);
+    }
+
+  pub saturated_at : (b : Branch) → IsOpen c.slots n b → IsDueIfAny c pick n None → SaturatedAt c n
+  saturated_at b open_ none = record { branch = b; saturated = record { open_ = open_; none_new = λ step on new. none step on (new_in c n b open_ step on new) } }
+
+  -- ---- the branches so far
+
+  pub news_more : (old new : Option Step) → Passes pick c n old new → HaveNewBelow c.problem c.slots n → HaveNewBelow c.problem c.slots (n + 1)
+  news_more old new h before number b below is = elim (up_to_bound number n below) [
+    | inl less ↦ before number b less is
+    | inr same ↦ subst (λ m. HasNew c.problem m b) (sym same) (h.has b (subst (λ m. IsOpen c.slots m b) same is))
+  ]
+
+  pub least_saturated : SaturatedAt c n → HaveNewBelow c.problem c.slots n → IsLeastSaturated c n
+  least_saturated h before = record { branch = h.branch; saturated = h.saturated; least = before }
+
+  pub all_taken : (step : Step) → length c.slots ≤ n → HaveNewBelow c.problem c.slots n → IsPickedBelow pick c.problem c.slots n step → IsTaken pick c step
+  all_taken step past before h = record {
+    each = λ number b below is. before number b (omega (arith, past, below)) is;
+    picked = record {
+      due = h.due;
+      first = λ other due.
+          let below : branch_of other < length c.slots = slice_get_within c.slots (branch_of other) (Some due.branch) due.open_ in
+          h.first other (omega (arith, past, below)) due;
+    };
+  }
+
+  pub all_closed : length c.slots ≤ n → ((number : ℕ) (b : Branch) → number < n → IsOpen c.slots number b → ⊥) → AllClosed c.slots
+  all_closed past none k d below = at (get_or c.slots k d) (slice_get-get_or c.slots k d below)
+    where
+      at : (slot : Option Branch) → slice_get c.slots k ≡ Some slot → slot ≡ None
+      at None e = refl
+      at (Some b) e = absurd (none k b (omega (arith, past, below)) e)
+
+-- ---- a step that is taken
+
+module _ (pick : Pick) (c : Course) (step : Step) (it : IsTaken pick c step) where
+  pub not_refused : (error : Failure StepFault) (fault : StepFault) → error ≡ Fault fault → IsErrorOf c step error → ⊥
+  not_refused error fault is h =
+      let refused : IsRefusedAt c.problem (open_at c.slots (branch_of step)) step fault = subst (IsErrorOf c step) is h in
+      let due = it.picked.due in
+      not_both c.problem due.branch step fault due.new_.passes
+      (subst (λ at. IsRefusedAt c.problem at step fault) (open_is c.slots (branch_of step) due.branch due.open_) refused)
+
+  pub searches_on : (new : Course) → Searches pick c.problem c.steps c.slots → Takes c.problem c.slots step new.slots → new.steps ≡ c.steps ++ step ∷ [] →
+      new.problem ≡ c.problem → Searches pick new.problem new.steps new.slots
+  searches_on new before takes steps_are problem_is =
+      subst (λ p. Searches pick p new.steps new.slots) (sym problem_is)
+      (subst (λ taken. Searches pick c.problem taken new.slots) (sym steps_are) (Searches.next before it.each it.picked takes))
+
+  some_open : ¬ (AllClosed c.slots)
+  some_open all =
+      let due = it.picked.due in
+      let wrong : Some due.branch ≡ None = all_at (λ slot. slot ≡ None) c.slots (branch_of step) (Some due.branch) all due.open_ in
+      cc
+
+-- ---- the ends
+
+module _ (pick : Pick) (budget : ℕ) (c : Course) (searches : Searches pick c.problem c.steps c.slots) where
+  pub ends_spent : (step : Step) (it : Settled) → IsTaken pick c step → length c.steps ≡ budget → it ≡ settled.Spent c.steps → Ends pick c.problem budget it
+  ends_spent step it taken spent is =
+      subst (Ends pick c.problem budget) (sym is)
+      (record { slots = c.slots; searches = searches; spent = spent; some_open = some_open pick c step taken; each = taken.each })
+
+  pub ends_closed : (it : Settled) → AllClosed c.slots → length c.steps ≤ budget → it ≡ settled.Proved (record { problem = c.problem; steps = c.steps }) → Ends pick c.problem budget it
+  ends_closed it closed few is =
+      subst (Ends pick c.problem budget) (sym is) (record { problem_is = refl; slots = c.slots; searches = searches; few = few; closed = closed })
+
+  pub ends_saturated : (number : ℕ) (it : Settled) → IsLeastSaturated c number → length c.steps ≤ budget → IsLeafOf c number it → Ends pick c.problem budget it
+  ends_saturated number (settled.Proved proof) h few leaf = absurd leaf
+  ends_saturated number (settled.Spent taken) h few leaf = absurd leaf
+  ends_saturated number (settled.Saturated it) h few leaf =
+      let same : h.branch ≡ it.branch = one_open c.slots number h.branch it.branch h.saturated.open_ (open_back c.slots number it.branch leaf.1) in
+      record {
+        slots = c.slots;
+        searches = subst (λ taken. Searches pick c.problem taken c.slots) (sym leaf.0) searches;
+        few = subst (λ taken. length taken ≤ budget) (sym leaf.0) few;
+        number = number;
+        saturated = subst (IsSaturated c.problem c.slots number) same h.saturated;
+        least = h.least;
+      }
+
+-- ---- answers
+
+if_ok_as : (P Q : Settled → Type 0) (r : Result Settled AllocError) → ((it : Settled) → P it → Q it) → IfOk r P → IfOk r Q
+if_ok_as P Q (Ok it) to h = to it h
+if_ok_as P Q (Err e) to h = h
+
+pub searches_start : (pick : Pick) (c : Course) (p : Problem) → c.problem ≡ p → c.steps ≡ [] → IsStart p c.slots → Searches pick c.problem c.steps c.slots
+searches_start pick c p problem_is none start =
+    subst (λ q. Searches pick q c.steps c.slots) (sym problem_is) (subst (λ taken. Searches pick p taken c.slots) (sym none) (Searches.start start))
+
+module _ (pick : Pick) (budget : ℕ) (c : Course) (p : Problem) (problem_is : c.problem ≡ p) (searches : Searches pick c.problem c.steps c.slots) where
+  of_problem : (it : Settled) → Ends pick c.problem budget it → Ends pick p budget it
+  of_problem it h = subst (λ q. Ends pick q budget it) problem_is h
+
+  pub may_spend : (step : Step) (next : Next) (r : Result Settled AllocError) → IsNext pick c next → next ≡ nexts.Take step → length c.steps ≡ budget →
+      IfOk r (λ it. it ≡ settled.Spent c.steps) → IfOk r (Ends pick p budget)
+  may_spend step next r h is spent =
+      if_ok_as (λ it. it ≡ settled.Spent c.steps) (Ends pick p budget) r
+      (λ it same. of_problem it (ends_spent pick budget c searches step it (subst (IsNext pick c) is h) spent same))
+
+  pub may_saturate : (number : ℕ) (next : Next) (r : Result Settled AllocError) → IsNext pick c next → next ≡ nexts.Saturated number → length c.steps ≤ budget →
+      IfOk r (IsLeafOf c number) → IfOk r (Ends pick p budget)
+  may_saturate number next r h is few =
+      if_ok_as (IsLeafOf c number) (Ends pick p budget) r
+      (λ it leaf. of_problem it (ends_saturated pick budget c searches number it (subst (IsNext pick c) is h) few leaf))
+
+pub due_list : (pick : Pick) (p : Problem) (taken : List Step) (slots : Slots) → Searches pick p taken slots → DueList pick p taken slots
+due_list pick p taken slots (Searches.start h) = DueList.start h
+due_list pick p taken slots (Searches.next {taken = before} {old = old} h each picked takes) = DueList.next (due_list pick p before old h) picked takes

@@ -1,0 +1,160 @@
+-- Splits by atoms of live mappings.
+use Rattle.std.proofs.Common.{◌≡◌, ◌∙◌, ℕ, zero, suc, ◌+◌, ◌<◌, ◌≤◌, ◌⊎◌, inl, inr, List, [], ◌∷◌, get_or, length, map, refl, sym, ap, subst, arith}
+use Rattle.std.proofs.lemmas.List.Elements.{All-contains}
+use Rattle.std.proofs.lemmas.Option.{get_or_from_slice_get, slice_get-get_or, slice_get_within}
+use Rattle.std.specs.List.{Any, Contains}
+use Rattle.std.specs.Prelude.{Option, Some, None, slice_get}
+use Rattle.ba_model.specs.declared.query.Atom.{Atom}
+use Rattle.ba_model.specs.declared.query.Part.{Part}
+use Rattle.ba_facts.specs.Matches.{AreMatches, GivesAtom, IsMatch, terms_at}
+use Rattle.ba_facts.specs.declared.branch.Branch.{Branch}
+use Rattle.ba_facts.specs.declared.term.Mapping.{Mapping}
+use Rattle.ba_facts.specs.declared.term.Side.{Side}
+use Rattle.ba_facts.specs.declared.term.Side.TheVariants.{One, Two}
+use Rattle.ba_facts.specs.declared.term.TermAtom.{TermAtom}
+use Rattle.ba_kernel.specs.Courses.{IsOpen}
+use Rattle.ba_kernel.specs.News.{IsCandidate}
+use Rattle.ba_kernel.specs.NewParts.{IsAtomOfParts, IsAtomOfRules, IsAtomOfViews}
+use Rattle.ba_kernel.specs.Tests.{Course}
+use Rattle.ba_kernel.specs.declared.step.Step.{Step}
+use Rattle.ba_kernel.specs.declared.step.Step.TheVariants as steps
+use Rattle.ba_instant.proofs.ChaseLemmas.{new_on}
+use Rattle.ba_instant.proofs.OfferLemmas.{improves_as, improves_both, improves_next}
+use Rattle.ba_instant.specs.Offers.{Improves, IsNewIn, IsSplitBy, IsSplitOfAtom, IsSplitOfConds, IsSplitOfPart, IsSplitOfParts, IsSplitOfRules, IsSplitOfSides, IsSplitOfViews, IsSplitStep, Upto}
+use Rattle.ba_instant.specs.declared.found.Found.{Found}
+use Rattle.ba_instant.specs.declared.order.Pick.{Pick}
+
+some_inj : {X : Type 0} (o : Option X) (x y : X) → o ≡ Some x → o ≡ Some y → x ≡ y
+some_inj o x y left right = cc
+
+-- the element that a function takes to one that is there
+contains_map : {X Y : Type 0} (f : X → Y) (xs : List X) (y : Y) → Contains (map f xs) y → Any (λ x. f x ≡ y) xs
+contains_map f [] y (k, below, at) = absurd (omega arith)
+contains_map f (x ∷ xs) y (zero, below, at) = (zero, x, omega arith, refl, at)
+contains_map f (x ∷ xs) y (suc k, below, at) =
+    let it = contains_map f xs y (k, omega arith, at) in
+    (suc it.0, it.1, omega (arith, it.2), it.3, it.4)
+
+-- ---- sets by the elements of a list
+
+module _ (c : Course) (pick : Pick) where
+  module _ {X : Type 0} (xs : List X) (R : X → Step → Type 0) where
+    -- of the element of the number
+    abbrev pub At : ℕ → Step → Type 0
+    At i step = (x : X) × (slice_get xs i ≡ Some x) × R x step
+
+    abbrev OfSome : Step → Type 0
+    OfSome step = Any (λ x. R x step) xs
+
+    pub at_more : (i : ℕ) (x : X) (old mid new : Option Found) → i < length xs → x ≡ get_or xs i x → Improves c pick (Upto At i) old mid → Improves c pick (R x) mid new →
+        Improves c pick (Upto At (i + 1)) old new
+    at_more i x old mid new inside is before now =
+        let there : slice_get xs i ≡ Some x = slice_get-get_or xs i x inside ∙ ap Some (sym is) in
+        improves_next c pick At i old mid new before
+        (improves_as c pick (R x) (At i) mid new (λ step r is. (x, there, r)) (λ step e is. subst (λ y. R y step) (some_inj _ e.0 x e.1 there) e.2) now)
+
+    at_some : (i : ℕ) (step : Step) → Upto At i step → OfSome step
+    at_some i step (j, below, e) = (j, e.0, slice_get_within xs j e.0 e.1, get_or_from_slice_get xs j e.0 e.0 e.1, e.2)
+
+    pub at_all : (i : ℕ) (old new : Option Found) → length xs ≤ i → Improves c pick (Upto At i) old new → Improves c pick OfSome old new
+    at_all i old new past h =
+        improves_as c pick (Upto At i) OfSome old new (λ step e is. at_some i step e)
+        (λ step e is. (e.0, omega (arith, e.2, past), (e.1, slice_get-get_or xs e.0 e.1 e.2 ∙ ap Some e.3, e.4))) h
+
+  module _ (n : ℕ) where
+    -- by an atom of some element
+    pub split_some : {X : Type 0} (xs : List X) (P : X → TermAtom → List ℕ → Type 0) (old new : Option Found) → Improves c pick (λ step. Any (λ x. IsSplitBy (P x) n step) xs) old new →
+        Improves c pick (IsSplitBy (λ atom facts. Any (λ x. P x atom facts) xs) n) old new
+    split_some xs P old new h =
+        improves_as c pick (λ step. Any (λ x. IsSplitBy (P x) n step) xs) (IsSplitBy (λ atom facts. Any (λ x. P x atom facts) xs) n) old new
+        (λ step e is. ((e.4).0, (e.4).1, (e.4).2, (e.0, e.1, e.2, e.3, (e.4).3)))
+        (λ step e is. ((e.3).0, (e.3).1, (e.3).2, (e.3).3, (e.0, e.1, e.2, (e.3).4))) h
+
+    module _ (b : Branch) where
+      pub split_conds : (facts : List ℕ) (conds : List Atom) (old new : Option Found) → Improves c pick (λ step. Any (λ cond. IsSplitOfAtom b n facts cond step) conds) old new →
+          Improves c pick (IsSplitOfConds b n facts conds) old new
+      split_conds facts conds old new h =
+          improves_as c pick (λ step. Any (λ cond. IsSplitOfAtom b n facts cond step) conds) (IsSplitOfConds b n facts conds) old new
+          (λ step e is. ((e.4).0, (e.4).1, (e.0, e.1, e.2, e.3, (e.4).2)))
+          (λ step e is. ((e.2).0, (e.2).1, (e.2).2, (e.2).3, (e.0, e.1, (e.2).4))) h
+
+      pub split_atom : (facts : List ℕ) (cond : Atom) (atom : TermAtom) (old new : Option Found) → GivesAtom (map (terms_at b) facts) atom cond →
+          Improves c pick (λ it. it ≡ steps.Split n atom) old new → Improves c pick (IsSplitOfAtom b n facts cond) old new
+      split_atom facts cond atom old new gives h =
+          improves_as c pick (λ it. it ≡ steps.Split n atom) (IsSplitOfAtom b n facts cond) old new (λ step e is. (atom, e, gives))
+          (λ step e is. e.1 ∙ ap (steps.Split n) (atom_once facts cond e.0 atom e.2 gives)) h
+        where
+          atom_once : (facts : List ℕ) (cond : Atom) (one other : TermAtom) → GivesAtom (map (terms_at b) facts) one cond → GivesAtom (map (terms_at b) facts) other cond →
+              one ≡ other
+          atom_once facts cond one other h k =
+              let op : one.op ≡ other.op = sym h.op ∙ k.op in
+              let left : one.left ≡ other.left = some_inj _ one.left other.left h.left k.left in
+              let right : one.right ≡ other.right = some_inj _ one.right other.right h.right k.right in
+              λ i. record { op = op i; left = left i; right = right i }
+
+      -- by the atoms of all live mappings
+      pub split_part : (side : Side) (part : Part) (found : List Mapping) (old new : Option Found) → AreMatches b side part found →
+          Improves c pick (λ step. Any (λ m. IsSplitOfConds b n m.facts part.conds step) found) old new → Improves c pick (IsSplitOfPart b n side part) old new
+      split_part side part found old new are h =
+          improves_as c pick (λ step. Any (λ m. IsSplitOfConds b n m.facts part.conds step) found) (IsSplitOfPart b n side part) old new
+          (λ step e is.
+          let match_ = All-contains (IsMatch b side part) found e.1 are.sound (e.0, e.2, e.3) in
+          ((e.4).0, (e.4).1, (e.1).facts, record { live = match_.live; head = tt; stands = (e.4).2 }))
+          (λ step e is.
+          let at = contains_map (λ (it : Mapping). it.facts) found e.2 (are.complete e.2 (e.3).live) in
+          (at.0, at.1, at.2, at.3, (e.0, e.1, subst (λ facts. Any (GivesAtom (map (terms_at b) facts) e.0) part.conds) (sym at.4) (e.3).stands))) h
+
+      pub split_sides : (parts : List Part) (old mid new : Option Found) → Improves c pick (IsSplitOfParts b n One parts) old mid → Improves c pick (IsSplitOfParts b n Two parts) mid new →
+          Improves c pick (IsSplitOfSides b n parts) old new
+      split_sides parts old mid new h k =
+          improves_as c pick (λ step. IsSplitOfParts b n One parts step ⊎ IsSplitOfParts b n Two parts step) (IsSplitOfSides b n parts) old new
+          (λ step e is. elim e [ inl it ↦ (it.0, it.1, it.2, inl it.3) | inr it ↦ (it.0, it.1, it.2, inr it.3) ])
+          (λ step e is. elim e.3 [ inl it ↦ inl (e.0, e.1, e.2, it) | inr it ↦ inr (e.0, e.1, e.2, it) ])
+          (improves_both c pick (IsSplitOfParts b n One parts) (IsSplitOfParts b n Two parts) old mid new h k)
+
+      -- ---- all of them
+
+      module _ (open_ : IsOpen c.slots n b) where
+        abbrev OfGoal : TermAtom → List ℕ → Type 0
+        OfGoal = IsAtomOfParts b Two c.problem.goal.parts None
+
+        candidate : (atom : TermAtom) (facts : List ℕ) → IsCandidate c.problem b atom facts →
+            (IsAtomOfViews b c.problem.policy.views atom facts ⊎ IsAtomOfRules b c.problem.policy.schema.rules atom facts) ⊎ OfGoal atom facts
+        candidate atom facts (IsCandidate.of_view {view} {part} in_views in_parts live) =
+            inl (inl (in_views.0, view, in_views.1, in_views.2, (in_parts.0, part, in_parts.1, in_parts.2, live)))
+        candidate atom facts (IsCandidate.of_goal {part} in_parts live) =
+            inr (in_parts.0, part, in_parts.1, in_parts.2, record { live = live.live; head = tt; stands = live.stands })
+        candidate atom facts (IsCandidate.of_rule {rule} {part} One in_rules in_parts live) =
+            inl (inr (in_rules.0, rule, in_rules.1, in_rules.2, inl (in_parts.0, part, in_parts.1, in_parts.2, live)))
+        candidate atom facts (IsCandidate.of_rule {rule} {part} Two in_rules in_parts live) =
+            inl (inr (in_rules.0, rule, in_rules.1, in_rules.2, inr (in_parts.0, part, in_parts.1, in_parts.2, live)))
+
+        abbrev Views : Step → Type 0
+        Views = IsSplitOfViews b n c.problem.policy.views
+
+        abbrev Rules : Step → Type 0
+        Rules = IsSplitOfRules b n c.problem.policy.schema.rules
+
+        abbrev Goals : Step → Type 0
+        Goals = IsSplitOfParts b n Two c.problem.goal.parts
+
+        looked : (step : Step) → IsSplitStep n step → IsNewIn c step → (Views step ⊎ Rules step) ⊎ Goals step
+        looked step (atom, same) new =
+            let at = new_on c n b (steps.Split n atom) open_ refl (subst (IsNewIn c) same new) in
+            let tells = at.tells in
+            elim (candidate atom tells.facts tells.candidate) [
+              | inl (inl h) ↦ inl (inl (atom, same, tells.facts, h))
+              | inl (inr h) ↦ inl (inr (atom, same, tells.facts, h))
+              | inr h ↦ inr (atom, same, tells.facts, h)
+            ]
+
+        is_split : (step : Step) → (Views step ⊎ Rules step) ⊎ Goals step → IsSplitStep n step
+        is_split step (inl (inl h)) = (h.0, h.1)
+        is_split step (inl (inr h)) = (h.0, h.1)
+        is_split step (inr h) = (h.0, h.1)
+
+        pub split_all : (old one two new : Option Found) → Improves c pick Views old one → Improves c pick Rules one two → Improves c pick Goals two new →
+            Improves c pick (IsSplitStep n) old new
+        split_all old one two new h k l =
+            improves_as c pick (λ step. (Views step ⊎ Rules step) ⊎ Goals step) (IsSplitStep n) old new (λ step e is. is_split step e) looked
+            (improves_both c pick (λ step. Views step ⊎ Rules step) Goals old two new (improves_both c pick Views Rules old one two h k) l)

@@ -1,0 +1,21 @@
+use Rattle.std.proofs.Common.{◌≡◌, ◌≤◌, arith, length, subst}
+use Rattle.std.proofs.lemmas.Grind.{common_steps}
+use Rattle.std.specs.Prelude.{Some, slice_get}
+use Rattle.ba_instant.proofs.MapLemmas.{goal_mapped, goal_past}
+use Rattle.ba_instant.proofs.OfferLemmas.{improves_end, improves_next}
+use Rattle.ba_instant.specs.Offers.{IsOfForm}
+use Rattle.ba_instant.specs.declared.mapped.Form.TheVariants.{OfGoal}
+use Rattle.ba_instant.proofs.found.Spot.offer_goals.Goals as goal
+
+pub loop-part-preserved : goal.loop-part-preserved
+loop-part-preserved c =
+    let there : slice_get c.args.self.now.search.now.problem.goal.parts c.loop-part.part ≡ Some c.get.result.now =
+    subst (λ p. slice_get p.goal.parts c.loop-part.part ≡ Some c.get.result.now) c.problem.ensures.is c.get.ensures in
+    improves_next c.args.self.now.search.now c.args.self.now.pick (λ part. IsOfForm c.args.self.now.number (OfGoal part)) c.loop-part.part c.args.best.now c.loop-part.best c.offer.new.best c.loop-part.invariant
+    (goal_mapped c.args.self.now.search.now c.args.self.now.number c.args.self.now.branch.now c.requires c.args.self.now.pick c.loop-part.part c.get.result.now c.loop-part.best c.offer.new.best there c.in_ok-offer.ensures)
+
+pub returns : goal.returns
+returns c =
+    let past : length c.args.self.now.search.now.problem.goal.parts ≤ c.loop-part.part = grind (arith, common_steps) in
+    improves_end c.args.self.now.search.now c.args.self.now.pick (λ part. IsOfForm c.args.self.now.number (OfGoal part)) c.loop-part.part c.args.best.now c.loop-part.best c.loop-part.invariant
+    (λ part step more of new. goal_past c.args.self.now.search.now c.args.self.now.number c.args.self.now.branch.now c.requires part step (omega (arith, past, more)) of new)

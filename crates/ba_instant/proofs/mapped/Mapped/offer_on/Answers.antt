@@ -1,0 +1,16 @@
+use Rattle.std.proofs.Common.{◌∙◌, ap}
+use Rattle.ba_instant.proofs.MapLemmas.{mapped_shown, mapped_undecided}
+use Rattle.ba_instant.specs.Offers.{step_of}
+use Rattle.ba_instant.proofs.mapped.Mapped.offer_on.Goals as goal
+
+pub returns-in_ok-copied-in-None : goal.returns-in_ok-copied-in-None
+returns-in_ok-copied-in-None c =
+    mapped_shown c.args.self.now.spot.now.search.now c.args.self.now.spot.now.pick c.args.self.now.spot.now.branch.now c.args.self.now.spot.now.number c.args.self.now.form c.args.self.now.side c.args.self.now.part.now
+    c.args.facts.now c.on-step.result c.undecided.result c.args.best.now c.offer.new.best
+    (c.on-step.ensures ∙ ap (step_of c.args.self.now.spot.now.number c.args.self.now.form) c.in_ok-copied-in-None.ensures)
+    c.undecided.ensures c.in-None.is c.offer.ensures
+
+pub returns-in-Some : goal.returns-in-Some
+returns-in-Some c =
+    mapped_undecided c.args.self.now.spot.now.search.now c.args.self.now.spot.now.pick c.args.self.now.spot.now.branch.now c.args.self.now.spot.now.number c.args.self.now.form c.args.self.now.side c.args.self.now.part.now
+    c.args.facts.now c.undecided.result c.in-Some.field-0 c.args.best.now c.undecided.ensures c.in-Some.is

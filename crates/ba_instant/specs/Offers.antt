@@ -1,0 +1,216 @@
+-- The first of the new steps of a set, by round and then as they are picked; and the sets of steps that are looked through.
+use Rattle.std.specs.Prelude.{◌≡◌, ◌≢◌, ◌⊎◌, ℕ, ◌<◌, List, [], Any, Bool, false, true, Option, Some, None, map, option_and_then, option_map, slice_get, unwrap_or}
+use Rattle.std.specs.Ordering.{is_gt, nat_cmp, ordering_then}
+use Rattle.std.specs.declared.cmp.Ordering.{Ordering}
+use Rattle.std.specs.declared.cmp.Ordering.TheVariants.{Greater}
+use Rattle.ba_model.specs.declared.policy.View.{View}
+use Rattle.ba_model.specs.declared.query.Atom.{Atom}
+use Rattle.ba_model.specs.declared.query.Part.{Part}
+use Rattle.ba_model.specs.declared.schema.Link.{Link}
+use Rattle.ba_model.specs.declared.schema.Rule.{Rule}
+use Rattle.ba_model.specs.declared.schema.Schema.{Schema}
+use Rattle.ba_model.specs.declared.schema.Table.{Table}
+use Rattle.ba_facts.specs.Known.{Known}
+use Rattle.ba_facts.specs.Matches.{GivesAtom, IsLiveAtom, Under, terms_at}
+use Rattle.ba_facts.specs.Searching.{Completes}
+use Rattle.ba_facts.specs.Shown.{ShowsOf}
+use Rattle.ba_facts.specs.declared.branch.Branch.{Branch}
+use Rattle.ba_facts.specs.declared.matches.search.Wanted.TheVariants.{Shown}
+use Rattle.ba_facts.specs.declared.term.Side.{Side}
+use Rattle.ba_facts.specs.declared.term.Side.TheVariants.{One, Two}
+use Rattle.ba_facts.specs.declared.term.Term.{Term}
+use Rattle.ba_facts.specs.declared.term.TermAtom.{TermAtom}
+use Rattle.ba_kernel.specs.Courses.{branch_of}
+use Rattle.ba_kernel.specs.News.{IsNewAt, IsRound}
+use Rattle.ba_kernel.specs.NewParts.{IsAtomOfParts, IsAtomOfRules, IsAtomOfSides, IsAtomOfViews}
+use Rattle.ba_kernel.specs.Tests.{Course, FactsPass, open_at}
+use Rattle.ba_kernel.specs.declared.problem.Problem.{Problem}
+use Rattle.ba_kernel.specs.declared.step.Step.{Step}
+use Rattle.ba_kernel.specs.declared.step.Step.TheVariants as steps
+use Rattle.ba_instant.specs.Dues.{IsDue}
+use Rattle.ba_instant.specs.Order.{pick_cmp}
+use Rattle.ba_instant.specs.declared.found.Found.{Found}
+use Rattle.ba_instant.specs.declared.mapped.Form.{Form}
+use Rattle.ba_instant.specs.declared.mapped.Form.TheVariants.{OfRule, OfView, OfGoal}
+use Rattle.ba_instant.specs.declared.order.Pick.{Pick}
+
+-- ---- the first of the new steps
+
+-- the step is new in the course, on its branch
+abbrev pub IsNewIn : Course → Step → Type 0
+IsNewIn c step = IsNewAt c.problem (open_at c.slots (branch_of step)) step
+
+abbrev pub IsRoundAt : Problem → Option Branch → Step → ℕ → Type 0
+IsRoundAt p None step round = ⊥
+IsRoundAt p (Some b) step round = IsRound p b step round
+
+abbrev pub IsRoundIn : Course → Step → ℕ → Type 0
+IsRoundIn c step round = IsRoundAt c.problem (open_at c.slots (branch_of step)) step round
+
+-- by round, then as steps are picked
+unfoldable pub found_cmp : Pick → Found → Found → Ordering
+found_cmp pick one other = ordering_then (nat_cmp one.round other.round) (pick_cmp pick one.step other.step)
+
+-- there is one, and it isn't behind this one
+abbrev pub Reaches : Pick → Option Found → Found → Type 0
+Reaches pick None it = ⊥
+Reaches pick (Some best) it = is_gt (found_cmp pick best it) ≡ false
+
+-- a new step of the set, with its round
+pub record IsFound (c : Course) (P : Step → Type 0) (it : Found) : Type 0 where
+  pub of : P it.step
+  pub new_ : IsNewIn c it.step
+  pub round_is : IsRoundIn c it.step it.round
+
+abbrev pub IsSomeFound : Course → (Step → Type 0) → Option Found → Type 0
+IsSomeFound c P None = ⊥
+IsSomeFound c P (Some it) = IsFound c P it
+
+-- Of the one before and the new steps of the set, it is the first.
+pub record Improves (c : Course) (pick : Pick) (P : Step → Type 0) (old new : Option Found) : Type 0 where
+  pub from : (new ≡ old) ⊎ IsSomeFound c P new
+  pub keeps : (it : Found) → Reaches pick old it → Reaches pick new it
+  pub reaches : (it : Found) → IsFound c P it → Reaches pick new it
+  pub finds : (step : Step) → P step → IsNewIn c step → new ≢ None
+
+-- the other only where it is before
+abbrev pub first_by : Bool → Found → Found → Option Found
+first_by false best it = Some best
+first_by true best it = Some it
+
+-- the one that comes first
+abbrev pub first_found : Pick → Option Found → Found → Option Found
+first_found pick None it = Some it
+first_found pick (Some best) it = first_by (is_gt (found_cmp pick best it)) best it
+
+-- ---- sets of steps
+
+-- one of the sets before the number k
+abbrev pub Upto : (ℕ → Step → Type 0) → ℕ → Step → Type 0
+Upto P k step = (i : ℕ) × (i < k) × P i step
+
+-- one of the sets
+abbrev pub OfAny : (ℕ → Step → Type 0) → Step → Type 0
+OfAny P step = (i : ℕ) × P i step
+
+abbrev pub IsEntryOf : ℕ → Step → Type 0
+IsEntryOf number step = (entry : ℕ) × (step ≡ steps.Entry number entry)
+
+-- a key of two facts, of a first fact, and any
+abbrev pub IsKeyOfPair : ℕ → ℕ → ℕ → Step → Type 0
+IsKeyOfPair number left right step = (key : ℕ) × (step ≡ steps.Key number key left right)
+
+abbrev pub IsKeyOfFact : ℕ → ℕ → Step → Type 0
+IsKeyOfFact number left step = OfAny (IsKeyOfPair number left) step
+
+abbrev pub IsKeyStep : ℕ → Step → Type 0
+IsKeyStep number step = OfAny (IsKeyOfFact number) step
+
+abbrev pub IsLinkOfFact : ℕ → ℕ → Step → Type 0
+IsLinkOfFact number fact step = (link : ℕ) × (step ≡ steps.Link number link fact)
+
+abbrev pub IsLinkStep : ℕ → Step → Type 0
+IsLinkStep number step = OfAny (IsLinkOfFact number) step
+
+-- the table of the fact of the number
+abbrev pub table_at : Schema → Branch → ℕ → Option Table
+table_at s b fact = option_and_then (λ it. slice_get s.tables it.table) (slice_get b.facts fact)
+
+-- the keys and the links of the fact's table
+abbrev pub keys_at : Schema → Branch → ℕ → List (List ℕ)
+keys_at s b fact = unwrap_or (option_map (λ table. table.keys) (table_at s b fact)) []
+
+abbrev pub links_at : Schema → Branch → ℕ → List Link
+links_at s b fact = unwrap_or (option_map (λ table. table.links) (table_at s b fact)) []
+
+-- ---- steps of mappings
+
+-- the step of the form on the facts
+abbrev pub step_of : ℕ → Form → List ℕ → Step
+step_of number (OfRule rule part) facts = steps.Rule number rule part facts
+step_of number (OfView view part) facts = steps.View number view part facts
+step_of number (OfGoal part) facts = steps.Goal number part facts
+
+-- of facts that pass the part's tests on the side
+abbrev pub IsMapped : Branch → ℕ → Form → Side → Part → Step → Type 0
+IsMapped b number form side part step = (facts : List ℕ) × (step ≡ step_of number form facts) × FactsPass b side part facts
+
+-- both terms are there, and the atom isn't shown
+abbrev pub IsHidden : Known → List (List Term) → Atom → Type 0
+IsHidden k rows atom = Under (λ op a b. ¬ (ShowsOf k op a b)) rows atom
+
+-- of the chosen facts and one of each of these tables that together show the part's atoms
+abbrev pub IsMappedFrom : Branch → ℕ → Form → Side → Part → List ℕ → List ℕ → Step → Type 0
+IsMappedFrom b number form side part from chosen step = (facts : List ℕ) × (step ≡ step_of number form facts) × Completes b side part Shown from chosen facts
+
+-- of the form, on any facts
+abbrev pub IsOfForm : ℕ → Form → Step → Type 0
+IsOfForm number form step = (facts : List ℕ) × (step ≡ step_of number form facts)
+
+-- of facts of either side that pass the part's tests
+abbrev pub IsOfSides : Branch → ℕ → Form → Part → Step → Type 0
+IsOfSides b number form part step = IsMapped b number form One part step ⊎ IsMapped b number form Two part step
+
+abbrev pub IsOfRule : ℕ → ℕ → Step → Type 0
+IsOfRule number rule step = (part : ℕ) × IsOfForm number (OfRule rule part) step
+
+abbrev pub IsOfView : ℕ → ℕ → Step → Type 0
+IsOfView number view step = (part : ℕ) × IsOfForm number (OfView view part) step
+
+abbrev pub IsRuleStep : ℕ → Step → Type 0
+IsRuleStep number step = (rule : ℕ) × IsOfRule number rule step
+
+abbrev pub IsViewStep : ℕ → Step → Type 0
+IsViewStep number step = (view : ℕ) × IsOfView number view step
+
+abbrev pub IsGoalStep : ℕ → Step → Type 0
+IsGoalStep number step = (part : ℕ) × IsOfForm number (OfGoal part) step
+
+-- ---- splits
+
+abbrev pub IsSplitStep : ℕ → Step → Type 0
+IsSplitStep number step = (atom : TermAtom) × (step ≡ steps.Split number atom)
+
+-- by what the part's atom is over the facts
+abbrev pub IsSplitOfAtom : Branch → ℕ → List ℕ → Atom → Step → Type 0
+IsSplitOfAtom b number facts cond step = (atom : TermAtom) × (step ≡ steps.Split number atom) × GivesAtom (map (terms_at b) facts) atom cond
+
+-- by what one of the atoms is over them
+abbrev pub IsSplitOfConds : Branch → ℕ → List ℕ → List Atom → Step → Type 0
+IsSplitOfConds b number facts conds step = (atom : TermAtom) × (step ≡ steps.Split number atom) × Any (GivesAtom (map (terms_at b) facts) atom) conds
+
+-- by an atom that some facts have by P
+abbrev pub IsSplitBy : (TermAtom → List ℕ → Type 0) → ℕ → Step → Type 0
+IsSplitBy P number step = (atom : TermAtom) × (step ≡ steps.Split number atom) × (facts : List ℕ) × P atom facts
+
+-- by an atom of a live mapping of the part, of one of the parts, of one to either side, of a view's, of a rule's
+abbrev pub IsSplitOfPart : Branch → ℕ → Side → Part → Step → Type 0
+IsSplitOfPart b number side part step = IsSplitBy (IsLiveAtom b side part None) number step
+
+abbrev pub IsSplitOfParts : Branch → ℕ → Side → List Part → Step → Type 0
+IsSplitOfParts b number side parts step = IsSplitBy (IsAtomOfParts b side parts None) number step
+
+abbrev pub IsSplitOfSides : Branch → ℕ → List Part → Step → Type 0
+IsSplitOfSides b number parts step = IsSplitBy (IsAtomOfSides b parts) number step
+
+abbrev pub IsSplitOfViews : Branch → ℕ → List View → Step → Type 0
+IsSplitOfViews b number views step = IsSplitBy (IsAtomOfViews b views) number step
+
+abbrev pub IsSplitOfRules : Branch → ℕ → List Rule → Step → Type 0
+IsSplitOfRules b number rules step = IsSplitBy (IsAtomOfRules b rules) number step
+
+-- ---- all steps
+
+-- on the branch of the number
+abbrev pub IsOn : ℕ → Step → Type 0
+IsOn number step = branch_of step ≡ number
+
+-- The due step that is picked on the branch, or none where no step on it is new.
+pub record IsDueOn (c : Course) (pick : Pick) (number : ℕ) (step : Step) : Type 0 where
+  pub on : branch_of step ≡ number
+  pub due : IsDue c.problem c.slots step
+  pub first : (other : Step) → branch_of other ≡ number → IsDue c.problem c.slots other → pick_cmp pick step other ≢ Greater
+
+abbrev pub IsDueIfAny : Course → Pick → ℕ → Option Step → Type 0
+IsDueIfAny c pick number None = (step : Step) → branch_of step ≡ number → ¬ (IsNewIn c step)
+IsDueIfAny c pick number (Some step) = IsDueOn c pick number step

@@ -1,0 +1,119 @@
+//! The due step of a branch, and of all open branches.
+ghost use Rattle.std.specs.Prelude.{◌≡◌, IfOk, OnOk};
+ghost use Rattle.ba_kernel.specs.Courses.{IsOpen};
+ghost use Rattle.ba_instant.specs.Nexts.{IsLooked, IsNext, first_step};
+ghost use Rattle.ba_instant.specs.Offers.{Improves, IsDueIfAny, IsOn};
+
+use crate::found::{Found, Spot};
+use crate::order::Pick;
+use ba_kernel::{Search, Step};
+use std::alloc::{AllocError, Global};
+use std::cmp::Ordering;
+
+/// What a search does next.
+#[derive(Drop)]
+pub enum Next {
+    /// No branch is open.
+    Closed,
+    /// The branch of the number has no new step.
+    Saturated(u32),
+    /// Takes the step.
+    Take(Step),
+}
+
+impl<'a> Spot<'a> {
+    /// The due step that is picked on the branch; none where no step on it is new.
+    pub fn due_step(&self, alloc: Global) -> Result<Option<Step>, AllocError>
+        requires { IsOpen self.now.search.now.slots self.now.number self.now.branch.now }
+        ensures { IfOk result (IsDueIfAny self.now.search.now self.now.pick self.now.number) }
+    {
+        let mut best = None;
+        self.offer_all(alloc, &mut best)?;
+        match best {
+            Some(found) => Ok(Some(found.step)),
+            None => Ok(None),
+        }
+    }
+
+    /// Offers all steps on the branch.
+    fn offer_all(&self, alloc: Global, best: &mut Option<Found>) -> Result<(), AllocError>
+        requires { IsOpen self.now.search.now.slots self.now.number self.now.branch.now }
+        ensures { OnOk result (Improves self.now.search.now self.now.pick (IsOn self.now.number) best.old best.new) }
+    {
+        self.offer_entries(best);
+        self.offer_keys(best)?;
+        self.offer_links(best)?;
+        self.offer_rules(alloc, best)?;
+        self.offer_views(alloc, best)?;
+        self.offer_splits(alloc, best)?;
+        let absurd = Step::Absurd {
+            branch: self.number,
+        };
+        self.offer(absurd, best);
+        self.offer_goals(alloc, best)?;
+        Ok(())
+    }
+}
+
+/// What the search does next: it takes the step that is picked of all due ones, as long as a branch
+/// is open and each open branch has a new step.
+pub fn next_step(alloc: Global, search: &Search, pick: Pick) -> Result<Next, AllocError>
+    ensures { IfOk result (IsNext pick search.now) }
+{
+    let mut first = None;
+    for number in 0..search.branches() {
+        let saturated = look_at(alloc, search, pick, number, &mut first)?;
+        if saturated {
+            return Ok(Next::Saturated(number));
+        }
+    }
+    match first {
+        Some(step) => Ok(Next::Take(step)),
+        None => Ok(Next::Closed),
+    }
+}
+
+/// Keeps the branch's due step, if it is picked earlier than the one so far; and tells whether the
+/// branch is saturated.
+fn look_at(
+    alloc: Global,
+    search: &Search,
+    pick: Pick,
+    number: u32,
+    first: &mut Option<Step>,
+) -> Result<bool, AllocError>
+    ensures { IfOk result (λ it. IsLooked pick search.now number it first.old first.new) }
+{
+    match search.branch(number) {
+        None => Ok(false),
+        Some(branch) => {
+            let spot = Spot {
+                search,
+                branch,
+                number,
+                pick,
+            };
+            let due = spot.due_step(alloc)?;
+            match due {
+                None => Ok(true),
+                Some(step) => {
+                    keep_picked(pick, step, first);
+                    Ok(false)
+                }
+            }
+        }
+    }
+}
+
+/// Keeps the one of the two steps that is picked earlier.
+fn keep_picked(pick: Pick, step: Step, first: &mut Option<Step>)
+    ensures { first.new ≡ first_step pick first.old step }
+{
+    let is_first = match first {
+        Some(old) => pick.compare(old, &step) == Ordering::Greater,
+        None => true,
+    };
+    if is_first {
+        *first = Some(step);
+    }
+}

@@ -1,0 +1,127 @@
+//! How a search ends.
+ghost use Rattle.std.specs.Prelude.{◌≡◌, ◌≢◌, ◌≤◌, ◌<◌, ◌∷◌, ◌++◌, [], IfOk, None, OnOk, length};
+ghost use Rattle.ba_model.specs.declared.limits.TheConstants.{MAX_BUDGET};
+ghost use Rattle.ba_kernel.specs.Courses.{AllClosed, ProblemFits};
+ghost use Rattle.ba_kernel.specs.Tests.{open_at};
+ghost use Rattle.ba_instant.specs.Dues.{Ends, Searches};
+ghost use Rattle.ba_instant.specs.Nexts.{IsLeafOf, IsTaken};
+ghost use Rattle.ba_instant.specs.declared.ends.Settled.TheVariants.{Proved as ByProof, Spent};
+ghost use Rattle.ba_instant.specs.declared.order.Pick.TheVariants.{First};
+
+use crate::copies::copy_steps;
+use crate::due::{Next, next_step};
+use crate::order::Pick;
+use ba_facts::Branch;
+use ba_kernel::{Problem, Proved, Search, Step};
+use ba_model::{Failure, List};
+use std::alloc::{AllocError, Global};
+
+/// The steps that were taken, and an open branch that they leave, on which no step is new.
+#[derive(Drop)]
+pub struct Leaf {
+    pub steps: List<Step>,
+    pub branch: Branch,
+}
+
+/// How a search ends.
+#[derive(Drop)]
+pub enum Settled {
+    /// No branch is open.
+    Proved(Proved),
+    /// An open branch has no new step: the least such.
+    Saturated(Leaf),
+    /// As many steps were taken as the budget has, and each open branch has a new step.
+    Spent(List<Step>),
+}
+
+/// Takes due steps from the problem's start, each the first in the order of steps of those that are
+/// due on open branches, at most as many as the budget.
+///
+/// It ends as soon as no branch is open, else as soon as an open branch has no new step, else when
+/// the budget is spent. A step is new where it is accepted and tells its branch what isn't there
+/// yet; it is due where no new step of its branch has a lesser round. `AllocError` leaves nothing
+/// behind.
+pub fn settle(alloc: Global, problem: Problem, budget: u32) -> Result<Settled, AllocError>
+    requires fits { ProblemFits problem }
+    requires limit { budget ≤ MAX_BUDGET }
+    ensures { IfOk result (Ends First problem budget) }
+{
+    settle_in(alloc, problem, budget, Pick::First)
+}
+
+fn settle_in(
+    alloc: Global,
+    problem: Problem,
+    budget: u32,
+    pick: Pick,
+) -> Result<Settled, AllocError>
+    requires fits { ProblemFits problem }
+    requires limit { budget ≤ MAX_BUDGET }
+    ensures { IfOk result (Ends pick problem budget) }
+{
+    let mut search = Search::start(alloc, problem)?;
+    for _taken in 0..budget {
+        let next = next_step(alloc, &search, pick)?;
+        match next {
+            Next::Take(step) => take(alloc, &mut search, pick, step)?,
+            Next::Saturated(number) => return saturated(alloc, &search, number),
+            Next::Closed => return Ok(closed(search)),
+        }
+    }
+    let next = next_step(alloc, &search, pick)?;
+    match next {
+        Next::Take(_) => spent(alloc, &search),
+        Next::Saturated(number) => saturated(alloc, &search, number),
+        Next::Closed => Ok(closed(search)),
+    }
+}
+
+/// Takes the step, which is due.
+fn take(alloc: Global, search: &mut Search, pick: Pick, step: Step) -> Result<(), AllocError>
+    requires few { length search.old.steps < MAX_BUDGET }
+    requires taken { IsTaken pick search.old step }
+    requires searches { Searches pick search.old.problem search.old.steps search.old.slots }
+    ensures searches { OnOk result (Searches pick search.new.problem search.new.steps search.new.slots) }
+    ensures problem { OnOk result (search.new.problem ≡ search.old.problem) }
+    ensures steps { OnOk result (search.new.steps ≡ search.old.steps ++ step ∷ []) }
+{
+    match search.apply(alloc, step) {
+        Ok(()) => Ok(()),
+        Err(Failure::NoMemory) => Err(AllocError),
+        Err(Failure::Fault(_)) => unreachable!(),
+    }
+}
+
+/// The proof that the search is, of which no branch is open.
+fn closed(search: Search) -> Settled
+    requires { AllClosed search.slots }
+    ensures { result ≡ ByProof (record { problem = search.problem; steps = search.steps }) }
+{
+    match search.close() {
+        Ok(proved) => Settled::Proved(proved),
+        Err(_) => unreachable!(),
+    }
+}
+
+/// The steps that were taken.
+fn spent(alloc: Global, search: &Search) -> Result<Settled, AllocError>
+    ensures { IfOk result (λ it. it ≡ Spent search.now.steps) }
+{
+    let steps = copy_steps(alloc, search.steps())?;
+    Ok(Settled::Spent(steps))
+}
+
+/// The leaf of the branch.
+fn saturated(alloc: Global, search: &Search, number: u32) -> Result<Settled, AllocError>
+    requires { open_at search.now.slots number ≢ None }
+    ensures { IfOk result (IsLeafOf search.now number) }
+{
+    match search.branch(number) {
+        Some(branch) => {
+            let steps = copy_steps(alloc, search.steps())?;
+            let branch = branch.copy(alloc)?;
+            Ok(Settled::Saturated(Leaf { steps, branch }))
+        }
+        None => unreachable!(),
+    }
+}

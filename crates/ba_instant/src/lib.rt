@@ -1,0 +1,17 @@
+//! The search for a proof: each step that is taken is the due one, by rounds and the order of steps,
+//! until no branch is open, a branch has no new step, or the budget is spent.
+#![tactic(auto)]
+
+mod chases;
+mod copies;
+mod due;
+mod ends;
+mod found;
+pub mod laws;
+mod mapped;
+mod order;
+mod parts;
+mod splits;
+
+pub use ends::{Leaf, Settled, settle};
+pub use order::{Pick, compare_steps};

@@ -1,0 +1,156 @@
+//! Steps on facts that a part is mapped to.
+ghost use Rattle.std.specs.Prelude.{◌≡◌, ◌↔◌, [], Any, IfOk, IsTrue, OnOk};
+ghost use Rattle.ba_facts.specs.Matches.{IsFactOf};
+ghost use Rattle.ba_kernel.specs.Effects.{rows_at};
+ghost use Rattle.ba_instant.specs.Offers.{Improves, IsHidden, IsMapped, IsMappedFrom, step_of};
+
+use crate::found::{Found, Spot, counted};
+use ba_facts::{Branch, Side};
+use ba_kernel::Step;
+use ba_model::{Atom, List, Part};
+use std::alloc::{AllocError, Global};
+
+/// A step without its branch and facts.
+#[derive(Clone, Copy)]
+pub enum Form {
+    OfRule { rule: u32, part: u32 },
+    OfView { view: u32, part: u32 },
+    OfGoal { part: u32 },
+}
+
+impl Form {
+    /// The step on the branch and the facts.
+    fn on(self, branch: u32, facts: List<u32>) -> Step
+        ensures { result ≡ step_of branch self facts }
+    {
+        match self {
+            Form::OfRule { rule, part } => Step::Rule {
+                branch,
+                rule,
+                part,
+                facts,
+            },
+            Form::OfView { view, part } => Step::View {
+                branch,
+                view,
+                part,
+                facts,
+            },
+            Form::OfGoal { part } => Step::Goal {
+                branch,
+                part,
+                facts,
+            },
+        }
+    }
+}
+
+/// A part that is mapped to facts of a side, and what step is taken on them.
+#[derive(Clone, Copy)]
+pub struct Mapped<'a> {
+    pub spot: &'a Spot<'a>,
+    pub form: Form,
+    pub part: &'a Part,
+    pub side: Side,
+}
+
+impl<'a> Mapped<'a> {
+    /// Offers the step on each facts of the side that show the part's atoms.
+    #[tactic(auto, using(crate::proofs::MapLemmas::mapped_whole))]
+    pub fn offer(&self, alloc: Global, best: &mut Option<Found>) -> Result<(), AllocError>
+        ensures { OnOk result (Improves self.now.spot.now.search.now self.now.spot.now.pick (IsMapped self.now.spot.now.branch.now self.now.spot.now.number self.now.form self.now.side self.now.part.now) best.old best.new) }
+    {
+        let mut chosen = Vec::new(alloc);
+        self.offer_from(alloc, self.part.from.as_slice(), &mut chosen, best)?;
+        Ok(())
+    }
+
+    /// Offers the step on the chosen facts and one fact of each further table.
+    fn offer_from(
+        &self,
+        alloc: Global,
+        from: &[u32],
+        chosen: &mut Vec<u32>,
+        best: &mut Option<Found>,
+    ) -> Result<(), AllocError>
+        ensures chosen { OnOk result (chosen.new.items ≡ chosen.old.items) }
+        ensures best { OnOk result (Improves self.now.spot.now.search.now self.now.spot.now.pick (IsMappedFrom self.now.spot.now.branch.now self.now.spot.now.number self.now.form self.now.side self.now.part.now from.now chosen.old.items) best.old best.new) }
+    {
+        if is_hopeless(self.spot.branch, self.part, chosen) {
+            return Ok(());
+        }
+        match from.split_first() {
+            None => self.offer_on(alloc, chosen, best),
+            Some((table, rest)) => {
+                let count = counted(self.spot.branch.facts.len())?;
+                for fact in 0..count {
+                    if self.is_fact(*table, fact) {
+                        chosen.push(fact)?;
+                        self.offer_from(alloc, rest, chosen, best)?;
+                        chosen.pop();
+                    }
+                }
+                Ok(())
+            }
+        }
+    }
+
+    /// Offers the step on the facts, if they show the part's atoms.
+    fn offer_on(
+        &self,
+        alloc: Global,
+        facts: &[u32],
+        best: &mut Option<Found>,
+    ) -> Result<(), AllocError>
+        ensures { OnOk result (Improves self.now.spot.now.search.now self.now.spot.now.pick (IsMappedFrom self.now.spot.now.branch.now self.now.spot.now.number self.now.form self.now.side self.now.part.now [] facts.now) best.old best.new) }
+    {
+        match self.spot.branch.undecided(self.part, facts) {
+            None => {
+                let step = self.form.on(self.spot.number, copied(alloc, facts)?);
+                self.spot.offer(step, best);
+                Ok(())
+            }
+            Some(_) => Ok(()),
+        }
+    }
+
+    /// Whether the number is that of a fact of the table on the side.
+    fn is_fact(&self, table: u32, number: u32) -> bool
+        ensures { IsTrue result ↔ IsFactOf self.now.spot.now.branch.now self.now.side table number }
+    {
+        match self.spot.branch.facts.find(number as usize) {
+            Some(fact) => fact.side == self.side && fact.table == table,
+            None => false,
+        }
+    }
+}
+
+/// Whether an atom of the part isn't shown, whatever further facts are chosen: the chosen ones give
+/// both its terms.
+fn is_hopeless(branch: &Branch, part: &Part, chosen: &[u32]) -> bool
+    ensures { IsTrue result ↔ Any (IsHidden branch.now.known (rows_at branch.now chosen.now)) part.now.conds }
+{
+    let conds = part.conds.as_slice();
+    conds.iter().any(|atom| is_hidden(branch, chosen, atom))
+}
+
+fn is_hidden(branch: &Branch, chosen: &[u32], atom: &Atom) -> bool
+    ensures { IsTrue result ↔ IsHidden branch.now.known (rows_at branch.now chosen.now) atom.now }
+{
+    match (
+        branch.term_of(chosen, &atom.left),
+        branch.term_of(chosen, &atom.right),
+    ) {
+        (Some(left), Some(right)) => !branch.known.shows(atom.op, left, right),
+        _ => false,
+    }
+}
+
+/// The same numbers.
+fn copied(alloc: Global, numbers: &[u32]) -> Result<List<u32>, AllocError>
+    ensures { IfOk result (λ it. it ≡ numbers.now) }
+{
+    let mut all = Vec::new(alloc);
+    all.extend_from_slice(numbers)?;
+    Ok(List::from_vec(all))
+}

@@ -1,0 +1,171 @@
+//! Splits by atoms of live mappings.
+ghost use Rattle.std.specs.Prelude.{◌≡◌, ◌⊎◌, IfOk, OnOk};
+ghost use Rattle.ba_facts.specs.Known.{seen};
+ghost use Rattle.ba_facts.specs.declared.term.Side.TheVariants.{One, Two};
+ghost use Rattle.ba_kernel.specs.Courses.{IsOpen};
+ghost use Rattle.ba_instant.specs.Offers.{Improves, IsSplitOfAtom, IsSplitOfConds, IsSplitOfPart, IsSplitOfParts, IsSplitOfRules, IsSplitOfSides, IsSplitOfViews, IsSplitStep};
+
+use crate::found::{Found, Spot};
+use ba_facts::{Side, Term, TermAtom, TermRef};
+use ba_kernel::Step;
+use ba_model::{Atom, Duplicate, Op, Part, Rule, View};
+use std::alloc::{AllocError, Global};
+
+impl<'a> Spot<'a> {
+    /// Offers the splits.
+    pub fn offer_splits(&self, alloc: Global, best: &mut Option<Found>) -> Result<(), AllocError>
+        requires { IsOpen self.now.search.now.slots self.now.number self.now.branch.now }
+        ensures { OnOk result (Improves self.now.search.now self.now.pick (IsSplitStep self.now.number) best.old best.new) }
+    {
+        let problem = self.search.problem();
+        self.offer_view_splits(alloc, problem.policy.views.as_slice(), best)?;
+        self.offer_rule_splits(alloc, problem.policy.schema.rules.as_slice(), best)?;
+        self.offer_part_splits(alloc, problem.goal.parts.as_slice(), Side::Two, best)?;
+        Ok(())
+    }
+
+    /// Offers the splits by atoms of the views, mapped to side One.
+    fn offer_view_splits(
+        &self,
+        alloc: Global,
+        views: &[View],
+        best: &mut Option<Found>,
+    ) -> Result<(), AllocError>
+        ensures { OnOk result (Improves self.now.search.now self.now.pick (IsSplitOfViews self.now.branch.now self.now.number views.now) best.old best.new) }
+    {
+        for view in views {
+            self.offer_part_splits(alloc, view.query.parts.as_slice(), Side::One, best)?;
+        }
+        Ok(())
+    }
+
+    /// Offers the splits by atoms of the rules' left queries, mapped to both sides.
+    fn offer_rule_splits(
+        &self,
+        alloc: Global,
+        rules: &[Rule],
+        best: &mut Option<Found>,
+    ) -> Result<(), AllocError>
+        ensures { OnOk result (Improves self.now.search.now self.now.pick (IsSplitOfRules self.now.branch.now self.now.number rules.now) best.old best.new) }
+    {
+        for rule in rules {
+            self.offer_side_splits(alloc, rule.left.parts.as_slice(), best)?;
+        }
+        Ok(())
+    }
+
+    /// Offers the splits by atoms of the parts, mapped to both sides.
+    fn offer_side_splits(
+        &self,
+        alloc: Global,
+        parts: &[Part],
+        best: &mut Option<Found>,
+    ) -> Result<(), AllocError>
+        ensures { OnOk result (Improves self.now.search.now self.now.pick (IsSplitOfSides self.now.branch.now self.now.number parts.now) best.old best.new) }
+    {
+        self.offer_part_splits(alloc, parts, Side::One, best)?;
+        self.offer_part_splits(alloc, parts, Side::Two, best)?;
+        Ok(())
+    }
+
+    /// Offers the splits by atoms of the parts, mapped to the side.
+    fn offer_part_splits(
+        &self,
+        alloc: Global,
+        parts: &[Part],
+        side: Side,
+        best: &mut Option<Found>,
+    ) -> Result<(), AllocError>
+        ensures { OnOk result (Improves self.now.search.now self.now.pick (IsSplitOfParts self.now.branch.now self.now.number side parts.now) best.old best.new) }
+    {
+        for part in parts {
+            self.offer_splits_of(alloc, part, side, best)?;
+        }
+        Ok(())
+    }
+
+    /// Offers the splits by atoms of the part, mapped to the side.
+    fn offer_splits_of(
+        &self,
+        alloc: Global,
+        part: &Part,
+        side: Side,
+        best: &mut Option<Found>,
+    ) -> Result<(), AllocError>
+        ensures { OnOk result (Improves self.now.search.now self.now.pick (IsSplitOfPart self.now.branch.now self.now.number side part.now) best.old best.new) }
+    {
+        let found = self.branch.matches(alloc, part, side)?;
+        for mapping in found.as_slice() {
+            self.offer_atoms(alloc, mapping.facts.as_slice(), part.conds.as_slice(), best)?;
+        }
+        Ok(())
+    }
+
+    /// Offers the splits by the atoms over the facts.
+    fn offer_atoms(
+        &self,
+        alloc: Global,
+        facts: &[u32],
+        conds: &[Atom],
+        best: &mut Option<Found>,
+    ) -> Result<(), AllocError>
+        ensures { OnOk result (Improves self.now.search.now self.now.pick (IsSplitOfConds self.now.branch.now self.now.number facts.now conds.now) best.old best.new) }
+    {
+        for atom in conds {
+            self.offer_atom(alloc, facts, atom, best)?;
+        }
+        Ok(())
+    }
+
+    /// Offers the split by the atom over the facts.
+    fn offer_atom(
+        &self,
+        alloc: Global,
+        facts: &[u32],
+        atom: &Atom,
+        best: &mut Option<Found>,
+    ) -> Result<(), AllocError>
+        ensures { OnOk result (Improves self.now.search.now self.now.pick (IsSplitOfAtom self.now.branch.now self.now.number facts.now atom.now) best.old best.new) }
+    {
+        match (
+            self.branch.term_of(facts, &atom.left),
+            self.branch.term_of(facts, &atom.right),
+        ) {
+            (Some(left), Some(right)) => {
+                let atom = term_atom(alloc, atom.op, left, right)?;
+                let step = Step::Split {
+                    branch: self.number,
+                    atom,
+                };
+                self.offer(step, best);
+                Ok(())
+            }
+            _ => Ok(()),
+        }
+    }
+}
+
+fn term_atom(
+    alloc: Global,
+    op: Op,
+    left: TermRef<'_>,
+    right: TermRef<'_>,
+) -> Result<TermAtom, AllocError>
+    ensures { IfOk result (λ it. it ≡ record { op = op; left = seen left.entry; right = seen right.entry }) }
+{
+    let left = copy_seen(alloc, left)?;
+    let right = copy_seen(alloc, right)?;
+    Ok(TermAtom { op, left, right })
+}
+
+/// A copy of the term.
+fn copy_seen(alloc: Global, term: TermRef<'_>) -> Result<Term, AllocError>
+    ensures { IfOk result (λ it. it ≡ seen term.entry) }
+{
+    match term {
+        TermRef::Unknown(n) => Ok(Term::Unknown(n)),
+        TermRef::Val(value) => Ok(Term::Val(value.copy(alloc)?)),
+        TermRef::Param(n) => Ok(Term::Param(n)),
+        TermRef::Var(n) => Ok(Term::Var(n)),
+    }
+}
