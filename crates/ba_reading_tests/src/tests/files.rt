@@ -30,7 +30,11 @@ fn write_rows(told: &mut String, rows: &[Row]) -> Told {
     Ok(())
 }
 
-fn write_file(alloc: Global, read: Result<List<Row>, Failure<TableFault>>, told: &mut String) -> Told {
+fn write_file(
+    alloc: Global,
+    read: Result<List<Row>, Failure<TableFault>>,
+    told: &mut String,
+) -> Told {
     match read {
         Ok(rows) => write_rows(told, rows.as_slice()),
         Err(Failure::NoMemory) => Err(AllocError),

@@ -4,9 +4,7 @@ use super::cases::{Reading, Told, all_are_so, bytes_of, write_value};
 use super::faults::write_script_fault;
 use super::standard::policy_of;
 use ba_model::{Context, Failure};
-use ba_script::{
-    Given, LineFault, Member, ScriptEntry, ScriptLine, read_line, read_script,
-};
+use ba_script::{Given, LineFault, Member, ScriptEntry, ScriptLine, read_line, read_script};
 use std::alloc::{AllocError, Global};
 use std::fmt::Write;
 use std::test::Fail;
