@@ -1,6 +1,8 @@
 //! What is asked: a schema, a policy, a context and queries. The parameter N is 5.
 
-use ba_model::{Atom, Context, List, Op, Operand, Part, Policy, Query, Row, Schema, Shared, Str, Value, View};
+use ba_model::{
+    Atom, Context, List, Op, Operand, Part, Policy, Query, Row, Schema, Shared, Str, Value, View,
+};
 use ba_policy::read_policy;
 use ba_sql_ddl::read_schema;
 use ba_sql_query::read_query;
