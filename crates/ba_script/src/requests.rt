@@ -82,7 +82,8 @@ impl Requests {
         name: Str,
         members: &List<Member>,
     ) -> Result<ScriptEntry, Failure<ScriptFault>>
-        ensures gives { Gives result (begin_of params.now line name members.now (opened self.old name) self.old.begun) }
+        ensures gives { Gives result
+            (begin_of params.now line name members.now (opened self.old name) self.old.begun) }
         ensures moves { IfOk result (λ entry. Moves entry self.old self.new) }
     {
         if self.names.contains_key(&name) {

@@ -101,7 +101,8 @@ fn first_dangling(
     targets: &[Row],
     link: &Link,
 ) -> Result<Option<u64>, AllocError>
-    ensures { IfOk result (λ found. found ≡ position_from (dangles link.now targets.now) 1 rows.now) }
+    ensures { IfOk result (λ found. found
+        ≡ position_from (dangles link.now targets.now) 1 rows.now) }
 {
     let index = index_of(alloc, targets, &link.target_columns)?;
     for i in 0..rows.len() {

@@ -27,8 +27,10 @@ pub fn read_table(
     bytes: &[u8],
 ) -> Result<List<Row>, Failure<TableFault>>
     requires { table < length schema.now.tables }
-    ensures reads { IfSome (slice_get schema.now.tables table) (λ it. Gives result (rows_of_file it bytes.now)) }
-    ensures fits { IfSome (slice_get schema.now.tables table) (λ it. IfOk result (All (RowFits it))) }
+    ensures reads { IfSome (slice_get schema.now.tables table)
+        (λ it. Gives result (rows_of_file it bytes.now)) }
+    ensures fits { IfSome (slice_get schema.now.tables table)
+        (λ it. IfOk result (All (RowFits it))) }
 {
     rows_of_file(alloc, schema.tables.get(table as usize), bytes)
 }

@@ -61,8 +61,10 @@ pub fn row_at(
     line: &ByteRecord,
 ) -> Result<Row, Failure<TableFault>>
     ensures reads { Gives result (row_at row columns.now (fields_of line.now)) }
-    ensures width { IsErrOf result Failure.NoMemory → length (fields_of line.now) ≡ length columns.now }
-    ensures text { IsErrOf result Failure.NoMemory → IsTrue (list_all is_utf8 (fields_of line.now)) }
+    ensures width { IsErrOf result Failure.NoMemory
+        → length (fields_of line.now) ≡ length columns.now }
+    ensures text { IsErrOf result Failure.NoMemory
+        → IsTrue (list_all is_utf8 (fields_of line.now)) }
 {
     if line.len() != columns.len() {
         return Err(Failure::Fault(TableFault::BadWidth(row)));

@@ -43,7 +43,8 @@ impl<'a> Lines<'a> {
 
     /// Reads the next record into `line`, and says whether there was one. After an error there is none.
     pub fn next(&mut self, line: &mut ByteRecord) -> Result<bool, AllocError>
-        ensures read { IfOk result (λ found. found ≡ true → self.old ≡ fields_of line.new ∷ self.new) }
+        ensures read { IfOk result (λ found. found ≡ true
+            → self.old ≡ fields_of line.new ∷ self.new) }
         ensures ended { IfOk result (λ found. found ≡ false → self.old ≡ []) }
         ensures err { OnErr result (self.new ≡ []) }
     {

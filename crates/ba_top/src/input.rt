@@ -59,7 +59,8 @@ fn policy_at(
     schema: &Shared<Schema>,
     bytes: &List<u8>,
 ) -> Result<Policy, Stop<Refusal>>
-    ensures reads { Gives result (widened (policy_refusal file.now) (policy_of schema.now bytes.now)) }
+    ensures reads { Gives result
+        (widened (policy_refusal file.now) (policy_of schema.now bytes.now)) }
     ensures fits { IfOk result PolicyFits }
     ensures same { IfOk result (λ policy. policy.schema ≡ schema.now) }
 {
@@ -79,7 +80,8 @@ fn rows_at(
     table: &Table,
     bytes: &List<u8>,
 ) -> Result<List<Row>, Stop<Refusal>>
-    ensures reads { Gives result (widened (table_refusal file.now) (rows_of_file table.now bytes.now)) }
+    ensures reads { Gives result
+        (widened (table_refusal file.now) (rows_of_file table.now bytes.now)) }
     ensures fit { IfOk result (All (RowFits table.now)) }
 {
     match rows_of_file(alloc, table, bytes.as_slice()) {
@@ -98,7 +100,8 @@ fn script_at(
     params: &List<Parameter>,
     bytes: &List<u8>,
 ) -> Result<Script, Stop<Refusal>>
-    ensures reads { Gives result (widened (script_refusal file.now) (script_of params.now bytes.now)) }
+    ensures reads { Gives result
+        (widened (script_refusal file.now) (script_of params.now bytes.now)) }
     ensures script { IfOk result (IsScript params.now) }
 {
     match read_script(alloc, params, bytes.as_slice()) {
@@ -138,7 +141,8 @@ fn read_table<F: Files>(
     set: &str,
     table: &Table,
 ) -> Result<List<Row>, Stop<Refusal>>
-    ensures follows { Follows (table_plan set.now table.now) (F.seen files.old) (F.seen files.new) result }
+    ensures follows { Follows (table_plan set.now table.now)
+        (F.seen files.old) (F.seen files.new) result }
     ensures fit { IfOk result (All (RowFits table.now)) }
 {
     let name = path(alloc, set, table.name.as_str())?;
@@ -153,7 +157,8 @@ fn read_rows<F: Files>(
     set: &str,
     tables: &[Table],
 ) -> Result<List<List<Row>>, Stop<Refusal>>
-    ensures follows { Follows (rows_plan set.now tables.now []) (F.seen files.old) (F.seen files.new) result }
+    ensures follows { Follows (rows_plan set.now tables.now [])
+        (F.seen files.old) (F.seen files.new) result }
     ensures fit { IfOk result (λ lists. RowsOfTables tables.now lists) }
 {
     let mut lists = List::new(alloc);
@@ -172,7 +177,8 @@ fn read_tables<F: Files>(
     schema: &Shared<Schema>,
 ) -> Result<Tables, Stop<Refusal>>
     requires rules { schema.now.rules ≡ [] }
-    ensures follows { Follows (tables_plan set.now schema.now) (F.seen files.old) (F.seen files.new) result }
+    ensures follows { Follows (tables_plan set.now schema.now)
+        (F.seen files.old) (F.seen files.new) result }
     ensures schema { IfOk result (λ tables. tables.schema ≡ schema.now) }
 {
     let lists = read_rows(alloc, files, set, schema.tables.as_slice())?;
@@ -190,7 +196,8 @@ fn read_rest<F: Files>(
 ) -> Result<Input, Stop<Refusal>>
     requires policy { PolicyFits policy }
     requires schema { tables.schema ≡ policy.schema }
-    ensures follows { Follows (script_plan name.now policy tables) (F.seen files.old) (F.seen files.new) result }
+    ensures follows { Follows (script_plan name.now policy tables)
+        (F.seen files.old) (F.seen files.new) result }
     ensures input { IfOk result IsInput }
 {
     let bytes = read_file(alloc, files, name, MAX_FILE_BYTES)?;
@@ -207,7 +214,12 @@ fn read_named<F: Files>(
     files: &mut F,
     named: &Named<'_>,
 ) -> Result<Input, Stop<Refusal>>
-    ensures follows { Follows (reading_of (record { schema = named.now.schema.now; policy = named.now.policy.now; tables = named.now.tables.now; script = named.now.script.now }))
+    ensures follows { Follows (reading_of (record {
+      schema = named.now.schema.now;
+      policy = named.now.policy.now;
+      tables = named.now.tables.now;
+      script = named.now.script.now;
+    }))
         (F.seen files.old) (F.seen files.new) result }
     ensures input { IfOk result IsInput }
 {
@@ -224,7 +236,8 @@ fn read_command<F: Files>(
     command: &Command,
     files: &mut F,
 ) -> Result<Input, Stop<Refusal>>
-    ensures follows { Follows (command_plan command.now) (F.seen files.old) (F.seen files.new) result }
+    ensures follows { Follows (command_plan command.now)
+        (F.seen files.old) (F.seen files.new) result }
     ensures input { IfOk result IsInput }
 {
     match command {
@@ -252,7 +265,8 @@ pub(crate) fn read_input<F: Files>(
     words: &[String],
     files: &mut F,
 ) -> Result<Input, Stop<Refusal>>
-    ensures follows { Follows (plan_of (map string_bytes words.now)) (F.seen files.old) (F.seen files.new) result }
+    ensures follows { Follows (plan_of (map string_bytes words.now))
+        (F.seen files.old) (F.seen files.new) result }
     ensures input { IfOk result IsInput }
 {
     match read_words(alloc, words) {

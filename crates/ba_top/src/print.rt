@@ -102,7 +102,8 @@ pub(crate) fn print<S: Sink>(
     sink: &mut S,
 ) -> Result<(), WriteFail>
     requires { length journal.now.entries ≡ length script.now.entries }
-    ensures { SentLines (lines_of script.now journal.now) (S.seen sink.old) (S.seen sink.new) result }
+    ensures { SentLines (lines_of script.now journal.now)
+        (S.seen sink.old) (S.seen sink.new) result }
 {
     for i in 0..journal.entries.len() {
         let Ok(text) = entry_text(

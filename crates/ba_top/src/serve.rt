@@ -28,8 +28,9 @@ fn decide(
 ) -> Result<Reply, AllocError>
     requires input { IsInput input.now }
     requires fits { ContextFits (kinds_of input.now.policy.params) context.now }
-    ensures { IfOk result (λ reply. (trace : Sequence TraceEntry) (text : Sequence ℕ) → Reads input.now text query
-        → Records trace context.now input.now.tables.rows → Replies input.now context.now trace text reply) }
+    ensures { IfOk result (λ reply. (trace : Sequence TraceEntry) (text : Sequence ℕ)
+        → Reads input.now text query → Records trace context.now input.now.tables.rows
+        → Replies input.now context.now trace text reply) }
 {
     answer_everywhere();
     let found = cover(alloc, &input.policy, context, &query)?;
@@ -90,7 +91,8 @@ fn keep_context(
 fn entry_of(alloc: Global, input: &Input, contexts: &List<Context>, said: &ScriptEntry) -> Entry
     requires input { IsInput input.now }
     requires known { IsKnown input.now contexts.now said.now }
-    ensures { (earlier : Sequence Answered) → IsRecorded input.now earlier → IsEntry input.now earlier said.now result }
+    ensures { (earlier : Sequence Answered) → IsRecorded input.now earlier
+        → IsEntry input.now earlier said.now result }
 {
     match said {
         ScriptEntry::Begin { request, .. } => Entry::Begin {

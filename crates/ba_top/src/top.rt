@@ -129,7 +129,8 @@ pub fn blockaid<F: Files, S: Sink, G: Gate + Sync>(
     // Each answer is its query's answer in the request's tables and in every database that meets the schema, gives every view the
     // same rows and each query that was answered before its printed rows; no covered query is blocked. The input that the words and
     // the files come to is the one for which the journal is legal and whose lines were written.
-    ensures headline { IfSome result.journal (λ journal. Served (map string_bytes words.now) (F.seen files.old) (F.seen files.new)
+    ensures headline { IfSome result.journal (λ journal.
+        Served (map string_bytes words.now) (F.seen files.old) (F.seen files.new)
         (S.seen sink.old) (S.seen sink.new) result.detail journal) }
 
     ensures status { result.status ≡ status_of result.detail }
@@ -137,23 +138,28 @@ pub fn blockaid<F: Files, S: Sink, G: Gate + Sync>(
         (S.seen sink.old) (S.seen sink.new) result.detail result.journal }
 
     // A read fault names the last name asked for, and the files' count rose.
-    ensures read { (file : List ℕ) → result.detail ≡ Detail.Read file → FailedAt file (F.seen files.old) (F.seen files.new) }
+    ensures read { (file : List ℕ) → result.detail ≡ Detail.Read file
+        → FailedAt file (F.seen files.old) (F.seen files.new) }
     // A count above its limit is one of what was read, or of the bytes of the last name asked for.
     ensures limit { (what : Counted) (limit : ℕ) → result.detail ≡ Detail.Limit what limit
         → IsLimit (map string_bytes words.now) what limit (F.seen files.old) (F.seen files.new) }
     // A write fault comes only where the sink's count rose.
-    ensures write { result.detail ≡ Detail.Write → Rose (S.seen sink.old).faults (S.seen sink.new).faults }
+    ensures write { result.detail ≡ Detail.Write
+        → Rose (S.seen sink.old).faults (S.seen sink.new).faults }
 
     // Where the files are told, the names asked for are the first of the run's names.
     ensures asked { IfSome (F.seen files.old).held (λ contents.
-        AsksFront (F.seen files.old).asked (F.seen files.new).asked (names_of contents (plan_of (map string_bytes words.now)))) }
+        AsksFront (F.seen files.old).asked (F.seen files.new).asked
+        (names_of contents (plan_of (map string_bytes words.now)))) }
     // Then the other answers are those that the words and the files come to.
     ensures told { IfSome (F.seen files.old).held (λ contents.
         Tells result.detail (outcome_of contents (plan_of (map string_bytes words.now)))) }
     // Where no count rises either, there is no other answer, but for want of memory.
     ensures complete { IfSome (F.seen files.old).held (λ contents.
-        ¬ Rose (F.seen files.old).faults (F.seen files.new).faults → ¬ Rose (S.seen sink.old).faults (S.seen sink.new).faults
-        → (result.detail ≡ Detail.Memory) ⊎ (result.detail ≡ settled (outcome_of contents (plan_of (map string_bytes words.now))))) }
+        ¬ Rose (F.seen files.old).faults (F.seen files.new).faults
+        → ¬ Rose (S.seen sink.old).faults (S.seen sink.new).faults
+        → (result.detail ≡ Detail.Memory)
+        ⊎ (result.detail ≡ settled (outcome_of contents (plan_of (map string_bytes words.now))))) }
 {
     let (detail, journal) = run(alloc, words, files, sink, gate);
     Outcome {

@@ -125,14 +125,16 @@ impl Reason {
 }
 
 fn view_text(alloc: Global, name: &Str, fault: &ReadQueryFault) -> Result<String, AllocError>
-    ensures { IfOk result (λ text. string_bytes text ≡ codes "view" ␣ name.now ␣ fault_words fault.now) }
+    ensures { IfOk result (λ text. string_bytes text
+        ≡ codes "view" ␣ name.now ␣ fault_words fault.now) }
 {
     let words = fault_words(alloc, fault)?;
     format!(in alloc; "view {name} {words}")
 }
 
 fn line_text(alloc: Global, line: u64, reason: LineFault) -> Result<String, AllocError>
-    ensures { IfOk result (λ text. string_bytes text ≡ codes "line" ␣ decimal line ␣ line_name reason) }
+    ensures { IfOk result (λ text. string_bytes text
+        ≡ codes "line" ␣ decimal line ␣ line_name reason) }
 {
     let name = line_name(reason);
     format!(in alloc; "line {line} {name}")

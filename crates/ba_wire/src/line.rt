@@ -242,7 +242,8 @@ fn line_object(alloc: Global, line: &Line) -> Result<Object, AllocError>
 /// The text of a line with its line feed, in time linear in its length.
 pub fn line_text(alloc: Global, line: &Line) -> Result<String, AllocError>
     ensures text { IfOk result (λ s. string_bytes s ≡ line_bytes (printed line.now)) }
-    ensures reads_back { IfOk result (λ s. ReadsBack (string_bytes s) (json_of (printed line.now))) }
+    ensures reads_back { IfOk result (λ s.
+        ReadsBack (string_bytes s) (json_of (printed line.now))) }
 {
     line_object(alloc, line)?.line()
 }
