@@ -41,7 +41,9 @@ use Rattle.ba_sql_syntax.specs.Grammar.IsSide.{qualified, literal}
 use Rattle.ba_sql_syntax.specs.Grammar.IsSource.{source}
 use Rattle.ba_sql_syntax.specs.Grammar.IsTest.{compare}
 use Rattle.ba_sql_syntax.specs.Grammar.IsWhere.{none as no_where, where_}
-use Rattle.ba_sql_syntax.specs.Terminals.{Terminal, key, name, sign, terminal, terminals, word_terminal, is_unsupported}
+use Rattle.ba_sql_syntax.specs.Terminals.{terminal, terminals, word_terminal, is_unsupported}
+use Rattle.ba_sql_syntax.specs.declared.word.Terminal.{Terminal}
+use Rattle.ba_sql_syntax.specs.declared.word.Terminal.TheVariants.{Key as key, Name as name, Sign as sign}
 use Rattle.ba_sql_syntax.specs.declared.word.Key.TheVariants as keys
 use Rattle.ba_sql_syntax.specs.declared.written.Constant.TheVariants as constants
 use Rattle.ba_sql_syntax.specs.declared.written.Heads.TheVariants.{Items}
