@@ -30,7 +30,7 @@ eqb_flips n m = grind (arith, nat_tests)
 same_place : {X : Type 0} (o : Rattle.std.specs.Prelude.Option X) (x y : X) → o ≡ Some x → o ≡ Some y → x ≡ y
 same_place o x y a b = let e : Some x ≡ Some y = sym a ∙ b in cc
 
-earlier_or_here : (k n : ℕ) → k < n + 1 → (k < n) ⊎ (k ≡ n)
+pub earlier_or_here : (k n : ℕ) → k < n + 1 → (k < n) ⊎ (k ≡ n)
 earlier_or_here zero zero h = inr refl
 earlier_or_here zero (suc n) h = inl (omega arith)
 earlier_or_here (suc k) zero h = absurd (omega arith)

@@ -79,7 +79,7 @@ distinct_drop e zero xs h = h
 distinct_drop e (suc n) [] h = h
 distinct_drop e (suc n) (x ∷ xs) h = distinct_drop e n xs h.1
 
-distinct_take : {X : Type 0} (e : X → X → Bool) (n : ℕ) (xs : List X) → IsDistinct e xs → IsDistinct e (take n xs)
+pub distinct_take : {X : Type 0} (e : X → X → Bool) (n : ℕ) (xs : List X) → IsDistinct e xs → IsDistinct e (take n xs)
 unfolding IsDistinct
 distinct_take e zero xs h = tt
 distinct_take e (suc n) [] h = h

@@ -5,4 +5,6 @@ pub mod GatherLemmas
 pub mod HeadLemmas
 pub mod KeyLemmas
 pub mod SearchLemmas
+pub mod StepLemmas
 pub mod TieLemmas
+pub mod VisitLemmas

@@ -4,17 +4,22 @@
 mod found;
 mod part;
 mod place;
+mod steps;
 mod tie;
 
-ghost use Rattle.std.specs.Prelude.{◌↔◌, [], IsTrue, IfOk};
+ghost use Rattle.std.specs.Prelude.{◌≡◌, ◌↔◌, ◌<◌, [], IsTrue, IfOk};
 ghost use Rattle.ba_model.specs.Meaning.{InAnswer, IsAnswer};
 ghost use Rattle.ba_eval.specs.Search.{Adds};
+ghost use Rattle.ba_eval.specs.Visits.{StepsWithin};
 
 use crate::found::Found;
 use crate::part::Search;
 use crate::place::places_of;
 use ba_model::{Context, List, Query, Row, RowSet};
 use std::alloc::{AllocError, Global};
+use std::marker::Brand;
+use std::sync::ledger::{Blank, Ledger};
+pub use steps::Steps;
 
 /// The query's answer: the strictly rising list of exactly its rows.
 ///
@@ -27,8 +32,42 @@ pub fn answer(
 ) -> Result<List<Row>, AllocError>
     ensures { IfOk result (λ list. IsAnswer query.now ctx.now rows.now list) }
 {
-    let found = all_rows(alloc, rows, ctx, query)?;
+    answer_with::<Brand>(alloc, rows, ctx, query, Blank::new(1))
+}
+
+/// `answer`, which tells how many rows it reads: at most each row of each part's tables once, and once more for each
+/// choice of rows for some of a part's first tables that makes true every equation between their columns, with
+/// constants too.
+///
+/// The bound holds for an answer that is refused memory too.
+pub fn answer_counted<L: Ledger>(
+    alloc: Global,
+    rows: &RowSet,
+    ctx: &Context,
+    query: &Query,
+    steps: &mut Steps<L>,
+) -> Result<List<Row>, AllocError>
+    ensures answer { IfOk result (λ list. IsAnswer query.now ctx.now rows.now list) }
+    ensures steps { StepsWithin ctx.now rows.now query.now.parts steps.old steps.new }
+{
+    let found = all_rows(alloc, rows, ctx, query, steps)?;
     Ok(found.in_order())
+}
+
+fn answer_with<L: Ledger>(
+    alloc: Global,
+    rows: &RowSet,
+    ctx: &Context,
+    query: &Query,
+    blank: Blank,
+) -> Result<List<Row>, AllocError>
+    requires name { blank.name ≡ L.name }
+    requires parts { blank.parts ≡ L.parts }
+    requires some { 0 < blank.parts }
+    ensures { IfOk result (λ list. IsAnswer query.now ctx.now rows.now list) }
+{
+    let mut steps = Steps::<L>::new(blank);
+    answer_counted(alloc, rows, ctx, query, &mut steps)
 }
 
 /// Whether the row is one of the query's. The search ends at the first part and the first rows that give it.
@@ -53,15 +92,22 @@ pub fn contains(
 }
 
 /// The rows that the parts give.
-fn all_rows(alloc: Global, rows: &RowSet, ctx: &Context, query: &Query) -> Result<Found, AllocError>
-    ensures { IfOk result (λ found. Adds (InAnswer query.now ctx.now rows.now) [] found) }
+fn all_rows<L: Ledger>(
+    alloc: Global,
+    rows: &RowSet,
+    ctx: &Context,
+    query: &Query,
+    steps: &mut Steps<L>,
+) -> Result<Found, AllocError>
+    ensures found { IfOk result (λ found. Adds (InAnswer query.now ctx.now rows.now) [] found) }
+    ensures steps { StepsWithin ctx.now rows.now query.now.parts steps.old steps.new }
 {
     let mut found = Found::new(alloc);
     for part in query.parts.as_slice() {
         let mut chosen = Vec::new(alloc);
         let search = Search { rows, ctx, part };
-        let places = places_of(alloc, &search)?;
-        search.gather(alloc, places.as_slice(), &mut chosen, &mut found)?;
+        let places = places_of(alloc, &search, steps)?;
+        search.gather(alloc, places.as_slice(), &mut chosen, &mut found, steps)?;
     }
     Ok(found)
 }

@@ -2,13 +2,17 @@
 ghost use Rattle.std.specs.Prelude.{◌≡◌, ◌↔◌, IsTrue, IfOk, OnOk, All, Any, Some, map};
 ghost use Rattle.ba_model.specs.Meaning.{value_of, rows_of, Holds, Gives};
 ghost use Rattle.std.specs.Prelude.{length};
+ghost use Rattle.std.specs.Prelude.{ℕ, List as Listed};
 ghost use Rattle.ba_eval.specs.Index.{ArePlaces};
+ghost use Rattle.ba_eval.specs.Visits.{Reached, Visited};
 ghost use Rattle.ba_eval.specs.Search.{Adds, Fails, GivesFrom, IsHead};
 
 use crate::found::Found;
-use crate::place::Place;
+use crate::place::{Place, read_row};
+use crate::steps::Steps;
 use ba_model::{Atom, Context, Duplicate, List, Operand, Part, Row, RowSet, Same, Value};
 use std::alloc::{AllocError, Global};
+use std::sync::ledger::Ledger;
 
 /// A part to be searched for in a database, under a context.
 #[derive(Drop)]
@@ -20,16 +24,18 @@ pub struct Search<'a> {
 
 impl<'a> Search<'a> {
     /// Adds the rows that the part gives from the chosen rows and one row of each further place.
-    pub fn gather(
+    pub fn gather<L: Ledger>(
         &self,
         alloc: Global,
         places: &[Place<'a>],
         chosen: &mut Vec<&'a Row>,
         found: &mut Found,
+        steps: &mut Steps<L>,
     ) -> Result<(), AllocError>
         requires { ArePlaces self.now.ctx.now self.now.rows.now self.now.part.now (length (map (λ row. row.now) chosen.old.items)) places.now }
         ensures chosen { OnOk result (chosen.new.items ≡ chosen.old.items) }
         ensures found { OnOk result (Adds (GivesFrom self.now.ctx.now self.now.rows.now self.now.part.now (map (λ place. place.table) places.now) (map (λ row. row.now) chosen.old.items)) found.old found.new) }
+        ensures steps { (before : Listed ℕ) → Reached self.now.ctx.now self.now.rows.now self.now.part.now (map (λ place. place.table) places.now) before (map (λ row. row.now) chosen.old.items) → Visited self.now.ctx.now self.now.rows.now self.now.part.now before steps.old steps.new }
     {
         match places.split_first() {
             None => self.add_row(alloc, chosen, found),
@@ -39,8 +45,8 @@ impl<'a> Search<'a> {
                 }
                 let entries = place.candidates(alloc, self, chosen)?;
                 for entry in entries {
-                    chosen.push(place.row(entry.number))?;
-                    self.gather(alloc, rest, chosen, found)?;
+                    chosen.push(read_row(place.rows, entry.number, steps))?;
+                    self.gather(alloc, rest, chosen, found, steps)?;
                     chosen.pop();
                 }
                 Ok(())

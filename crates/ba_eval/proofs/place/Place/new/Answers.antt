@@ -2,9 +2,9 @@ use Rattle.ba_eval.proofs.EntryLemmas.{entered_moved}
 use Rattle.ba_eval.proofs.place.Place.new.Goals as goal
 
 pub returns-clause-place : goal.returns-clause-place
-returns-clause-place c =
+returns-clause-place g c =
     let ties = c.in_ok-ties.ensures in
-    let entered = c.in_ok-entries.ensures in
+    let entered = c.in_ok-entries.ensures.entries in
     record {
       rows_are = c.rows_of_table-rows.ensures;
       ties_are = rw c.as_slice.ensures at ties;
