@@ -1,3 +1,4 @@
+//! Numbers between bounds.
 ghost use Rattle.std.specs.Prelude.{◌≡◌, ℤ, ◌+ℤ◌, ◌≤ℤ◌, ◌↔◌, IsTrue, IfOk, Contains, Some};
 ghost use Rattle.ba_classes.specs.Image.{IsLeastUnused, IsGreatestUnused, IsValueBetween, greater_of, lesser_of};
 

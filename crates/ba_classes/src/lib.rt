@@ -3,13 +3,13 @@
 //!
 //! [`classes::Classes`] keeps the equations that were made, as labels of the terms.
 //! [`order::Order`] keeps facts `low + gap <= high` over whole numbers, and all that follows from
-//! them by addition.
+//! them by addition. [`image`] chooses numbers between bounds.
 #![tactic(auto)]
 
 mod best;
 mod classes;
 mod grid;
-mod image;
+pub mod image;
 pub mod laws;
 mod order;
 mod row;
