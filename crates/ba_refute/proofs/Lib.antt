@@ -1,3 +1,9 @@
+pub mod ImageLemmas
 pub mod LoopLemmas
+pub mod NumberLemmas
 pub mod RefuteLemmas
+pub mod RowLemmas
+pub mod TextLemmas
+pub mod UnknownLemmas
+pub mod ValueLemmas
 pub mod WithinLemmas

@@ -1,1 +1,4 @@
 pub mod Counterexamples
+pub mod Images
+pub mod Pairs
+pub mod Wide
