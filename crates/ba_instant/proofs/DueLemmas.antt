@@ -107,7 +107,7 @@ module _ (c : Course) (n : ℕ) (b : Branch) (open_ : IsOpen c.slots n b) where
       subst (λ m. IsRoundAt c.problem (open_at c.slots m) step round) (sym on)
       (subst (λ at. IsRoundAt c.problem at step round) (sym (open_is c.slots n b open_)) h)
 
-  round_on : (step : Step) (round : ℕ) → branch_of step ≡ n → IsRoundIn c step round → IsRound c.problem b step round
+  pub round_on : (step : Step) (round : ℕ) → branch_of step ≡ n → IsRoundIn c step round → IsRound c.problem b step round
   round_on step round on h =
       subst (λ at. IsRoundAt c.problem at step round) (open_is c.slots n b open_) (subst (λ m. IsRoundAt c.problem (open_at c.slots m) step round) on h)
 

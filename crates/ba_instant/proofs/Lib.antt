@@ -5,4 +5,5 @@ mod ChaseLemmas
 mod MapLemmas
 mod SplitLemmas
 mod DueLemmas
+mod LateLemmas
 mod NextLemmas

@@ -149,6 +149,10 @@ module _ (c : Course) (pick : Pick) where
         (λ step it is. elim (up_to_bound it.0 k it.1) [ inl less ↦ inl (it.0, less, it.2) | inr same ↦ inr (subst (λ i. P i step) same it.2) ])
         (improves_both (Upto P k) (P k) old mid new h now)
 
+    pub next_with : (k : ℕ) (old mid new last : Option Found) → last ≡ new → Improves c pick (Upto P k) old mid → Improves c pick (P k) mid new →
+        Improves c pick (Upto P (k + 1)) old last
+    next_with k old mid new last same h now = subst (Improves c pick (Upto P (k + 1)) old) (sym same) (improves_next k old mid new h now)
+
     -- no step of a later number is new
     pub improves_end : (k : ℕ) (old new : Option Found) → Improves c pick (Upto P k) old new → ((i : ℕ) (step : Step) → k ≤ i → P i step → IsNewIn c step → ⊥) →
         Improves c pick (OfAny P) old new

@@ -123,6 +123,14 @@ keys_at s b fact = unwrap_or (option_map (λ table. table.keys) (table_at s b fa
 abbrev pub links_at : Schema → Branch → ℕ → List Link
 links_at s b fact = unwrap_or (option_map (λ table. table.links) (table_at s b fact)) []
 
+abbrev pub fact_round : Branch → ℕ → ℕ
+fact_round b fact = unwrap_or (option_map (λ it. it.round) (slice_get b.facts fact)) 0
+
+-- the steps on the fact may have no later round than what was found
+abbrev pub IsTimely : Branch → ℕ → Option Found → Type 0
+IsTimely b fact None = Unit {0}
+IsTimely b fact (Some best) = fact_round b fact < best.round
+
 -- ---- steps of mappings
 
 -- the step of the form on the facts

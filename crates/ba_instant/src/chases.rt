@@ -1,7 +1,7 @@
 //! Entries, keys and links: the steps that name facts one by one.
-ghost use Rattle.std.specs.Prelude.{◌≡◌, IfOk, OnOk, length};
+ghost use Rattle.std.specs.Prelude.{◌≡◌, ◌↔◌, IfOk, IsTrue, OnOk, length};
 ghost use Rattle.ba_kernel.specs.Courses.{IsOpen};
-ghost use Rattle.ba_instant.specs.Offers.{Improves, IsEntryOf, IsKeyOfFact, IsKeyOfPair, IsKeyStep, IsLinkOfFact, IsLinkStep, keys_at, links_at};
+ghost use Rattle.ba_instant.specs.Offers.{Improves, IsEntryOf, IsKeyOfFact, IsKeyOfPair, IsKeyStep, IsLinkOfFact, IsLinkStep, IsTimely, fact_round, keys_at, links_at};
 
 use crate::found::{Found, Spot, counted};
 use ba_kernel::Step;
@@ -28,7 +28,9 @@ impl<'a> Spot<'a> {
     {
         let count = counted(self.branch.facts.len())?;
         for left in 0..count {
-            self.offer_keys_of(left, best)?;
+            if self.is_timely(left, best) {
+                self.offer_keys_of(left, best)?;
+            }
         }
         Ok(())
     }
@@ -40,7 +42,9 @@ impl<'a> Spot<'a> {
     {
         let count = counted(self.branch.facts.len())?;
         for right in 0..count {
-            self.offer_keys_between(left, right, best)?;
+            if self.is_timely(right, best) {
+                self.offer_keys_between(left, right, best)?;
+            }
         }
         Ok(())
     }
@@ -75,7 +79,9 @@ impl<'a> Spot<'a> {
     {
         let count = counted(self.branch.facts.len())?;
         for fact in 0..count {
-            self.offer_links_of(fact, best)?;
+            if self.is_timely(fact, best) {
+                self.offer_links_of(fact, best)?;
+            }
         }
         Ok(())
     }
@@ -95,6 +101,26 @@ impl<'a> Spot<'a> {
             self.offer(step, best);
         }
         Ok(())
+    }
+
+    /// Whether keys and links of the fact may have no later round than what was found.
+    fn is_timely(&self, fact: u32, best: &Option<Found>) -> bool
+        ensures { IsTrue result ↔ IsTimely self.now.branch.now fact best.now }
+    {
+        match best {
+            Some(found) => u64::from(self.fact_round(fact)) < found.round,
+            None => true,
+        }
+    }
+
+    /// The fact's round, or 0 where it isn't there.
+    fn fact_round(&self, fact: u32) -> u32
+        ensures { result ≡ fact_round self.now.branch.now fact }
+    {
+        match self.branch.facts.find(fact as usize) {
+            Some(it) => it.round,
+            None => 0,
+        }
     }
 
     /// How many keys the fact's table has; none where there is no such fact or table.
