@@ -6,4 +6,5 @@ mod MapLemmas
 mod SplitLemmas
 mod DueLemmas
 mod LateLemmas
+mod PickLemmas
 mod NextLemmas

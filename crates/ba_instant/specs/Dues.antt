@@ -2,7 +2,7 @@
 use Rattle.std.specs.Prelude.{◌≡◌, ◌≢◌, ℕ, ◌<◌, ◌≤◌, List, [], ◌∷◌, ◌++◌, length}
 use Rattle.std.specs.declared.cmp.Ordering.TheVariants.{Greater}
 use Rattle.ba_facts.specs.declared.branch.Branch.{Branch}
-use Rattle.ba_kernel.specs.Courses.{AllClosed, IsOpen, IsStart, Slots, Takes, branch_of}
+use Rattle.ba_kernel.specs.Courses.{AllClosed, IsOpen, IsStart, ProblemFits, Slots, Takes, branch_of}
 use Rattle.ba_kernel.specs.News.{IsNewOn, IsRound}
 use Rattle.ba_kernel.specs.Tests.{Proof}
 use Rattle.ba_kernel.specs.declared.problem.Problem.{Problem}
@@ -93,8 +93,17 @@ Ends pick p budget (Proved proof) = EndsProved pick p budget proof
 Ends pick p budget (Saturated leaf) = EndsSaturated pick p budget leaf
 Ends pick p budget (Spent taken) = EndsSpent pick p budget taken
 
--- ---- the law
+-- ---- the laws
 
 -- the steps of a search are a due list
 abbrev pub SearchesAreDue : Type 0
 SearchesAreDue = (pick : Pick) (p : Problem) (taken : List Step) (slots : Slots) → Searches pick p taken slots → DueList pick p taken slots
+
+-- one step at most is picked
+abbrev pub PickedIsOne : Type 0
+PickedIsOne = (pick : Pick) (p : Problem) (slots : Slots) (step other : Step) → IsPicked pick p slots step → IsPicked pick p slots other → step ≡ other
+
+-- a problem has one due list at most of each length, and the branches that it leaves are one
+abbrev pub DueListsAreOne : Type 0
+DueListsAreOne = (pick : Pick) (p : Problem) (taken others : List Step) (slots ends : Slots) →
+    ProblemFits p → DueList pick p taken slots → DueList pick p others ends → length taken ≡ length others → (taken ≡ others) × (slots ≡ ends)
