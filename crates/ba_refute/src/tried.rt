@@ -7,7 +7,7 @@ ghost use Rattle.ba_refute.specs.Images.{FactIsGiven, IsGiven, IsTested, TellsTr
 use crate::clause::{Clause, Counterexample};
 use crate::image::Image;
 use crate::unmet::first_unmet;
-use ba_comply::trace::Trace;
+use ba_comply::Trace;
 use ba_facts::Branch;
 use ba_kernel::Problem;
 use ba_model::{Context, Policy, Query};
