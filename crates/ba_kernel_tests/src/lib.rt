@@ -1,4 +1,5 @@
-//! Tests of branches (ba_facts) and of searches (ba_kernel), by values worked out by hand.
+//! Tests of branches (ba_facts), of searches (ba_kernel) and of how they end (ba_instant), by values worked
+//! out by hand.
 //!
 //! They stand outside these crates, so that no crate's proofs are made a second time with tests.
 #![tactic(auto)]

@@ -10,6 +10,7 @@ mod news;
 mod problem;
 mod replays;
 mod searches;
+mod settles;
 mod shown;
 mod spelled;
 mod steps;
