@@ -1,5 +1,5 @@
 //! Rules, views and the goal.
-ghost use Rattle.std.specs.Prelude.{◌<◌, OnOk, length};
+ghost use Rattle.std.specs.Prelude.{◌≡◌, ◌<◌, OnOk, Some, length, slice_get};
 ghost use Rattle.ba_kernel.specs.Courses.{IsOpen};
 ghost use Rattle.ba_instant.specs.Offers.{Improves, IsGoalStep, IsOfRule, IsOfSides, IsOfView, IsRuleStep, IsViewStep};
 ghost use Rattle.ba_instant.specs.declared.mapped.Form.TheVariants.{OfRule};
@@ -7,10 +7,52 @@ ghost use Rattle.ba_instant.specs.declared.mapped.Form.TheVariants.{OfRule};
 use crate::found::{Found, Spot, counted};
 use crate::mapped::{Form, Mapped};
 use ba_facts::Side;
-use ba_model::Part;
+use ba_model::{Part, Rule, View};
 use std::alloc::{AllocError, Global};
 
 impl<'a> Spot<'a> {
+    /// The policy's views.
+    pub fn views(&self) -> &[View]
+        ensures { result.now ≡ self.now.search.now.problem.policy.views }
+    {
+        self.search.problem().policy.views.as_slice()
+    }
+
+    /// The schema's rules.
+    pub fn rules(&self) -> &[Rule]
+        ensures { result.now ≡ self.now.search.now.problem.policy.schema.rules }
+    {
+        self.search.problem().policy.schema.rules.as_slice()
+    }
+
+    /// The parts of the goal.
+    pub fn goal_parts(&self) -> &[Part]
+        ensures { result.now ≡ self.now.search.now.problem.goal.parts }
+    {
+        self.search.problem().goal.parts.as_slice()
+    }
+
+    fn view_at(&self, number: u32) -> &View
+        requires { number < length self.now.search.now.problem.policy.views }
+        ensures { slice_get self.now.search.now.problem.policy.views number ≡ Some result.now }
+    {
+        &self.views()[number as usize]
+    }
+
+    fn rule_at(&self, number: u32) -> &Rule
+        requires { number < length self.now.search.now.problem.policy.schema.rules }
+        ensures { slice_get self.now.search.now.problem.policy.schema.rules number ≡ Some result.now }
+    {
+        &self.rules()[number as usize]
+    }
+
+    fn goal_part(&self, number: u32) -> &Part
+        requires { number < length self.now.search.now.problem.goal.parts }
+        ensures { slice_get self.now.search.now.problem.goal.parts number ≡ Some result.now }
+    {
+        &self.goal_parts()[number as usize]
+    }
+
     /// Offers the steps by views.
     pub fn offer_views(&self, alloc: Global, best: &mut Option<Found>) -> Result<(), AllocError>
         requires { IsOpen self.now.search.now.slots self.now.number self.now.branch.now }
@@ -34,7 +76,7 @@ impl<'a> Spot<'a> {
         requires there { view < length self.now.search.now.problem.policy.views }
         ensures { OnOk result (Improves self.now.search.now self.now.pick (IsOfView self.now.number view) best.old best.new) }
     {
-        let it = self.search.problem().policy.views.get(view as usize);
+        let it = self.view_at(view);
         let count = counted(it.query.parts.len())?;
         for part in 0..count {
             let mapped = Mapped {
@@ -71,7 +113,7 @@ impl<'a> Spot<'a> {
         requires there { rule < length self.now.search.now.problem.policy.schema.rules }
         ensures { OnOk result (Improves self.now.search.now self.now.pick (IsOfRule self.now.number rule) best.old best.new) }
     {
-        let it = self.search.problem().policy.schema.rules.get(rule as usize);
+        let it = self.rule_at(rule);
         let count = counted(it.left.parts.len())?;
         for part in 0..count {
             self.offer_rule_part(alloc, rule, part, it.left.parts.get(part as usize), best)?;
@@ -109,13 +151,12 @@ impl<'a> Spot<'a> {
         requires { IsOpen self.now.search.now.slots self.now.number self.now.branch.now }
         ensures { OnOk result (Improves self.now.search.now self.now.pick (IsGoalStep self.now.number) best.old best.new) }
     {
-        let parts = &self.search.problem().goal.parts;
-        let count = counted(parts.len())?;
+        let count = counted(self.goal_parts().len())?;
         for part in 0..count {
             let mapped = Mapped {
                 spot: &*self,
                 form: Form::OfGoal { part },
-                part: parts.get(part as usize),
+                part: self.goal_part(part),
                 side: Side::Two,
             };
             mapped.offer(alloc, best)?;

@@ -17,10 +17,9 @@ impl<'a> Spot<'a> {
         requires { IsOpen self.now.search.now.slots self.now.number self.now.branch.now }
         ensures { OnOk result (Improves self.now.search.now self.now.pick (IsSplitStep self.now.number) best.old best.new) }
     {
-        let problem = self.search.problem();
-        self.offer_view_splits(alloc, problem.policy.views.as_slice(), best)?;
-        self.offer_rule_splits(alloc, problem.policy.schema.rules.as_slice(), best)?;
-        self.offer_part_splits(alloc, problem.goal.parts.as_slice(), Side::Two, best)?;
+        self.offer_view_splits(alloc, self.views(), best)?;
+        self.offer_rule_splits(alloc, self.rules(), best)?;
+        self.offer_part_splits(alloc, self.goal_parts(), Side::Two, best)?;
         Ok(())
     }
 

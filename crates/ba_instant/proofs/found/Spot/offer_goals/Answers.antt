@@ -9,10 +9,9 @@ use Rattle.ba_instant.proofs.found.Spot.offer_goals.Goals as goal
 
 pub loop-part-preserved : goal.loop-part-preserved
 loop-part-preserved c =
-    let there : slice_get c.args.self.now.search.now.problem.goal.parts c.loop-part.part ≡ Some c.get.result.now =
-    subst (λ p. slice_get p.goal.parts c.loop-part.part ≡ Some c.get.result.now) c.problem.ensures.is c.get.ensures in
+    let there : slice_get c.args.self.now.search.now.problem.goal.parts c.loop-part.part ≡ Some c.goal_part.result.now = c.goal_part.ensures in
     improves_next c.args.self.now.search.now c.args.self.now.pick (λ part. IsOfForm c.args.self.now.number (OfGoal part)) c.loop-part.part c.args.best.now c.loop-part.best c.offer.new.best c.loop-part.invariant
-    (goal_mapped c.args.self.now.search.now c.args.self.now.number c.args.self.now.branch.now c.requires c.args.self.now.pick c.loop-part.part c.get.result.now c.loop-part.best c.offer.new.best there c.in_ok-offer.ensures)
+    (goal_mapped c.args.self.now.search.now c.args.self.now.number c.args.self.now.branch.now c.requires c.args.self.now.pick c.loop-part.part c.goal_part.result.now c.loop-part.best c.offer.new.best there c.in_ok-offer.ensures)
 
 pub returns : goal.returns
 returns c =

@@ -8,8 +8,8 @@ pub returns : goal.returns
 returns c =
     split_all c.args.self.now.search.now c.args.self.now.pick c.args.self.now.number c.args.self.now.branch.now c.requires c.args.best.now c.offer_view_splits.new.best c.offer_rule_splits.new.best c.offer_part_splits.new.best
     (subst (λ xs. Improves c.args.self.now.search.now c.args.self.now.pick (IsSplitOfViews c.args.self.now.branch.now c.args.self.now.number xs) c.args.best.now c.offer_view_splits.new.best)
-    (c.as_slice.ensures ∙ ap (λ p. p.policy.views) c.problem-problem.ensures.is) c.in_ok-offer_view_splits.ensures)
+    c.views.ensures c.in_ok-offer_view_splits.ensures)
     (subst (λ xs. Improves c.args.self.now.search.now c.args.self.now.pick (IsSplitOfRules c.args.self.now.branch.now c.args.self.now.number xs) c.offer_view_splits.new.best c.offer_rule_splits.new.best)
-    (c.as_slice-2.ensures ∙ ap (λ p. p.policy.schema.rules) c.problem-problem.ensures.is) c.in_ok-offer_rule_splits.ensures)
+    c.rules.ensures c.in_ok-offer_rule_splits.ensures)
     (subst (λ xs. Improves c.args.self.now.search.now c.args.self.now.pick (IsSplitOfParts c.args.self.now.branch.now c.args.self.now.number Two xs) c.offer_rule_splits.new.best c.offer_part_splits.new.best)
-    (c.as_slice-3.ensures ∙ ap (λ p. p.goal.parts) c.problem-problem.ensures.is) c.in_ok-offer_part_splits.ensures)
+    c.goal_parts.ensures c.in_ok-offer_part_splits.ensures)
