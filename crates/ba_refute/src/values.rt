@@ -18,7 +18,8 @@ use std::alloc::{AllocError, Global};
 /// The number of a node, if it is one.
 fn number_at(nodes: &[u32], numbers: &[i128], n: u32) -> Option<i128>
     requires { length numbers.now ≡ length nodes.now }
-    ensures { MatchOption result (¬ (Contains nodes.now n)) (λ number. Contains (zip nodes.now numbers.now) (n, number)) }
+    ensures { MatchOption result (¬ (Contains nodes.now n))
+        (λ number. Contains (zip nodes.now numbers.now) (n, number)) }
 {
     for i in 0..nodes.len() {
         if nodes[i] == n {
@@ -88,8 +89,9 @@ fn all_values(
     requires nodes { AreNodes known.now nodes.now }
     requires numbered { length numbers.now ≡ length nodes.now }
     ensures len { IfOk result (λ it. length it.items ≡ length known.now.unknowns) }
-    ensures each { IfOk result (λ it. (all : Sequence Plain) → IsMarks all marks → (n : ℕ) (v : Plain) →
-        slice_get it.items n ≡ Some v → IsValueOf known.now all nodes.now numbers.now n v) }
+    ensures each { IfOk result (λ it. (all : Sequence Plain) → IsMarks all marks →
+        (n : ℕ) (v : Plain) → slice_get it.items n ≡ Some v →
+        IsValueOf known.now all nodes.now numbers.now n v) }
 {
     let count = number_of(known.unknowns().len())?;
     let mut values = Vec::new(alloc);
@@ -107,7 +109,8 @@ pub(crate) fn values(
     branch: &Branch,
 ) -> Result<Vec<WideValue>, AllocError>
     requires { ¬ (Absurd branch.now.known) }
-    ensures { IfOk result (λ it. AreValues branch.now.known (literals problem.now branch.now) it.items) }
+    ensures { IfOk result (λ it.
+        AreValues branch.now.known (literals problem.now branch.now) it.items) }
 {
     let all = literals(alloc, problem, branch)?;
     let marks = marks(&all)?;
