@@ -275,3 +275,6 @@ IsGiven unknowns c (Var n) = ⊥
 
 abbrev pub FactIsGiven : ℕ → Context → Fact → Type 0
 FactIsGiven unknowns c fact = All (IsGiven unknowns c) fact.terms
+
+abbrev pub AreGiven : ℕ → Context → List Fact → Type 0
+AreGiven unknowns c facts = All (FactIsGiven unknowns c) facts

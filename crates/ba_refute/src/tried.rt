@@ -2,7 +2,7 @@
 ghost use Rattle.std.specs.Prelude.{All, IfOk, length};
 ghost use Rattle.ba_facts.specs.Shown.{Absurd};
 ghost use Rattle.ba_refute.specs.Counterexamples.{IsPairStored, IsRising};
-ghost use Rattle.ba_refute.specs.Images.{FactIsGiven, IsGiven, IsTested, TellsTried};
+ghost use Rattle.ba_refute.specs.Images.{AreGiven, IsGiven, IsTested, TellsTried};
 
 use crate::clause::{Clause, Counterexample};
 use crate::image::Image;
@@ -37,7 +37,7 @@ pub fn try_branch(
     branch: &Branch,
 ) -> Result<Tried, AllocError>
     requires sound { ¬ (Absurd branch.now.known) }
-    requires facts { All (FactIsGiven (length branch.now.known.unknowns) ctx.now) branch.now.facts }
+    requires facts { AreGiven (length branch.now.known.unknowns) ctx.now branch.now.facts }
     requires goal { All (IsGiven (length branch.now.known.unknowns) ctx.now) branch.now.goal }
     ensures { IfOk result
         (TellsTried policy.now ctx.now trace.now query.now problem.now branch.now) }
