@@ -5,7 +5,7 @@ ghost use Rattle.ba_facts.specs.Knowing.{IsRising};
 ghost use Rattle.ba_facts.specs.declared.term.Term.TheVariants.{Unknown};
 ghost use Rattle.ba_refute.specs.Images.{AreNumbers, IsAtLeast, IsAtMost, IsNumberOf};
 
-use ba_classes::{difference, greater, lesser, sum, value_between};
+use ba_classes::image::{difference, greater, lesser, sum, value_between};
 use ba_facts::{Knowledge, Term, TermRef};
 use ba_model::Value;
 use std::alloc::{AllocError, Global};
