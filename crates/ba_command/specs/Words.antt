@@ -1,5 +1,5 @@
 -- The command that words ask for, over what `clap` says of a simple command.
-use Rattle.std.specs.Prelude.{ℕ, ◌^◌, ◌&&◌, List, [], ◌∷◌, true, nat_lt, codes, Option, Some, None, Result, Ok, Err, if◌then◌else◌}
+use Rattle.std.specs.Prelude.{ℕ, ◌&&◌, List, [], ◌∷◌, true, nat_le, codes, Option, Some, None, Result, Ok, Err, if◌then◌else◌}
 use Rattle.std.specs.Str.{bytes_eq}
 use Rattle.std.specs.Str.Parse.{digits_value, without_leading_plus}
 use Rattle.clap.specs.Faults.{fault_of}
@@ -41,12 +41,12 @@ run_app = with_rule (with_rule (with_rule (with_rule (with_rule (with_rule bare
     (number_rule (codes "workers") MIN_WORKERS MAX_WORKERS))
     (number_rule (codes "budget") MIN_BUDGET MAX_BUDGET)
 
--- the number that a text spells, or another
-abbrev pub number_or : ℕ → Option Text → ℕ
-number_or other None = other
-number_or other (Some text) =
+-- the number up to a greatest that a text spells, or another
+abbrev pub number_or : ℕ → ℕ → Option Text → ℕ
+number_or most other None = other
+number_or most other (Some text) =
     let n = digits_value 10 (without_leading_plus text) in
-    if is_numeral (without_leading_plus text) && nat_lt n (2 ^ 32) then n else other
+    if is_numeral (without_leading_plus text) && nat_le n most then n else other
 
 abbrev pub with_texts : Option Text → Option Text → Option Text → Option Text → ℕ → ℕ → Result Command WordsFault
 with_texts (Some schema) (Some policy) (Some tables) (Some script) workers budget = Ok (Run schema policy tables script workers budget)
@@ -58,12 +58,16 @@ with_texts (Some schema) (Some policy) (Some tables) None workers budget = Err N
 -- the command that the values of the options are
 abbrev pub command_from : (Text → Option Text) → Result Command WordsFault
 command_from given = with_texts (given (codes "schema")) (given (codes "policy")) (given (codes "tables")) (given (codes "script"))
-    (number_or WORKERS (given (codes "workers"))) (number_or BUDGET (given (codes "budget")))
+    (number_or MAX_WORKERS WORKERS (given (codes "workers"))) (number_or MAX_BUDGET BUDGET (given (codes "budget")))
 
 -- where `clap` finds no fault
 abbrev pub unless_fault : Kinds → Result Command WordsFault → Result Command WordsFault
 unless_fault [] found = found
 unless_fault (kind ∷ kinds) found = Err NoForm
+
+-- how many steps a search may take
+abbrev pub budget_of : Command → ℕ
+budget_of (Run schema policy tables script workers budget) = budget
 
 -- what the words behind `run` ask for
 unfoldable pub run_of : List Text → Result Command WordsFault

@@ -17,7 +17,7 @@ pub enum Command {
         script: Str,
         /// How many workers answer. It is 1 so far, which is its default.
         workers: u32,
-        /// How many steps a search may take, from 16 to 100,000; 2000 where the words don't say. It has no effect so far.
+        /// How many steps a search may take, from 16 to 100,000; 2000 where the words don't say.
         budget: u32,
     },
 }

@@ -1,8 +1,9 @@
 //! The options of the command `run`, read by `clap`.
-ghost use Rattle.std.specs.Prelude.{◌≡◌, ◌≢◌, false, map, string_bytes, IfOk};
+ghost use Rattle.std.specs.Prelude.{◌≡◌, ◌≢◌, ◌≤◌, false, map, string_bytes, IfOk};
 ghost use Rattle.clap.specs.Words.{app_of, first_value, found_of, kind_of, rule_of};
 ghost use Rattle.ba_model.specs.Readings.{Gives};
-ghost use Rattle.ba_command.specs.Words.{bare, command_from, needed, number_or, number_rule, option_rule, run_app, run_of};
+ghost use Rattle.ba_model.specs.declared.limits.TheConstants.{MAX_BUDGET as most_budget};
+ghost use Rattle.ba_command.specs.Words.{bare, budget_of, command_from, needed, number_or, number_rule, option_rule, run_app, run_of};
 
 use crate::command::{Command, WordsFault};
 use ba_model::{BUDGET, Failure, MAX_BUDGET, MAX_WORKERS, MIN_BUDGET, MIN_WORKERS, Str, WORKERS};
@@ -57,13 +58,15 @@ fn run_form<'a>(alloc: Global) -> Result<Form<'a>, AllocError>
         .arg(number(alloc, "budget", MIN_BUDGET, MAX_BUDGET))
 }
 
-// The number given under an id, or another.
-fn number_of(matches: &ArgMatches<'_>, id: &str, other: u32) -> u32
-    ensures { result ≡ number_or other (first_value (found_of matches.now) id.now) }
+// The number up to a greatest that is given under an id, or another.
+fn number_of(matches: &ArgMatches<'_>, id: &str, most: u32, other: u32) -> u32
+    requires { other ≤ most }
+    ensures is { result ≡ number_or most other (first_value (found_of matches.now) id.now) }
+    ensures within { result ≤ most }
 {
     match matches.get_str(id) {
         Some(text) => match text.parse::<u32>() {
-            Ok(number) => number,
+            Ok(number) => { if number <= most { number } else { other } }
             Err(_) => other,
         },
         None => other,
@@ -81,14 +84,15 @@ fn text_of(alloc: Global, matches: &ArgMatches<'_>, id: &str) -> Result<Option<S
 }
 
 fn command_of(alloc: Global, matches: &ArgMatches<'_>) -> Result<Command, Failure<WordsFault>>
-    ensures { Gives result (command_from (first_value (found_of matches.now))) }
+    ensures reads { Gives result (command_from (first_value (found_of matches.now))) }
+    ensures budget { IfOk result (λ command. budget_of command ≤ most_budget) }
 {
     let schema = text_of(alloc, matches, "schema")?;
     let policy = text_of(alloc, matches, "policy")?;
     let tables = text_of(alloc, matches, "tables")?;
     let script = text_of(alloc, matches, "script")?;
-    let workers = number_of(matches, "workers", WORKERS);
-    let budget = number_of(matches, "budget", BUDGET);
+    let workers = number_of(matches, "workers", MAX_WORKERS as u32, WORKERS);
+    let budget = number_of(matches, "budget", MAX_BUDGET as u32, BUDGET);
     match (schema, policy, tables, script) {
         (Some(schema), Some(policy), Some(tables), Some(script)) => Ok(Command::Run {
             schema,
@@ -115,7 +119,8 @@ fn refusal(e: &Error) -> Failure<WordsFault>
 
 /// What the words behind `run` ask for.
 pub(crate) fn read_run(alloc: Global, words: &[String]) -> Result<Command, Failure<WordsFault>>
-    ensures { Gives result (run_of (map string_bytes words.now)) }
+    ensures reads { Gives result (run_of (map string_bytes words.now)) }
+    ensures budget { IfOk result (λ command. budget_of command ≤ most_budget) }
 {
     let form = run_form(alloc)?;
     match form.try_get_matches_from(words) {

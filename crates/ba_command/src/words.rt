@@ -1,7 +1,8 @@
 //! Reads the words of a command line.
-ghost use Rattle.std.specs.Prelude.{◌≡◌, map, string_bytes};
+ghost use Rattle.std.specs.Prelude.{◌≡◌, ◌≤◌, IfOk, map, string_bytes};
 ghost use Rattle.ba_model.specs.Readings.{Gives};
-ghost use Rattle.ba_command.specs.Words.{command_of};
+ghost use Rattle.ba_model.specs.declared.limits.TheConstants.{MAX_BUDGET};
+ghost use Rattle.ba_command.specs.Words.{budget_of, command_of};
 
 use crate::command::{Command, WordsFault};
 use crate::run::read_run;
@@ -14,6 +15,7 @@ use std::alloc::Global;
 /// All else is `NoForm`: other commands, no words, a missing or repeated option, an abbreviation, a word left over.
 pub fn read_words(alloc: Global, words: &[String]) -> Result<Command, Failure<WordsFault>>
     ensures exact { Gives result (command_of (map string_bytes words.now)) }
+    ensures budget { IfOk result (λ command. budget_of command ≤ MAX_BUDGET) }
 {
     let [name, rest @ ..] = words else {
         return Err(Failure::Fault(WordsFault::NoForm));

@@ -65,4 +65,12 @@ impl Proved {
     {
         &self.steps
     }
+
+    /// The steps alone, the first one first.
+    pub fn into_steps(self) -> List<Step>
+        ensures is { result ≡ self.steps }
+        ensures strong { StrongAll self.problem }
+    {
+        self.steps
+    }
 }

@@ -1,38 +1,37 @@
 -- A legal journal has the headline.
 use Rattle.std.proofs.Common.{◌≡◌, sym, ap, subst, ℕ, List, [], ◌∷◌, ◌++◌, Option, Some, None, IfSome, append_assoc, append-nil}
-use Rattle.ba_model.specs.declared.policy.Context.{Context}
 use Rattle.ba_model.specs.declared.query.Query.{Query}
 use Rattle.ba_model.specs.declared.value.Value.{Value}
 use Rattle.ba_outside.specs.Seen.{FilesSeen, SinkSeen}
 use Rattle.ba_script.specs.declared.entry.ScriptEntry.{ScriptEntry}
 use Rattle.ba_script.specs.declared.entry.ScriptEntry.TheVariants as said
-use Rattle.ba_top.specs.Headline.{Headline, IsAnswerEverywhere, IsNotCovered}
-use Rattle.ba_top.specs.Legal.{AreEntries, HasContext, IsEntry, Legal, Replies, trace_of}
+use Rattle.ba_session.specs.Asking.{Replies}
+use Rattle.ba_session.specs.declared.reply.By.{By}
+use Rattle.ba_session.specs.declared.reply.Reply.{Reply}
+use Rattle.ba_session.specs.declared.reply.Reply.TheVariants.{Answer, Blocked}
+use Rattle.ba_session.specs.declared.reply.Why.{Why}
+use Rattle.ba_session.specs.declared.request.Request.{Request}
+use Rattle.ba_top.specs.Headline.{Headline, IsAnswerEverywhere, IsBlockedWithReason}
+use Rattle.ba_top.specs.Legal.{AreEntries, IsEntry, IsRequest, Legal}
 use Rattle.ba_top.specs.Ran.{Ran, Served}
-use Rattle.ba_top.specs.declared.report.By.{By}
-use Rattle.ba_top.specs.declared.report.By.TheVariants.{Cover}
 use Rattle.ba_top.specs.declared.report.Detail.{Detail}
 use Rattle.ba_top.specs.declared.report.Entry.{Entry}
 use Rattle.ba_top.specs.declared.report.Entry.TheVariants.{Begin, Ask, End}
 use Rattle.ba_top.specs.declared.report.Input.{Input}
 use Rattle.ba_top.specs.declared.report.Journal.{Journal}
-use Rattle.ba_top.specs.declared.report.Reply.{Reply}
-use Rattle.ba_top.specs.declared.report.Reply.TheVariants.{Answer, Blocked}
-use Rattle.ba_top.specs.declared.report.Why.{Why}
-use Rattle.ba_top.specs.declared.report.Why.TheVariants.{Uncovered}
 
 -- the reply that a question's entry has
 record HasReply (input : Input) (earlier : List Entry) (request : ℕ) (reply : Reply) : Type 0 where
-  context : Context
-  has : HasContext input.script request context
+  asker : Request
+  asks : IsRequest input earlier request asker
   text : List ℕ
-  holds : Replies input context (trace_of request earlier) text reply
+  holds : Replies input.policy input.tables.rows asker input.budget text reply
 
 answer_holds : (input : Input) (earlier : List Entry) (request : ℕ) (query : Query) (rows : List (List Value)) (by : By) → HasReply input earlier request (Answer query rows by) → IsAnswerEverywhere input request earlier query rows
-answer_holds input earlier request query rows (Cover cover) h = let it = h.holds in record { context = h.context; has = h.has; here = it.answer; everywhere = it.everywhere }
+answer_holds input earlier request query rows by h = let it = h.holds in record { asker = h.asker; asks = h.asks; released = it.released }
 
-block_holds : (input : Input) (earlier : List Entry) (request : ℕ) (query : Query) (why : Why) → HasReply input earlier request (Blocked query why) → IsNotCovered input request query
-block_holds input earlier request query Uncovered h = let it = h.holds in record { context = h.context; has = h.has; uncovered = it.uncovered }
+block_holds : (input : Input) (earlier : List Entry) (request : ℕ) (query : Query) (why : Why) → HasReply input earlier request (Blocked query why) → IsBlockedWithReason input request earlier query why
+block_holds input earlier request query why h = let it = h.holds in record { asker = h.asker; asks = h.asks; uncovered = it.uncovered; reason = it.reason }
 
 head_is : {A : Type 0} (x y : A) (xs ys : List A) → x ∷ xs ≡ y ∷ ys → x ≡ y
 head_is x y xs ys e = cc
@@ -62,12 +61,10 @@ entry_has input earlier (said.Begin r name context) request version reply h = ab
 entry_has input earlier (said.Ask r name text) request version reply h =
     let same = request_is request version r reply h.reply h.is in
     record {
-      context = h.context;
-      has = subst (λ z. HasContext input.script z h.context) same h.has;
+      asker = h.asker;
+      asks = subst (λ z. IsRequest input earlier z h.asker) same h.asks;
       text = text;
-      holds =
-          subst (λ z. Replies input h.context (trace_of z earlier) text reply) same
-          (subst (λ z. Replies input h.context (trace_of r earlier) text z) (reply_is request version r reply h.reply h.is) h.replies);
+      holds = subst (λ z. Replies input.policy input.tables.rows h.asker input.budget text z) (reply_is request version r reply h.reply h.is) h.replies;
     }
 entry_has input earlier (said.End r name) request version reply h = absurd (end_is_no_ask request version r reply h)
 

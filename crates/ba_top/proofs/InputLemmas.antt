@@ -1,7 +1,11 @@
 -- How the input is read, stage by stage.
-use Rattle.std.proofs.Common.{◌≡◌, ◌∙◌, ◌<◌, ◌+◌, [], ◌∷◌, ◌++◌, inr, refl, sym, ap, subst, ℕ, suc, List, Result, Ok, Err, length, drop, take, get_or, add-one, drop-cons}
+use Rattle.std.proofs.Common.{◌≡◌, ◌∙◌, ◌<◌, ◌≤◌, ◌+◌, [], ◌∷◌, ◌++◌, inr, refl, sym, ap, subst, ℕ, suc, List, Result, Ok, Err, length, drop, take, get_or, add-one, drop-cons}
 use Rattle.std.proofs.lemmas.List.{take_more}
+use Rattle.std.proofs.lemmas.List.Elements.{All-nil}
 use Rattle.std.specs.List.{All, AllZip}
+use Rattle.ba_kernel.specs.Courses.{RuleFits}
+use Rattle.ba_model.specs.SchemaFaults.{AreTables}
+use Rattle.ba_model.specs.declared.schema.Rule.{Rule}
 use Rattle.ba_model.specs.Conform.{Conforms, RowFits}
 use Rattle.ba_model.specs.Fit.{PolicyFits}
 use Rattle.ba_model.specs.Readings.{widened}
@@ -9,7 +13,7 @@ use Rattle.ba_model.specs.declared.policy.Policy.{Policy}
 use Rattle.ba_model.specs.declared.schema.Schema.{Schema}
 use Rattle.ba_model.specs.declared.schema.Table.{Table}
 use Rattle.ba_model.specs.declared.value.Value.{Value}
-use Rattle.ba_model.specs.declared.limits.TheConstants.{MAX_FILE_BYTES}
+use Rattle.ba_model.specs.declared.limits.TheConstants.{MAX_BUDGET, MAX_FILE_BYTES}
 use Rattle.ba_outside.specs.Seen.{FilesSeen}
 use Rattle.ba_plan.proofs.Plans.{found_ok, then_err, then_ok}
 use Rattle.ba_plan.specs.Follows.{Follows, Gives, Got}
@@ -27,14 +31,20 @@ use Rattle.ba_top.specs.Refusals.{broken_refusal, ddl_refusal, policy_refusal}
 use Rattle.ba_top.specs.declared.report.Input.{Input}
 use Rattle.ba_top.specs.declared.report.Refusal.{Refusal}
 
+no_rule : (s : Schema) (rules : List Rule) → rules ≡ [] → All (RuleFits s) rules
+no_rule s rules none = subst (All (RuleFits s)) (sym none) (All-nil (RuleFits s))
+
 -- what was read belongs together
-pub input_fits : (policy : Policy) (tables : TableSet) (script : Script) → PolicyFits policy → tables.schema ≡ policy.schema → Conforms tables.schema tables.rows → IsScript policy.params script
-    → IsInput (record { policy = policy; tables = tables; script = script })
-input_fits policy tables script fits same conform is = record {
+pub input_fits : (policy : Policy) (tables : TableSet) (script : Script) (budget : ℕ) → PolicyFits policy → tables.schema ≡ policy.schema → Conforms tables.schema tables.rows → IsScript policy.params script → budget ≤ MAX_BUDGET
+    → AreTables policy.schema.tables → policy.schema.rules ≡ [] → IsInput (record { policy = policy; tables = tables; script = script; budget = budget })
+input_fits policy tables script budget fits same conform is few tables_are none = record {
   policy = fits;
   schema = same;
   conform = subst (λ s. Conforms s tables.rows) same conform;
   script = is;
+  budget = few;
+  tables_are = tables_are;
+  rules = no_rule policy.schema policy.schema.rules none;
 }
 
 zip_end : {A B : Type 0} (R : A → B → Type 0) (xs : List A) (ys : List B) (x : A) (y : B) → AllZip R xs ys → R x y → AllZip R (xs ++ x ∷ []) (ys ++ y ∷ [])
@@ -77,7 +87,7 @@ tables_err set schema s t e rows =
 pub named_ok : (names : Names) (bytes text : List ℕ) (schema : Schema) (policy : Policy) (tables : TableSet) (s m n o t : FilesSeen) (r : Result Input (Stop Refusal))
     → Got names.schema MAX_FILE_BYTES bytes s m → widened (ddl_refusal names.schema) (schema_of bytes) ≡ Ok schema
     → Got names.policy MAX_FILE_BYTES text m n → widened (policy_refusal names.policy) (policy_of schema text) ≡ Ok policy
-    → Follows (tables_plan names.tables schema) n o (Ok tables) → Follows (script_plan names.script policy tables) o t r → Follows (reading_of names) s t r
+    → Follows (tables_plan names.tables schema) n o (Ok tables) → Follows (script_plan names.script names.budget policy tables) o t r → Follows (reading_of names) s t r
 named_ok names bytes text schema policy tables s m n o t r got read given is set rest = inr (
   bytes,
   m,
@@ -88,7 +98,7 @@ named_ok names bytes text schema policy tables s m n o t r got read given is set
         n,
         given,
         found_ok (widened (policy_refusal names.policy) (policy_of schema text)) (rest_plan names schema) n t r policy is
-            (then_ok (tables_plan names.tables schema) (script_plan names.script policy) n o t tables r set rest),
+            (then_ok (tables_plan names.tables schema) (script_plan names.script names.budget policy) n o t tables r set rest),
       )),
 )
 
@@ -107,6 +117,6 @@ named_err names bytes text schema policy s m n t e got read given is set = inr (
         n,
         given,
         found_ok (widened (policy_refusal names.policy) (policy_of schema text)) (rest_plan names schema) n t (Err e) policy is
-            (then_err (tables_plan names.tables schema) (script_plan names.script policy) n t e set),
+            (then_err (tables_plan names.tables schema) (script_plan names.script names.budget policy) n t e set),
       )),
 )

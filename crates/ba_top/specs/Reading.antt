@@ -24,12 +24,13 @@ use Rattle.ba_top.specs.declared.report.Input.{Input}
 use Rattle.ba_top.specs.declared.report.Refusal.{Refusal}
 use Rattle.ba_top.specs.declared.report.Refusal.TheVariants.{Words}
 
--- the names of the files, and of the table set
+-- the names of the files, and of the table set, and the budget of a search
 pub record Names : Type 0 where
   pub schema : List ℕ
   pub policy : List ℕ
   pub tables : List ℕ
   pub script : List ℕ
+  pub budget : ℕ
 
 abbrev pub file_of : List ℕ → Plan Refusal (List ℕ)
 file_of name = ask name MAX_FILE_BYTES done
@@ -52,16 +53,16 @@ tables_plan set schema = do
   lists ← rows_plan set schema.tables []
   found (widened (broken_refusal set schema) (checked schema (record { tables = lists })))
 
-abbrev pub script_plan : List ℕ → Policy → TableSet → Plan Refusal Input
-script_plan name policy tables = do
+abbrev pub script_plan : List ℕ → ℕ → Policy → TableSet → Plan Refusal Input
+script_plan name budget policy tables = do
   bytes ← file_of name
   script ← found (widened (script_refusal name) (script_of policy.params bytes))
-  done (record { policy = policy; tables = tables; script = script })
+  done (record { policy = policy; tables = tables; script = script; budget = budget })
 
 abbrev pub rest_plan : Names → Schema → Policy → Plan Refusal Input
 rest_plan names schema policy = do
   tables ← tables_plan names.tables schema
-  script_plan names.script policy tables
+  script_plan names.script names.budget policy tables
 
 abbrev pub policy_plan : Names → Schema → Plan Refusal Input
 policy_plan names schema = do
@@ -76,9 +77,9 @@ reading_of names = do
   schema ← found (widened (ddl_refusal names.schema) (schema_of bytes))
   policy_plan names schema
 
--- the number of workers and the budget have no effect on what is read
+-- the number of workers has no effect on what is read
 abbrev pub command_plan : Command → Plan Refusal Input
-command_plan (Run schema policy tables script workers budget) = reading_of (record { schema = schema; policy = policy; tables = tables; script = script })
+command_plan (Run schema policy tables script workers budget) = reading_of (record { schema = schema; policy = policy; tables = tables; script = script; budget = budget })
 
 abbrev pub plan_at : Result Command WordsFault → Plan Refusal Input
 plan_at (Err NoForm) = refuse Words

@@ -3,23 +3,38 @@ use Rattle.std.specs.Prelude.{ℕ, ◌+◌, List, [], ◌∷◌, ◌++◌, Bool,
 use Rattle.ba_script.specs.declared.entry.Script.{Script}
 use Rattle.ba_script.specs.declared.entry.ScriptEntry.{ScriptEntry}
 use Rattle.ba_script.specs.declared.entry.ScriptEntry.TheVariants as said
+use Rattle.ba_session.specs.declared.reply.By.{By}
+use Rattle.ba_session.specs.declared.reply.By.TheVariants.{Cover, Proof}
+use Rattle.ba_session.specs.declared.reply.Reply.{Reply}
+use Rattle.ba_session.specs.declared.reply.Reply.TheVariants.{Answer, Blocked, Unread, NoMemory}
+use Rattle.ba_session.specs.declared.reply.Why.{Why}
+use Rattle.ba_session.specs.declared.reply.Why.TheVariants.{Refuted, Spent, Stuck}
 use Rattle.ba_top.specs.Legal.{is_memory}
-use Rattle.ba_top.specs.declared.report.By.TheVariants.{Cover}
 use Rattle.ba_top.specs.declared.report.Entry.{Entry}
 use Rattle.ba_top.specs.declared.report.Entry.TheVariants.{Begin, Ask, End}
 use Rattle.ba_top.specs.declared.report.Journal.{Journal}
-use Rattle.ba_top.specs.declared.report.Reply.{Reply}
-use Rattle.ba_top.specs.declared.report.Reply.TheVariants.{Answer, Blocked, Unread, NoMemory}
-use Rattle.ba_top.specs.declared.report.Why.TheVariants.{Uncovered}
 use Rattle.ba_wire.specs.Printed.{Printed, begin, end, answer, block, unread, memory, line_bytes, summary_bytes}
+use Rattle.ba_wire.specs.declared.line.By.{By as PrintedBy}
 use Rattle.ba_wire.specs.declared.line.By.TheVariants as by
+use Rattle.ba_wire.specs.declared.line.Block.{Block}
 use Rattle.ba_wire.specs.declared.line.Block.TheVariants as blocked
 use Rattle.ba_wire.specs.declared.summary.Summary.{Summary}
 
+-- what a line says of the ground of an answer
+abbrev pub printed_by : By → PrintedBy
+printed_by (Cover cover) = by.Cover
+printed_by (Proof steps) = by.Proof
+
+-- what a line says of the reason of a block
+abbrev pub printed_block : Why → Block
+printed_block (Refuted pair) = blocked.Refuted
+printed_block (Spent steps) = blocked.Spent (length steps)
+printed_block (Stuck leaf clause) = blocked.Stuck clause
+
 -- what the line of a reply says
 abbrev pub reply_line : List ℕ → ℕ → ℕ → Reply → Printed
-reply_line name line version (Answer query rows (Cover cover)) = answer by.Cover line name rows version
-reply_line name line version (Blocked query Uncovered) = block blocked.Uncovered line name version
+reply_line name line version (Answer query rows by) = answer (printed_by by) line name rows version
+reply_line name line version (Blocked query why) = block (printed_block why) line name version
 reply_line name line version (Unread fault) = unread line name fault version
 reply_line name line version NoMemory = memory line
 

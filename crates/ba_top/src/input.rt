@@ -1,8 +1,11 @@
 //! Reads the input that the words name.
-ghost use Rattle.std.specs.Prelude.{◌≡◌, [], All, IfOk, map, string_bytes, Err};
+ghost use Rattle.std.specs.Prelude.{◌≡◌, ◌≤◌, [], All, IfOk, map, string_bytes, Err};
+ghost use Rattle.ba_command.specs.Words.{budget_of};
 ghost use Rattle.ba_model.specs.Conform.{RowFits};
 ghost use Rattle.ba_model.specs.Fit.{PolicyFits};
 ghost use Rattle.ba_model.specs.Readings.{widened};
+ghost use Rattle.ba_model.specs.SchemaFaults.{AreTables};
+ghost use Rattle.ba_model.specs.declared.limits.TheConstants.{MAX_BUDGET as most_budget};
 ghost use Rattle.ba_plan.specs.Follows.{Follows, Gives};
 ghost use Rattle.ba_policy.specs.Reading.{policy_of};
 ghost use Rattle.ba_script.specs.Reading.{script_of};
@@ -30,17 +33,19 @@ use ba_sql_ddl::read_schema;
 use ba_tables::{Tables, rows_of_file};
 use std::alloc::Global;
 
-/// The names of the files and of the table set.
+/// The names of the files and of the table set, and the budget of a search.
 #[derive(Clone, Copy, Debug)]
 struct Named<'a> {
     schema: &'a str,
     policy: &'a str,
     tables: &'a str,
     script: &'a str,
+    budget: u32,
 }
 
 fn schema_at(alloc: Global, file: &str, bytes: &List<u8>) -> Result<Shared<Schema>, Stop<Refusal>>
     ensures reads { Gives result (widened (ddl_refusal file.now) (schema_of bytes.now)) }
+    ensures tables { IfOk result (λ schema. AreTables schema.tables) }
     ensures rules { IfOk result (λ schema. schema.rules ≡ []) }
 {
     match read_schema(alloc, bytes.as_slice()) {
@@ -58,14 +63,14 @@ fn policy_at(
     file: &str,
     schema: &Shared<Schema>,
     bytes: &List<u8>,
-) -> Result<Policy, Stop<Refusal>>
+) -> Result<Shared<Policy>, Stop<Refusal>>
     ensures reads { Gives result
         (widened (policy_refusal file.now) (policy_of schema.now bytes.now)) }
     ensures fits { IfOk result PolicyFits }
     ensures same { IfOk result (λ policy. policy.schema ≡ schema.now) }
 {
     match read_policy(alloc, schema, bytes.as_slice()) {
-        Ok(policy) => Ok(policy),
+        Ok(policy) => Ok(Shared::new(alloc, policy)?),
         Err(Failure::Fault(fault)) => {
             let file = Str::new(alloc, file)?;
             Err(Stop::Refused(policy_refusal(file, fault)))
@@ -191,12 +196,16 @@ fn read_rest<F: Files>(
     alloc: Global,
     files: &mut F,
     name: &str,
-    policy: Policy,
+    budget: u32,
+    policy: Shared<Policy>,
     tables: Tables,
 ) -> Result<Input, Stop<Refusal>>
     requires policy { PolicyFits policy }
     requires schema { tables.schema ≡ policy.schema }
-    ensures follows { Follows (script_plan name.now policy tables)
+    requires tables_are { AreTables policy.schema.tables }
+    requires rules { policy.schema.rules ≡ [] }
+    requires budget { budget ≤ most_budget }
+    ensures follows { Follows (script_plan name.now budget policy tables)
         (F.seen files.old) (F.seen files.new) result }
     ensures input { IfOk result IsInput }
 {
@@ -206,6 +215,7 @@ fn read_rest<F: Files>(
         policy,
         tables,
         script,
+        budget,
     })
 }
 
@@ -214,11 +224,13 @@ fn read_named<F: Files>(
     files: &mut F,
     named: &Named<'_>,
 ) -> Result<Input, Stop<Refusal>>
+    requires budget { named.now.budget ≤ most_budget }
     ensures follows { Follows (reading_of (record {
       schema = named.now.schema.now;
       policy = named.now.policy.now;
       tables = named.now.tables.now;
       script = named.now.script.now;
+      budget = named.now.budget;
     }))
         (F.seen files.old) (F.seen files.new) result }
     ensures input { IfOk result IsInput }
@@ -228,7 +240,7 @@ fn read_named<F: Files>(
     let text = read_file(alloc, files, named.policy, MAX_FILE_BYTES)?;
     let policy = policy_at(alloc, named.policy, &schema, &text)?;
     let tables = read_tables(alloc, files, named.tables, &schema)?;
-    read_rest(alloc, files, named.script, policy, tables)
+    read_rest(alloc, files, named.script, named.budget, policy, tables)
 }
 
 fn read_command<F: Files>(
@@ -236,6 +248,7 @@ fn read_command<F: Files>(
     command: &Command,
     files: &mut F,
 ) -> Result<Input, Stop<Refusal>>
+    requires budget { budget_of command.now ≤ most_budget }
     ensures follows { Follows (command_plan command.now)
         (F.seen files.old) (F.seen files.new) result }
     ensures input { IfOk result IsInput }
@@ -246,6 +259,7 @@ fn read_command<F: Files>(
             policy,
             tables,
             script,
+            budget,
             ..
         } => {
             let named = Named {
@@ -253,6 +267,7 @@ fn read_command<F: Files>(
                 policy: policy.as_str(),
                 tables: tables.as_str(),
                 script: script.as_str(),
+                budget: *budget,
             };
             read_named(alloc, files, &named)
         }

@@ -10,5 +10,5 @@ mod serve;
 mod summary;
 mod top;
 
-pub use report::{By, Detail, Entry, Input, Journal, Outcome, Refusal, Reply, Why};
+pub use report::{Detail, Entry, Input, Journal, Outcome, Refusal};
 pub use top::blockaid;

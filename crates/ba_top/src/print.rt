@@ -2,37 +2,55 @@
 ghost use Rattle.std.specs.Prelude.{◌≡◌, [], ◌∷◌, IfOk, length, string_bytes};
 ghost use Rattle.ba_plan.specs.Sent.{SentLines};
 ghost use Rattle.ba_wire.specs.Printed.{fault_bytes, printed};
-ghost use Rattle.ba_top.specs.Text.{entry_bytes, entry_line, lines_of, name_in, reply_line, total_bytes};
+ghost use Rattle.ba_top.specs.Text.{entry_bytes, entry_line, lines_of, name_in, printed_block, printed_by, reply_line, total_bytes};
 
-use crate::report::{By, Entry, Journal, Reply, Why};
+use crate::report::{Entry, Journal};
 use crate::summary::summary;
 use ba_model::Str;
 use ba_outside::{Sink, WriteFail};
 use ba_plan::send;
 use ba_script::{Script, ScriptEntry};
+use ba_session::{By, Reply, Why};
 use ba_wire::{Block, By as PrintedBy, Fault, Line, fault_text, line_text, summary_text};
 use std::alloc::{AllocError, Global};
+
+fn printed_by(by: &By) -> PrintedBy
+    ensures { result ≡ printed_by by.now }
+{
+    match by {
+        By::Cover(_) => PrintedBy::Cover,
+        By::Proof(_) => PrintedBy::Proof,
+    }
+}
+
+fn printed_block(why: &Why) -> Block
+    ensures { result ≡ printed_block why.now }
+{
+    match why {
+        Why::Refuted(_) => Block::Refuted,
+        Why::Spent(steps) => Block::Spent {
+            steps: steps.len() as u64,
+        },
+        Why::Stuck(_, clause) => Block::Stuck { clause: *clause },
+    }
+}
 
 fn reply_line<'a>(request: &'a Str, line: u64, version: u32, reply: &'a Reply) -> Line<'a>
     ensures { printed result ≡ reply_line request.now line version reply.now }
 {
     match reply {
-        Reply::Answer { rows, by, .. } => match by {
-            By::Cover(_) => Line::Answer {
-                by: PrintedBy::Cover,
-                line,
-                request,
-                rows,
-                version,
-            },
+        Reply::Answer { rows, by, .. } => Line::Answer {
+            by: printed_by(by),
+            line,
+            request,
+            rows,
+            version,
         },
-        Reply::Blocked { why, .. } => match why {
-            Why::Uncovered => Line::Block {
-                blocked: Block::Uncovered,
-                line,
-                request,
-                version,
-            },
+        Reply::Blocked { why, .. } => Line::Block {
+            blocked: printed_block(why),
+            line,
+            request,
+            version,
         },
         Reply::Unread(fault) => Line::Unread {
             line,

@@ -1,54 +1,23 @@
 //! What a run reads, does and answers.
 
-use ba_direct::Cover;
-use ba_model::{Counted, List, Policy, Query, Row, Str};
+use ba_model::{Counted, List, Policy, Shared, Str};
 use ba_script::Script;
-use ba_sql_query::ReadQueryFault;
+use ba_session::Reply;
 use ba_tables::Tables;
 use ba_wire::Reason;
 
 /// What the words name, once it is read.
 #[derive(Debug, Drop)]
 pub struct Input {
-    pub policy: Policy,
+    pub policy: Shared<Policy>,
     pub tables: Tables,
     pub script: Script,
-}
-
-/// Why a question is answered: the evidence.
-#[derive(Debug, Drop)]
-pub enum By {
-    /// A view for each part, with a pairing of the tables.
-    Cover(Cover),
-}
-
-/// Why a question is blocked: the evidence.
-#[derive(Clone, Copy, Debug, PartialEq, Eq)]
-pub enum Why {
-    /// No cover exists.
-    Uncovered,
-}
-
-/// What becomes of a question.
-#[derive(Debug, Drop)]
-pub enum Reply {
-    /// The rows of the question's query, strictly rising.
-    Answer {
-        query: Query,
-        rows: List<Row>,
-        by: By,
-    },
-    Blocked {
-        query: Query,
-        why: Why,
-    },
-    /// The text reads as no query: its first fault.
-    Unread(ReadQueryFault),
-    NoMemory,
+    /// How many steps the search for a question's proof may take.
+    pub budget: u32,
 }
 
 /// What became of a line of the script. Requests and versions of the tables are numbered from 0.
-#[derive(Debug, Drop)]
+#[derive(Drop)]
 pub enum Entry {
     Begin {
         request: u32,
@@ -65,7 +34,7 @@ pub enum Entry {
 }
 
 /// What became of each line of the script, in order.
-#[derive(Debug, Drop)]
+#[derive(Drop)]
 pub struct Journal {
     pub entries: List<Entry>,
 }
@@ -101,7 +70,7 @@ pub enum Detail {
 }
 
 /// What the top call answers: the exit status, its cause, and the journal where lines were answered.
-#[derive(Debug, Drop)]
+#[derive(Drop)]
 pub struct Outcome {
     pub status: u8,
     pub detail: Detail,

@@ -4,7 +4,8 @@ ghost use Rattle.std.specs.List.{list_any};
 ghost use Rattle.ba_top.specs.Legal.{is_memory, lacks_memory};
 ghost use Rattle.ba_top.specs.Text.{is_answer, is_begin, is_block, is_unread, more, row_count, summary_of, with_entry};
 
-use crate::report::{Entry, Journal, Reply};
+use crate::report::{Entry, Journal};
+use ba_session::Reply;
 use ba_wire::Summary;
 
 #[tactic(auto, unfolding(crate::specs::Text::is_begin))]

@@ -110,11 +110,12 @@ fn run<F: Files, S: Sink, G: Gate>(
     }
 }
 
-/// Does what the words say: `run --schema S --policy P --tables D --script F`.
+/// Does what the words say: `run --schema S --policy P --tables D --script F [--workers N] [--budget B]`.
 ///
 /// Reads the schema S, the policy P, the file D/T.csv of each table T in the schema's order and the script F, each once; then answers
 /// or blocks each question of the script; then writes a line for each line of the script, in order, and the summary. A question is
-/// answered exactly where single views of the policy cover it, under its request's context.
+/// answered where single views of the policy cover it under its request's context, or where at most B due steps prove that it is
+/// strongly compliant after what its request was told (Blockaid, OSDI 2022); else it is blocked, with a reason.
 ///
 /// The first fault ends the run with one fault line: words of another form (status 2), a file that has no reading, or rows that break
 /// a key or a link (3), a file that can't be read (4), a count above its limit (7). A write that fails ends it with status 5, want
@@ -127,8 +128,9 @@ pub fn blockaid<F: Files, S: Sink, G: Gate + Sync>(
     gate: &G,
 ) -> Outcome
     // Each answer is its query's answer in the request's tables and in every database that meets the schema, gives every view the
-    // same rows and each query that was answered before its printed rows; no covered query is blocked. The input that the words and
-    // the files come to is the one for which the journal is legal and whose lines were written.
+    // same rows and each query that was answered before its printed rows. Each block is of a query that isn't covered, and carries a
+    // counterexample to strong compliance, a derivation as long as the budget, or a stuck branch. The input that the words and the
+    // files come to is the one for which the journal is legal and whose lines were written.
     ensures headline { IfSome result.journal (λ journal.
         Served (map string_bytes words.now) (F.seen files.old) (F.seen files.new)
         (S.seen sink.old) (S.seen sink.new) result.detail journal) }

@@ -6,6 +6,7 @@ use Rattle.serde_json.specs.View.{items_of}
 use Rattle.serde_json.specs.Written.{has_float, items_have_float, members_have_float}
 use Rattle.ba_model.specs.declared.value.Value.{Value}
 use Rattle.ba_model.specs.declared.value.Value.TheVariants as value
+use Rattle.ba_wire.specs.declared.line.Block.TheVariants as blocked
 use Rattle.ba_wire.specs.Printed.{Printed, begin, end, answer, block, unread, memory, word_member, unsupported_in, value_json, row_json, json_of}
 
 value_whole : (v : Value) → has_float (value_json v) ≡ false
@@ -31,7 +32,9 @@ unfolding json_of
 json_whole (begin request line version) = refl
 json_whole (end request line) = refl
 json_whole (answer by line request rows version) = rw (rows_whole rows) refl
-json_whole (block why line request version) = refl
+json_whole (block blocked.Refuted line request version) = refl
+json_whole (block (blocked.Spent steps) line request version) = refl
+json_whole (block (blocked.Stuck clause) line request version) = refl
 json_whole (unread line request why version) = word_whole (unsupported_in why)
 json_whole (memory line) = refl
 
@@ -54,6 +57,8 @@ unfolding json_of
 json_shallow (begin request line version) = omega arith
 json_shallow (end request line) = omega arith
 json_shallow (answer by line request rows version) = let flat = rows_flat rows in omega arith
-json_shallow (block why line request version) = omega arith
+json_shallow (block blocked.Refuted line request version) = omega arith
+json_shallow (block (blocked.Spent steps) line request version) = omega arith
+json_shallow (block (blocked.Stuck clause) line request version) = omega arith
 json_shallow (unread line request why version) = let flat = word_flat (unsupported_in why) in omega arith
 json_shallow (memory line) = omega arith

@@ -10,6 +10,8 @@ use Rattle.ba_model.specs.declared.limits.Counted.{Counted}
 use Rattle.ba_model.specs.declared.limits.Counted.TheVariants as what
 use Rattle.ba_model.specs.declared.value.Value.{Value}
 use Rattle.ba_model.specs.declared.value.Value.TheVariants as value
+use Rattle.ba_refute.specs.declared.clause.Clause.{Clause}
+use Rattle.ba_refute.specs.declared.clause.Clause.TheVariants.{Value as ValueClause, ConformOne, ConformTwo, Within, Shown, Asked, Absent}
 use Rattle.ba_script.specs.declared.fault.LineFault.{LineFault}
 use Rattle.ba_script.specs.declared.fault.LineFault.TheVariants as line_fault
 use Rattle.ba_sql_query.specs.declared.fault.ReadQueryFault.{ReadQueryFault}
@@ -49,9 +51,21 @@ printed (lines.Memory line) = memory line
 
 abbrev pub by_name : By → List ℕ
 by_name by.Cover = codes "cover"
+by_name by.Proof = codes "proof"
 
 abbrev pub block_name : Block → List ℕ
-block_name blocked.Uncovered = codes "uncovered"
+block_name blocked.Refuted = codes "refuted"
+block_name (blocked.Spent steps) = codes "spent"
+block_name (blocked.Stuck clause) = codes "stuck"
+
+abbrev pub clause_name : Clause → List ℕ
+clause_name ValueClause = codes "value"
+clause_name ConformOne = codes "conform_one"
+clause_name ConformTwo = codes "conform_two"
+clause_name Within = codes "within"
+clause_name Shown = codes "shown"
+clause_name Asked = codes "asked"
+clause_name Absent = codes "absent"
 
 -- what isn't supported, if that is the fault
 abbrev pub unsupported_in : ReadQueryFault → Option (List ℕ)
@@ -140,11 +154,23 @@ json_of (answer by line request rows version) =
     (member (codes "request") (string request)
     (member (codes "rows") (rows_json rows)
     (member (codes "version") (count version) no_members)))))
-json_of (block blocked line request version) =
-    object (member (codes "blocked") (string (block_name blocked))
+json_of (block blocked.Refuted line request version) =
+    object (member (codes "blocked") (string (block_name blocked.Refuted))
     (member (codes "line") (count line)
     (member (codes "request") (string request)
     (member (codes "version") (count version) no_members))))
+json_of (block (blocked.Spent steps) line request version) =
+    object (member (codes "blocked") (string (block_name (blocked.Spent steps)))
+    (member (codes "line") (count line)
+    (member (codes "request") (string request)
+    (member (codes "steps") (count steps)
+    (member (codes "version") (count version) no_members)))))
+json_of (block (blocked.Stuck clause) line request version) =
+    object (member (codes "blocked") (string (block_name (blocked.Stuck clause)))
+    (member (codes "clause") (string (clause_name clause))
+    (member (codes "line") (count line)
+    (member (codes "request") (string request)
+    (member (codes "version") (count version) no_members)))))
 json_of (unread line request fault version) =
     object (member (codes "line") (count line)
     (member (codes "request") (string request)

@@ -4,11 +4,12 @@
 ghost use Rattle.std.specs.Prelude.{◌≡◌, IfOk, option_copied, string_bytes};
 ghost use Rattle.serde_json.specs.View.{view};
 ghost use Rattle.ba_wire.specs.Object.{made};
-ghost use Rattle.ba_wire.specs.Printed.{ReadsBack, by_name, block_name, unsupported_in, value_json, row_json, rows_json, begin, end, answer, block, unread, memory, printed, json_of, line_bytes};
+ghost use Rattle.ba_wire.specs.Printed.{ReadsBack, by_name, block_name, clause_name, unsupported_in, value_json, row_json, rows_json, begin, end, answer, block, unread, memory, printed, json_of, line_bytes};
 
 use crate::names::fault_name;
 use crate::object::Object;
 use ba_model::{List, Row, Str, Value};
+use ba_refute::Clause;
 use ba_sql_query::ReadQueryFault;
 use serde_json::Value as Json;
 use std::alloc::{AllocError, Global};
@@ -18,13 +19,20 @@ use std::alloc::{AllocError, Global};
 pub enum By {
     /// One view for each part of the question.
     Cover,
+    /// A proof that the question is compliant.
+    Proof,
 }
 
 /// Why a question is blocked.
 #[derive(Clone, Copy, Debug, PartialEq, Eq)]
 pub enum Block {
-    /// The question isn't covered.
-    Uncovered,
+    /// Two databases show that the question isn't strongly compliant.
+    Refuted,
+    /// The search took as many steps as it may, these.
+    Spent { steps: u64 },
+    /// The search ended at a branch whose image doesn't meet a clause of a counterexample, first
+    /// this one.
+    Stuck { clause: Clause },
 }
 
 /// One printed line of a run: `line` is the script's line, from 1, and `version` that of the request's tables, from 0.
@@ -73,6 +81,7 @@ impl By {
     {
         match self {
             By::Cover => "cover",
+            By::Proof => "proof",
         }
     }
 }
@@ -82,8 +91,24 @@ impl Block {
         ensures { result.now ≡ block_name self }
     {
         match self {
-            Block::Uncovered => "uncovered",
+            Block::Refuted => "refuted",
+            Block::Spent { .. } => "spent",
+            Block::Stuck { .. } => "stuck",
         }
+    }
+}
+
+fn clause_name(clause: Clause) -> &'static str
+    ensures { result.now ≡ clause_name clause }
+{
+    match clause {
+        Clause::Value => "value",
+        Clause::ConformOne => "conform_one",
+        Clause::ConformTwo => "conform_two",
+        Clause::Within => "within",
+        Clause::Shown => "shown",
+        Clause::Asked => "asked",
+        Clause::Absent => "absent",
     }
 }
 
@@ -171,11 +196,23 @@ fn block_object(
 ) -> Result<Object, AllocError>
     ensures { IfOk result (λ it. made it ≡ json_of (block blocked line request.now version)) }
 {
-    Object::new(alloc)
-        .with_text("blocked", blocked.name())?
-        .with_count("line", line)?
-        .with_text("request", request.as_str())?
-        .with_count("version", version as u64)
+    let object = Object::new(alloc).with_text("blocked", blocked.name())?;
+    match blocked {
+        Block::Refuted => object
+            .with_count("line", line)?
+            .with_text("request", request.as_str())?
+            .with_count("version", version as u64),
+        Block::Spent { steps } => object
+            .with_count("line", line)?
+            .with_text("request", request.as_str())?
+            .with_count("steps", steps)?
+            .with_count("version", version as u64),
+        Block::Stuck { clause } => object
+            .with_text("clause", clause_name(clause))?
+            .with_count("line", line)?
+            .with_text("request", request.as_str())?
+            .with_count("version", version as u64),
+    }
 }
 
 fn unread_object(

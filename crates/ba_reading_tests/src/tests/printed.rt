@@ -3,6 +3,7 @@
 use super::cases::Told;
 use ba_lex::LexFault;
 use ba_model::{List, Row, Str, Value};
+use ba_refute::Clause;
 use ba_sql_query::ReadQueryFault;
 use ba_wire::{Block, By, Line, Summary, line_text, summary_text};
 use std::alloc::{AllocError, Global};
@@ -30,7 +31,7 @@ fn write_run(alloc: Global, name: &Str, rows: &List<Row>, told: &mut String) -> 
             version,
         },
         Line::Block {
-            blocked: Block::Uncovered,
+            blocked: Block::Refuted,
             line: 3,
             request,
             version: 1,
@@ -69,10 +70,89 @@ fn lines_of_a_run(rt: HostRuntime) -> Result<(), Fail> {
     write_run(alloc, &name, &rows, &mut told)?;
     let want = r#"{"begin":"a\"b","line":1,"version":0}
 {"by":"cover","line":2,"request":"a\"b","rows":[["\"\\/\b\f\n\r\t\u0000\u001fé😀"],[null],[-9223372036854775808]],"version":0}
-{"blocked":"uncovered","line":3,"request":"a\"b","version":1}
+{"blocked":"refuted","line":3,"request":"a\"b","version":1}
 {"end":"a\"b","line":4}
 {"line":18446744073709551615,"memory":true}
 "#;
+    assert_eq!(rt; told.as_str(), want);
+    Ok(())
+}
+
+const BLOCKS: [Block; 9] = [
+    Block::Refuted,
+    Block::Spent {
+        steps: 18446744073709551615,
+    },
+    Block::Stuck {
+        clause: Clause::Value,
+    },
+    Block::Stuck {
+        clause: Clause::ConformOne,
+    },
+    Block::Stuck {
+        clause: Clause::ConformTwo,
+    },
+    Block::Stuck {
+        clause: Clause::Within,
+    },
+    Block::Stuck {
+        clause: Clause::Shown,
+    },
+    Block::Stuck {
+        clause: Clause::Asked,
+    },
+    Block::Stuck {
+        clause: Clause::Absent,
+    },
+];
+
+fn write_block(alloc: Global, blocked: Block, request: &Str, told: &mut String) -> Told {
+    let line = Line::Block {
+        blocked,
+        line: 2,
+        request,
+        version: 0,
+    };
+    write_line(alloc, &line, told)
+}
+
+#[test]
+fn lines_of_blocks(rt: HostRuntime) -> Result<(), Fail> {
+    let alloc = rt.alloc();
+    let request = Str::new(alloc, "r1")?;
+    let mut told = String::new(alloc);
+    for blocked in BLOCKS {
+        write_block(alloc, blocked, &request, &mut told)?;
+    }
+    let want = r#"{"blocked":"refuted","line":2,"request":"r1","version":0}
+{"blocked":"spent","line":2,"request":"r1","steps":18446744073709551615,"version":0}
+{"blocked":"stuck","clause":"value","line":2,"request":"r1","version":0}
+{"blocked":"stuck","clause":"conform_one","line":2,"request":"r1","version":0}
+{"blocked":"stuck","clause":"conform_two","line":2,"request":"r1","version":0}
+{"blocked":"stuck","clause":"within","line":2,"request":"r1","version":0}
+{"blocked":"stuck","clause":"shown","line":2,"request":"r1","version":0}
+{"blocked":"stuck","clause":"asked","line":2,"request":"r1","version":0}
+{"blocked":"stuck","clause":"absent","line":2,"request":"r1","version":0}
+"#;
+    assert_eq!(rt; told.as_str(), want);
+    Ok(())
+}
+
+#[test]
+fn line_of_an_answer_by_proof(rt: HostRuntime) -> Result<(), Fail> {
+    let alloc = rt.alloc();
+    let request = Str::new(alloc, "r1")?;
+    let rows = List::new(alloc);
+    let mut told = String::new(alloc);
+    let line = Line::Answer {
+        by: By::Proof,
+        line: 2,
+        request: &request,
+        rows: &rows,
+        version: 0,
+    };
+    write_line(alloc, &line, &mut told)?;
+    let want = "{\"by\":\"proof\",\"line\":2,\"request\":\"r1\",\"rows\":[],\"version\":0}\n";
     assert_eq!(rt; told.as_str(), want);
     Ok(())
 }
