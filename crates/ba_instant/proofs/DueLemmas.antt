@@ -1,5 +1,5 @@
 -- The due step of a branch, and of all open branches.
-use Rattle.std.proofs.Common.{◌≡◌, ◌∙◌, ℕ, ◌≤◌, ◌⊎◌, true, false, inl, inr, refl, sym, ap, subst, arith}
+use Rattle.std.proofs.Common.{◌≡◌, ◌∙◌, ℕ, ◌<◌, ◌≤◌, ◌⊎◌, true, false, inl, inr, refl, sym, ap, subst, arith}
 use Rattle.std.proofs.lemmas.Bool.{cases_lt}
 use Rattle.std.specs.Cmp.{nat_cmp_is}
 use Rattle.std.specs.Ordering.{is_gt, nat_cmp, ordering_then}
@@ -8,14 +8,16 @@ use Rattle.std.specs.declared.cmp.Ordering.TheVariants.{Less, Equal, Greater}
 use Rattle.std.specs.Prelude.{◌≢◌, Option, Some, None, slice_get}
 use Rattle.ba_facts.specs.declared.branch.Branch.{Branch}
 use Rattle.ba_kernel.specs.Courses.{IsOpen, Slots, branch_of}
+use Rattle.ba_kernel.specs.Effects.{IsEntryRound}
 use Rattle.ba_kernel.specs.News.{IsNewAt, IsNewOn, IsRound}
 use Rattle.ba_kernel.specs.Tests.{Course, open_at}
+use Rattle.ba_kernel.specs.declared.problem.ProblemEntry.{ProblemEntry}
 use Rattle.ba_kernel.specs.declared.step.Step.{Step}
 use Rattle.ba_kernel.specs.declared.step.Step.TheVariants as steps
 use Rattle.ba_instant.proofs.ChaseLemmas.{new_on, open_is}
 use Rattle.ba_instant.proofs.OfferLemmas.{improves_as, improves_both}
 use Rattle.ba_instant.specs.Dues.{IsDue}
-use Rattle.ba_instant.specs.Offers.{Improves, IsDueIfAny, IsDueOn, IsEntryOf, IsFound, IsGoalStep, IsKeyStep, IsLinkStep, IsNewIn, IsOn, IsRoundAt, IsRoundIn, IsRuleStep, IsSomeFound, IsSplitStep, IsViewStep, Reaches, found_cmp}
+use Rattle.ba_instant.specs.Offers.{Improves, IsClosing, IsDueIfAny, IsDueOn, IsEntryOf, IsFound, IsGoalStep, IsKeyStep, IsLinkStep, IsNewIn, IsOn, IsRoundAt, IsRoundIn, IsRuleStep, IsSomeFound, IsSplitStep, IsTelling, IsViewStep, Reaches, found_cmp}
 use Rattle.ba_instant.specs.Order.{pick_cmp}
 use Rattle.ba_instant.specs.declared.found.Found.{Found}
 use Rattle.ba_instant.specs.declared.order.Pick.{Pick}
@@ -23,44 +25,45 @@ use Rattle.ba_instant.specs.declared.order.Pick.{Pick}
 -- ---- all kinds
 
 module _ (c : Course) (pick : Pick) (n : ℕ) where
-  abbrev IsAbsurdStep : Step → Type 0
-  IsAbsurdStep step = step ≡ steps.Absurd n
+  closing_on : (step : Step) → IsClosing n step → branch_of step ≡ n
+  closing_on step (inl h) = ap branch_of h
+  closing_on step (inr h) = ap branch_of (h.1).1
 
-  abbrev OfKind : Step → Type 0
-  OfKind step = ((((((IsEntryOf n step ⊎ IsKeyStep n step) ⊎ IsLinkStep n step) ⊎ IsRuleStep n step) ⊎ IsViewStep n step) ⊎ IsSplitStep n step) ⊎ IsAbsurdStep step) ⊎ IsGoalStep n step
+  telling_on : (step : Step) → IsTelling n step → branch_of step ≡ n
+  telling_on step (inl (inl (inl (inl (inl h))))) = ap branch_of h.1
+  telling_on step (inl (inl (inl (inl (inr h))))) = ap branch_of (h.1).1
+  telling_on step (inl (inl (inl (inr h)))) = ap branch_of ((h.1).1).1
+  telling_on step (inl (inl (inr h))) = ap branch_of ((h.1).1).1
+  telling_on step (inl (inr h)) = ap branch_of ((h.1).1).1
+  telling_on step (inr h) = ap branch_of h.1
 
-  on_branch : (step : Step) → OfKind step → branch_of step ≡ n
-  on_branch step (inl (inl (inl (inl (inl (inl (inl h))))))) = ap branch_of h.1
-  on_branch step (inl (inl (inl (inl (inl (inl (inr h))))))) = ap branch_of ((h.1).1).1
-  on_branch step (inl (inl (inl (inl (inl (inr h)))))) = ap branch_of (h.1).1
-  on_branch step (inl (inl (inl (inl (inr h))))) = ap branch_of ((h.1).1).1
-  on_branch step (inl (inl (inl (inr h)))) = ap branch_of ((h.1).1).1
-  on_branch step (inl (inl (inr h))) = ap branch_of h.1
-  on_branch step (inl (inr h)) = ap branch_of h
-  on_branch step (inr h) = ap branch_of (h.1).1
+  of_kind : (step : Step) → branch_of step ≡ n → IsClosing n step ⊎ IsTelling n step
+  of_kind (steps.Entry branch entry) on = inr (inl (inl (inl (inl (inl (entry, ap (λ m. steps.Entry m entry) on))))))
+  of_kind (steps.Link branch link fact) on = inr (inl (inl (inl (inl (inr (fact, (link, ap (λ m. steps.Link m link fact) on)))))))
+  of_kind (steps.Key branch key left right) on = inr (inl (inl (inl (inr (left, (right, (key, ap (λ m. steps.Key m key left right) on)))))))
+  of_kind (steps.Rule branch rule part facts) on = inr (inl (inl (inr (rule, (part, (facts, ap (λ m. steps.Rule m rule part facts) on))))))
+  of_kind (steps.View branch view part facts) on = inr (inl (inr (view, (part, (facts, ap (λ m. steps.View m view part facts) on)))))
+  of_kind (steps.Split branch atom) on = inr (inr (atom, ap (λ m. steps.Split m atom) on))
+  of_kind (steps.Absurd branch) on = inl (inl (ap steps.Absurd on))
+  of_kind (steps.Goal branch part facts) on = inl (inr (part, (facts, ap (λ m. steps.Goal m part facts) on)))
 
-  of_kind : (step : Step) → branch_of step ≡ n → OfKind step
-  of_kind (steps.Entry branch entry) on = inl (inl (inl (inl (inl (inl (inl (entry, ap (λ m. steps.Entry m entry) on)))))))
-  of_kind (steps.Key branch key left right) on = inl (inl (inl (inl (inl (inl (inr (left, (right, (key, ap (λ m. steps.Key m key left right) on)))))))))
-  of_kind (steps.Link branch link fact) on = inl (inl (inl (inl (inl (inr (fact, (link, ap (λ m. steps.Link m link fact) on)))))))
-  of_kind (steps.Rule branch rule part facts) on = inl (inl (inl (inl (inr (rule, (part, (facts, ap (λ m. steps.Rule m rule part facts) on)))))))
-  of_kind (steps.View branch view part facts) on = inl (inl (inl (inr (view, (part, (facts, ap (λ m. steps.View m view part facts) on))))))
-  of_kind (steps.Split branch atom) on = inl (inl (inr (atom, ap (λ m. steps.Split m atom) on)))
-  of_kind (steps.Absurd branch) on = inl (inr (ap steps.Absurd on))
-  of_kind (steps.Goal branch part facts) on = inr (part, (facts, ap (λ m. steps.Goal m part facts) on))
+  pub all_closing : (old a new : Option Found) → Improves c pick (λ step. step ≡ steps.Absurd n) old a → Improves c pick (IsGoalStep n) a new → Improves c pick (IsClosing n) old new
+  all_closing old a new absurds goals = improves_both c pick (λ step. step ≡ steps.Absurd n) (IsGoalStep n) old a new absurds goals
 
-  pub all_kinds : (old a b d e f g h new : Option Found) → Improves c pick (IsEntryOf n) old a → Improves c pick (IsKeyStep n) a b → Improves c pick (IsLinkStep n) b d →
-      Improves c pick (IsRuleStep n) d e → Improves c pick (IsViewStep n) e f → Improves c pick (IsSplitStep n) f g → Improves c pick IsAbsurdStep g h → Improves c pick (IsGoalStep n) h new →
-      Improves c pick (IsOn n) old new
-  all_kinds old a b d e f g h new entries keys links rules views splits absurds goals =
-      let two = improves_both c pick (IsEntryOf n) (IsKeyStep n) old a b entries keys in
-      let three = improves_both c pick (λ step. IsEntryOf n step ⊎ IsKeyStep n step) (IsLinkStep n) old b d two links in
-      let four = improves_both c pick (λ step. (IsEntryOf n step ⊎ IsKeyStep n step) ⊎ IsLinkStep n step) (IsRuleStep n) old d e three rules in
-      let five = improves_both c pick (λ step. ((IsEntryOf n step ⊎ IsKeyStep n step) ⊎ IsLinkStep n step) ⊎ IsRuleStep n step) (IsViewStep n) old e f four views in
-      let six = improves_both c pick (λ step. (((IsEntryOf n step ⊎ IsKeyStep n step) ⊎ IsLinkStep n step) ⊎ IsRuleStep n step) ⊎ IsViewStep n step) (IsSplitStep n) old f g five splits in
-      let seven = improves_both c pick (λ step. ((((IsEntryOf n step ⊎ IsKeyStep n step) ⊎ IsLinkStep n step) ⊎ IsRuleStep n step) ⊎ IsViewStep n step) ⊎ IsSplitStep n step) IsAbsurdStep old g h six absurds in
-      let all = improves_both c pick (λ step. (((((IsEntryOf n step ⊎ IsKeyStep n step) ⊎ IsLinkStep n step) ⊎ IsRuleStep n step) ⊎ IsViewStep n step) ⊎ IsSplitStep n step) ⊎ IsAbsurdStep step) (IsGoalStep n) old h new seven goals in
-      improves_as c pick OfKind (IsOn n) old new (λ step k is. on_branch step k) (λ step on is. of_kind step on) all
+  pub all_telling : (old a b d e f new : Option Found) → Improves c pick (IsEntryOf n) old a → Improves c pick (IsLinkStep n) a b → Improves c pick (IsKeyStep n) b d →
+      Improves c pick (IsRuleStep n) d e → Improves c pick (IsViewStep n) e f → Improves c pick (IsSplitStep n) f new → Improves c pick (IsTelling n) old new
+  all_telling old a b d e f new entries links keys rules views splits =
+      let two = improves_both c pick (IsEntryOf n) (IsLinkStep n) old a b entries links in
+      let three = improves_both c pick (λ step. IsEntryOf n step ⊎ IsLinkStep n step) (IsKeyStep n) old b d two keys in
+      let four = improves_both c pick (λ step. (IsEntryOf n step ⊎ IsLinkStep n step) ⊎ IsKeyStep n step) (IsRuleStep n) old d e three rules in
+      let five = improves_both c pick (λ step. ((IsEntryOf n step ⊎ IsLinkStep n step) ⊎ IsKeyStep n step) ⊎ IsRuleStep n step) (IsViewStep n) old e f four views in
+      improves_both c pick (λ step. (((IsEntryOf n step ⊎ IsLinkStep n step) ⊎ IsKeyStep n step) ⊎ IsRuleStep n step) ⊎ IsViewStep n step) (IsSplitStep n) old f new five splits
+
+  pub all_kinds : (old mid new : Option Found) → old ≡ None → Improves c pick (IsClosing n) old mid → Improves c pick (IsTelling n) mid new → Improves c pick (IsOn n) old new
+  all_kinds old mid new none closing telling =
+      improves_as c pick (λ step. IsClosing n step ⊎ IsTelling n step) (IsOn n) old new
+      (λ step k is. elim k [ inl h ↦ closing_on step h | inr h ↦ telling_on step h ])
+      (λ step on is. of_kind step on) (improves_both c pick (IsClosing n) (IsTelling n) old mid new closing telling)
 
 -- ---- what comes first
 
@@ -87,6 +90,10 @@ unfolding found_cmp
 reached_step pick best it same h =
     let equal : nat_cmp best.round it.round ≡ Equal = sym (nat_cmp_is best.round it.round Equal same) in
     sym (ap (λ o. is_gt (ordering_then o (pick_cmp pick best.step it.step))) equal) ∙ h
+
+pub sooner : (pick : Pick) (best it : Found) → best.round < it.round → is_gt (found_cmp pick best it) ≡ false
+unfolding found_cmp
+sooner pick best it less = ap (λ o. is_gt (ordering_then o (pick_cmp pick best.step it.step))) (sym (nat_cmp_is best.round it.round Less less))
 
 some_inj : {X : Type 0} (o : Option X) (x y : X) → o ≡ Some x → o ≡ Some y → x ≡ y
 some_inj o x y left right = cc
@@ -153,3 +160,62 @@ module _ (c : Course) (n : ℕ) (b : Branch) (open_ : IsOpen c.slots n b) where
   pub due_some : (pick : Pick) (best : Option Found) (found : Found) → best ≡ Some found → Improves c pick (IsOn n) None best → IsDueOn c pick n found.step
   due_some pick best found is h =
       found_due pick found (found_of found best is h.from) (λ it k. subst (λ o. Reaches pick o it) is (h.reaches it k))
+
+  -- ---- a step of round 0
+
+  module _ (pick : Pick) where
+    closing_round : (step : Step) (round : ℕ) → IsClosing n step → IsRoundIn c step round → round ≡ 0
+    closing_round step round (inl is) h = subst (λ s. IsRound c.problem b s round) is (round_on step round (ap branch_of is) h)
+    closing_round step round (inr (part, (facts, is))) h = subst (λ s. IsRound c.problem b s round) is (round_on step round (ap branch_of is) h)
+
+    entry_round : (it : ProblemEntry) (round : ℕ) → IsEntryRound c.problem it.row round → 1 ≤ round
+    entry_round it round (inl h) = omega (arith, h.1)
+    entry_round it round (inr h) = omega (arith, h.1)
+
+    telling_round_on : (step : Step) (round : ℕ) → IsTelling n step → IsRound c.problem b step round → 1 ≤ round
+    telling_round_on step round (inl (inl (inl (inl (inl h))))) r =
+        let of : IsRound c.problem b (steps.Entry n h.0) round = subst (λ s. IsRound c.problem b s round) h.1 r in
+        entry_round of.it round of.round_is
+    telling_round_on step round (inl (inl (inl (inl (inr h))))) r =
+        let of : IsRound c.problem b (steps.Link n (h.1).0 h.0) round = subst (λ s. IsRound c.problem b s round) (h.1).1 r in
+        omega (arith, of)
+    telling_round_on step round (inl (inl (inl (inr h)))) r =
+        let of : IsRound c.problem b (steps.Key n ((h.1).1).0 h.0 (h.1).0) round = subst (λ s. IsRound c.problem b s round) ((h.1).1).1 r in
+        omega (arith, of)
+    telling_round_on step round (inl (inl (inr h))) r =
+        let of : IsRound c.problem b (steps.Rule n h.0 (h.1).0 ((h.1).1).0) round = subst (λ s. IsRound c.problem b s round) ((h.1).1).1 r in
+        omega (arith, of)
+    telling_round_on step round (inl (inr h)) r =
+        let of : IsRound c.problem b (steps.View n h.0 (h.1).0 ((h.1).1).0) round = subst (λ s. IsRound c.problem b s round) ((h.1).1).1 r in
+        omega (arith, of)
+    telling_round_on step round (inr h) r =
+        let of : IsRound c.problem b (steps.Split n h.0) round = subst (λ s. IsRound c.problem b s round) h.1 r in
+        omega (arith, of.round_is)
+
+    some_closing : (found : Found) (best : Option Found) → best ≡ Some found → (best ≡ None) ⊎ IsSomeFound c (IsClosing n) best → IsFound c (IsClosing n) found
+    some_closing found best is (inl none) = absurd (let wrong : Some found ≡ None = sym is ∙ none in cc)
+    some_closing found best is (inr it) = subst (IsSomeFound c (IsClosing n)) is it
+
+    closing_first : (found it : Found) → IsFound c (IsClosing n) found → ((other : Found) → IsFound c (IsClosing n) other → is_gt (found_cmp pick found other) ≡ false) →
+        IsFound c (IsOn n) it → IsClosing n it.step ⊎ IsTelling n it.step → is_gt (found_cmp pick found it) ≡ false
+    closing_first found it h reaches k (inl closing) = reaches it (record { of = closing; new_ = k.new_; round_is = k.round_is })
+    closing_first found it h reaches k (inr telling) =
+        let none : found.round ≡ 0 = closing_round found.step found.round h.of h.round_is in
+        let some : 1 ≤ it.round = telling_round_on it.step it.round telling (round_on it.step it.round k.of k.round_is) in
+        sooner pick found it (omega (arith, none, some))
+
+    -- what was found is first of all, if it closes the branch
+    pub closing_is_all : (best : Option Found) → (best ≡ None → ⊥) → Improves c pick (IsClosing n) None best → Improves c pick (IsOn n) None best
+    closing_is_all None some h = absurd (some refl)
+    closing_is_all (Some found) some h =
+        let it : IsFound c (IsClosing n) found = some_closing found (Some found) refl h.from in
+        record {
+          from = inr (record { of = closing_on c pick n found.step it.of; new_ = it.new_; round_is = it.round_is });
+          keeps = λ other r. absurd r;
+          reaches = λ other k. closing_first found other it (λ another e. h.reaches another e) k (of_kind c pick n other.step k.of);
+          finds = λ step on new e. cc;
+        }
+
+    pub closing_all : (old best : Option Found) → old ≡ None → (best ≡ None → ⊥) → Improves c pick (IsClosing n) old best → Improves c pick (IsOn n) old best
+    closing_all old best none some h =
+        subst (λ from. Improves c pick (IsOn n) from best) (sym none) (closing_is_all best some (subst (λ from. Improves c pick (IsClosing n) from best) none h))

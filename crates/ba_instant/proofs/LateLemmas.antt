@@ -11,15 +11,11 @@ use Rattle.ba_kernel.specs.News.{IsRound}
 use Rattle.ba_kernel.specs.Tests.{Course}
 use Rattle.ba_kernel.specs.declared.step.Step.{Step}
 use Rattle.ba_kernel.specs.declared.step.Step.TheVariants as steps
-use Rattle.ba_instant.proofs.DueLemmas.{round_on}
+use Rattle.ba_instant.proofs.DueLemmas.{round_on, sooner}
 use Rattle.ba_instant.specs.Offers.{Improves, IsFound, IsKeyOfFact, IsKeyOfPair, IsLinkOfFact, IsTimely, fact_round, found_cmp}
 use Rattle.ba_instant.specs.Order.{pick_cmp}
 use Rattle.ba_instant.specs.declared.found.Found.{Found}
 use Rattle.ba_instant.specs.declared.order.Pick.{Pick}
-
-sooner : (pick : Pick) (best it : Found) → best.round < it.round → is_gt (found_cmp pick best it) ≡ false
-unfolding found_cmp
-sooner pick best it less = ap (λ o. is_gt (ordering_then o (pick_cmp pick best.step it.step))) (sym (nat_cmp_is best.round it.round Less less))
 
 module _ (c : Course) (n : ℕ) (b : Branch) (open_ : IsOpen c.slots n b) (pick : Pick) where
   -- none of the set has a round so early

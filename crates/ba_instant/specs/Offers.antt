@@ -213,6 +213,14 @@ IsSplitOfRules b number rules step = IsSplitBy (IsAtomOfRules b rules) number st
 abbrev pub IsOn : ℕ → Step → Type 0
 IsOn number step = branch_of step ≡ number
 
+-- one that closes the branch
+abbrev pub IsClosing : ℕ → Step → Type 0
+IsClosing number step = (step ≡ steps.Absurd number) ⊎ IsGoalStep number step
+
+-- one that tells the branch something, or splits it
+abbrev pub IsTelling : ℕ → Step → Type 0
+IsTelling number step = ((((IsEntryOf number step ⊎ IsLinkStep number step) ⊎ IsKeyStep number step) ⊎ IsRuleStep number step) ⊎ IsViewStep number step) ⊎ IsSplitStep number step
+
 -- The due step that is picked on the branch, or none where no step on it is new.
 pub record IsDueOn (c : Course) (pick : Pick) (number : ℕ) (step : Step) : Type 0 where
   pub on : branch_of step ≡ number

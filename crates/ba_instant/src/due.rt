@@ -1,8 +1,8 @@
 //! The due step of a branch, and of all open branches.
-ghost use Rattle.std.specs.Prelude.{◌≡◌, IfOk, OnOk};
+ghost use Rattle.std.specs.Prelude.{◌≡◌, ◌↔◌, IfOk, IsTrue, None, OnOk};
 ghost use Rattle.ba_kernel.specs.Courses.{IsOpen};
 ghost use Rattle.ba_instant.specs.Nexts.{IsLooked, IsNext, first_step};
-ghost use Rattle.ba_instant.specs.Offers.{Improves, IsDueIfAny, IsOn};
+ghost use Rattle.ba_instant.specs.Offers.{Improves, IsClosing, IsDueIfAny, IsOn, IsTelling};
 
 use crate::found::{Found, Spot};
 use crate::order::Pick;
@@ -35,23 +35,55 @@ impl<'a> Spot<'a> {
         }
     }
 
-    /// Offers all steps on the branch.
+    /// Offers all steps on the branch. Those that close it have round 0, and no others do.
     fn offer_all(&self, alloc: Global, best: &mut Option<Found>) -> Result<(), AllocError>
-        requires { IsOpen self.now.search.now.slots self.now.number self.now.branch.now }
+        requires open { IsOpen self.now.search.now.slots self.now.number self.now.branch.now }
+        requires none { best.old ≡ None }
         ensures { OnOk result (Improves self.now.search.now self.now.pick (IsOn self.now.number) best.old best.new) }
     {
-        self.offer_entries(best);
-        self.offer_keys(best)?;
-        self.offer_links(best)?;
-        self.offer_rules(alloc, best)?;
-        self.offer_views(alloc, best)?;
-        self.offer_splits(alloc, best)?;
+        self.offer_closing(alloc, best)?;
+        if is_none(best) {
+            self.offer_telling(alloc, best)?;
+        }
+        Ok(())
+    }
+
+    /// Offers the steps that close the branch.
+    fn offer_closing(&self, alloc: Global, best: &mut Option<Found>) -> Result<(), AllocError>
+        requires { IsOpen self.now.search.now.slots self.now.number self.now.branch.now }
+        ensures { OnOk result (Improves self.now.search.now self.now.pick (IsClosing self.now.number) best.old best.new) }
+    {
         let absurd = Step::Absurd {
             branch: self.number,
         };
         self.offer(absurd, best);
         self.offer_goals(alloc, best)?;
         Ok(())
+    }
+
+    /// Offers the steps that tell the branch something. Links come before keys, since a link that is
+    /// found early leaves few pairs of facts to be looked at.
+    fn offer_telling(&self, alloc: Global, best: &mut Option<Found>) -> Result<(), AllocError>
+        requires { IsOpen self.now.search.now.slots self.now.number self.now.branch.now }
+        ensures { OnOk result (Improves self.now.search.now self.now.pick (IsTelling self.now.number) best.old best.new) }
+    {
+        self.offer_entries(best);
+        self.offer_links(best)?;
+        self.offer_keys(best)?;
+        self.offer_rules(alloc, best)?;
+        self.offer_views(alloc, best)?;
+        self.offer_splits(alloc, best)?;
+        Ok(())
+    }
+}
+
+/// Whether nothing was found.
+fn is_none(best: &Option<Found>) -> bool
+    ensures { IsTrue result ↔ (best.now ≡ None) }
+{
+    match best {
+        None => true,
+        Some(_) => false,
     }
 }
 
