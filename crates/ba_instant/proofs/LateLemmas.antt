@@ -1,9 +1,6 @@
 -- Steps of a later round than what was found.
-use Rattle.std.proofs.Common.{◌≡◌, ℕ, ◌<◌, ◌≤◌, inl, inr, false, refl, sym, ap, subst, arith}
+use Rattle.std.proofs.Common.{◌≡◌, ℕ, ◌<◌, ◌≤◌, inl, inr, refl, ap, subst, arith}
 use Rattle.std.proofs.lemmas.Bool.{cases_lt}
-use Rattle.std.specs.Cmp.{nat_cmp_is}
-use Rattle.std.specs.Ordering.{is_gt, ordering_then}
-use Rattle.std.specs.declared.cmp.Ordering.TheVariants.{Less}
 use Rattle.std.specs.Prelude.{Option, Some, None}
 use Rattle.ba_facts.specs.declared.branch.Branch.{Branch}
 use Rattle.ba_kernel.specs.Courses.{IsOpen, branch_of}
@@ -12,8 +9,7 @@ use Rattle.ba_kernel.specs.Tests.{Course}
 use Rattle.ba_kernel.specs.declared.step.Step.{Step}
 use Rattle.ba_kernel.specs.declared.step.Step.TheVariants as steps
 use Rattle.ba_instant.proofs.DueLemmas.{round_on, sooner}
-use Rattle.ba_instant.specs.Offers.{Improves, IsFound, IsKeyOfFact, IsKeyOfPair, IsLinkOfFact, IsTimely, fact_round, found_cmp}
-use Rattle.ba_instant.specs.Order.{pick_cmp}
+use Rattle.ba_instant.specs.Offers.{Improves, IsFound, IsKeyOfFact, IsKeyOfPair, IsLinkOfFact, IsTimely, fact_round}
 use Rattle.ba_instant.specs.declared.found.Found.{Found}
 use Rattle.ba_instant.specs.declared.order.Pick.{Pick}
 

@@ -1,11 +1,13 @@
 -- What a search does next, and how it ends.
-use Rattle.std.proofs.Common.{◌≡◌, ◌∙◌, ℕ, ◌+◌, ◌<◌, ◌≤◌, Bool, true, false, inl, inr, [], ◌∷◌, ◌++◌, get_or, length, refl, sym, ap, subst, arith, List}
+use Rattle.std.proofs.Common.{◌≡◌, ◌∙◌, ℕ, zero, suc, ◌+◌, ◌<◌, ◌≤◌, Bool, true, false, inl, inr, [], ◌∷◌, ◌++◌, get_or, length, map, refl, sym, ap, subst, arith, List}
 use Rattle.std.proofs.lemmas.Option.{slice_get-get_or, slice_get_within}
-use Rattle.std.specs.Cmp.{upto}
-use Rattle.std.specs.Ordering.{is_gt, ordering_reverse}
+use Rattle.std.proofs.lemmas.List.{length-set}
+use Rattle.std.specs.Cmp.{nat_cmp_is, upto}
+use Rattle.std.specs.Option.{option_cmp}
+use Rattle.std.specs.Ordering.{is_gt, nat_cmp, ordering_reverse, ordering_then}
 use Rattle.std.specs.declared.cmp.Ordering.{Ordering}
 use Rattle.std.specs.declared.cmp.Ordering.TheVariants.{Less, Equal, Greater}
-use Rattle.std.specs.Prelude.{IfOk, Option, Some, None, Result, Ok, Err, option_and_then, slice_get}
+use Rattle.std.specs.Prelude.{◌≢◌, IfOk, Option, Some, None, Result, Ok, Err, option_and_then, slice_get, slice_set}
 use Rattle.std.specs.declared.alloc.AllocError.{AllocError}
 use Rattle.ba_facts.proofs.PlaceLemmas.{upto as up_to_bound}
 use Rattle.ba_facts.specs.declared.branch.Branch.{Branch}
@@ -13,7 +15,7 @@ use Rattle.ba_model.specs.declared.failure.Failure.{Failure}
 use Rattle.ba_model.specs.declared.failure.Failure.TheVariants.{Fault}
 use Rattle.ba_kernel.proofs.NewLemmas.{all_at}
 use Rattle.ba_kernel.proofs.TestLemmas.{not_both}
-use Rattle.ba_kernel.specs.Courses.{AllClosed, IsOpen, IsStart, Slots, Takes, branch_of}
+use Rattle.ba_kernel.specs.Courses.{AllClosed, IsOpen, IsStart, Slots, Takes, after, branch_of}
 use Rattle.ba_kernel.specs.News.{IsNewOn}
 use Rattle.ba_kernel.specs.Tests.{Course, IsErrorOf, IsRefusedAt, open_at}
 use Rattle.ba_kernel.specs.declared.problem.Problem.{Problem}
@@ -23,14 +25,16 @@ use Rattle.ba_instant.proofs.ChaseLemmas.{open_is}
 use Rattle.ba_instant.proofs.DueLemmas.{gt_false, new_in, not_greater, one_open}
 use Rattle.ba_instant.proofs.OrderLemmas.{pick_total}
 use Rattle.ba_instant.specs.Dues.{DueList, Ends, HasNew, HaveNewBelow, IsSaturated, Searches}
-use Rattle.ba_instant.specs.Nexts.{IsFirstBelow, IsLeafOf, IsLeastSaturated, IsNext, IsPickedBelow, IsTaken, Passes, SaturatedAt, first_step, first_step_by}
+use Rattle.ba_instant.specs.Nexts.{AreWaiting, IsFirstBelow, IsLeafOf, IsLeastSaturated, IsNext, IsPickedBelow, IsTaken, MayWait, Passes, SaturatedAt, first_step, first_step_by}
 use Rattle.ba_instant.specs.Offers.{IsDueIfAny, IsDueOn}
-use Rattle.ba_instant.specs.Order.{pick_cmp}
+use Rattle.ba_instant.specs.Order.{atom_cmp, numbers_cmp, pick_cmp, step_atom, step_cmp, step_rank}
 use Rattle.ba_instant.specs.declared.due.Next.{Next}
 use Rattle.ba_instant.specs.declared.due.Next.TheVariants as nexts
+use Rattle.ba_instant.specs.declared.due.Waiting.{Waiting}
 use Rattle.ba_instant.specs.declared.ends.Settled.{Settled}
 use Rattle.ba_instant.specs.declared.ends.Settled.TheVariants as settled
 use Rattle.ba_instant.specs.declared.order.Pick.{Pick}
+use Rattle.ba_instant.specs.declared.order.Pick.TheVariants.{First, Last}
 
 -- ---- branches
 
@@ -50,6 +54,14 @@ not_behind Less e = let wrong : false ≡ true = e in cc
 not_behind Equal e = refl
 not_behind Greater e = refl
 
+branch_first : (one other : Step) → branch_of one < branch_of other → pick_cmp First one other ≢ Greater
+unfolding pick_cmp step_cmp
+branch_first one other less e =
+    let before : nat_cmp (branch_of one) (branch_of other) ≡ Less = sym (nat_cmp_is (branch_of one) (branch_of other) Less less) in
+    let wrong : Less ≡ Greater =
+    sym (ap (λ o. ordering_then (ordering_then (ordering_then o (nat_cmp (step_rank one) (step_rank other))) (numbers_cmp one other)) (option_cmp atom_cmp (step_atom one) (step_atom other))) before) ∙ e in
+    cc
+
 module _ (pick : Pick) (c : Course) (n : ℕ) where
   -- the branch isn't open
   pub passes_closed : (first : Option Step) → open_at c.slots n ≡ None → Passes pick c n first first
@@ -61,12 +73,36 @@ module _ (pick : Pick) (c : Course) (n : ℕ) where
         | inr same ↦ not_open c.slots n b none (subst (λ m. IsOpen c.slots m b) same is)
       ]
       more (Some step) h = record {
+        below = omega (arith, h.below);
         due = h.due;
         first = λ other below due. elim (up_to_bound (branch_of other) n below) [
           | inl less ↦ h.first other less due
           | inr same ↦ absurd (not_open c.slots n due.branch none (subst (λ m. IsOpen c.slots m due.branch) same due.open_))
         ];
       }
+
+  -- the branch waits, and comes after that of the step
+  pub passes_waiting : (waiting : Waiting) (first : Option Step) → MayWait pick waiting n first → AreWaiting c.problem c.slots waiting → Passes pick c n first first
+  passes_waiting waiting first may are = record { has = λ b is. waits pick first may b is; first = more pick first may }
+    where
+      waits : (pick : Pick) (first : Option Step) → MayWait pick waiting n first → (b : Branch) → IsOpen c.slots n b → HasNew c.problem n b
+      waits First (Some step) may b is = are n b may.0 may.1 is
+      waits First None may b is = absurd may
+      waits Last (Some step) may b is = absurd may
+      waits Last None may b is = absurd may
+
+      more : (pick : Pick) (first : Option Step) → MayWait pick waiting n first → IsFirstBelow pick c.problem c.slots n first → IsFirstBelow pick c.problem c.slots (n + 1) first
+      more First (Some step) may h = record {
+        below = omega (arith, h.below);
+        due = h.due;
+        first = λ other below due. elim (up_to_bound (branch_of other) n below) [
+          | inl less ↦ h.first other less due
+          | inr same ↦ branch_first step other (let before = h.below in omega (arith, before, same))
+        ];
+      }
+      more First None may h = absurd may
+      more Last (Some step) may h = absurd may
+      more Last None may h = absurd may
 
   -- it has a due step
   module _ (step : Step) (it : IsDueOn c pick n step) where
@@ -78,6 +114,7 @@ module _ (pick : Pick) (c : Course) (n : ℕ) where
     kept : (best : Step) (b : Bool) → is_gt (pick_cmp pick best step) ≡ b → IsPickedBelow pick c.problem c.slots n best →
         IsFirstBelow pick c.problem c.slots (n + 1) (first_step_by b best step)
     kept best false e h = record {
+      below = omega (arith, h.below);
       due = h.due;
       first = λ other below due. elim (up_to_bound (branch_of other) n below) [
         | inl less ↦ h.first other less due
@@ -87,6 +124,7 @@ module _ (pick : Pick) (c : Course) (n : ℕ) where
     kept best true e h =
         let less : is_gt (pick_cmp pick step best) ≡ false = ap is_gt ((pick_total pick).antisymm step best) ∙ not_behind (pick_cmp pick best step) e in
         record {
+          below = omega (arith, it.on);
           due = it.due;
           first = λ other below due. elim (up_to_bound (branch_of other) n below) [
             | inl before ↦ not_greater (pick_cmp pick step other) (upto (pick_total pick) step best other less (gt_false (pick_cmp pick best other) (h.first other before due)))
@@ -96,6 +134,7 @@ module _ (pick : Pick) (c : Course) (n : ℕ) where
 
     picked_more : (first : Option Step) → IsFirstBelow pick c.problem c.slots n first → IsFirstBelow pick c.problem c.slots (n + 1) (first_step pick first step)
     picked_more None h = record {
+      below = omega (arith, it.on);
       due = it.due;
       first = λ other below due. elim (up_to_bound (branch_of other) n below) [
         | inl less ↦ absurd (h (branch_of other) due.branch less due.open_)
@@ -144,6 +183,25 @@ module _ (pick : Pick) (c : Course) (n : ℕ) where
 
 -- ---- a step that is taken
 
+elsewhere : {X : Type 0} (xs : List X) (n m : ℕ) (y : X) → (m ≡ n → ⊥) → slice_get (slice_set xs n y) m ≡ slice_get xs m
+elsewhere [] n m y other = refl
+elsewhere (z ∷ xs) zero zero y other = absurd (other refl)
+elsewhere (z ∷ xs) zero (suc m) y other = refl
+elsewhere (z ∷ xs) (suc n) zero y other = refl
+elsewhere (z ∷ xs) (suc n) (suc m) y other = elsewhere xs n m y (λ same. other (ap suc same))
+
+in_front : {X : Type 0} (xs ys : List X) (m : ℕ) → m < length xs → slice_get (xs ++ ys) m ≡ slice_get xs m
+in_front [] ys m below = absurd (let no : ⊥ = omega (arith, below) in no)
+in_front (x ∷ xs) ys zero below = refl
+in_front (x ∷ xs) ys (suc m) below = in_front xs ys m (omega (arith, below))
+
+-- a branch of another number was open before
+was_open : (slots : Slots) (n m : ℕ) (cases : List Branch) (b : Branch) → m < length slots → (m ≡ n → ⊥) → IsOpen (after slots n cases) m b → IsOpen slots m b
+was_open slots n m [] b below other e = sym (elsewhere slots n m None other) ∙ e
+was_open slots n m (first ∷ others) b below other e =
+    let same : length (slice_set slots n (Some first)) ≡ length slots = length-set slots n (Some first) in
+    sym (elsewhere slots n m (Some first) other) ∙ (sym (in_front (slice_set slots n (Some first)) (map Some others) m (omega (arith, below, same))) ∙ e)
+
 module _ (pick : Pick) (c : Course) (step : Step) (it : IsTaken pick c step) where
   pub not_refused : (error : Failure StepFault) (fault : StepFault) → error ≡ Fault fault → IsErrorOf c step error → ⊥
   not_refused error fault is h =
@@ -157,6 +215,15 @@ module _ (pick : Pick) (c : Course) (step : Step) (it : IsTaken pick c step) whe
   searches_on new before takes steps_are problem_is =
       subst (λ p. Searches pick p new.steps new.slots) (sym problem_is)
       (subst (λ taken. Searches pick c.problem taken new.slots) (sym steps_are) (Searches.next before it.each it.picked takes))
+
+  -- all branches but that of the step are as before
+  pub waiting_after : (new : Course) (waiting : Waiting) → waiting.below ≡ length c.slots → waiting.but ≡ branch_of step → Takes c.problem c.slots step new.slots →
+      new.problem ≡ c.problem → AreWaiting new.problem new.slots waiting
+  waiting_after new waiting below_is but_is takes problem_is number b below other is =
+      let less : number < length c.slots = omega (arith, below, below_is) in
+      let open_ : IsOpen c.slots number b =
+      was_open c.slots (branch_of step) number takes.cases b less (λ same. other (same ∙ sym but_is)) (subst (λ slots. IsOpen slots number b) takes.new_is is) in
+      subst (λ p. HasNew p number b) (sym problem_is) (it.each number b less open_)
 
   some_open : ¬ (AllClosed c.slots)
   some_open all =

@@ -10,10 +10,12 @@ use Rattle.ba_kernel.specs.declared.step.Step.{Step}
 use Rattle.ba_instant.specs.Dues.{EachHasNew, HasNew, HaveNewBelow, IsDue, IsPicked, IsSaturated}
 use Rattle.ba_instant.specs.Order.{pick_cmp}
 use Rattle.ba_instant.specs.declared.due.Next.{Next}
+use Rattle.ba_instant.specs.declared.due.Waiting.{Waiting}
 use Rattle.ba_instant.specs.declared.due.Next.TheVariants.{Closed, Saturated, Take}
 use Rattle.ba_instant.specs.declared.ends.Settled.{Settled}
 use Rattle.ba_instant.specs.declared.ends.Settled.TheVariants as settled
 use Rattle.ba_instant.specs.declared.order.Pick.{Pick}
+use Rattle.ba_instant.specs.declared.order.Pick.TheVariants.{First, Last}
 
 -- the step is the one that is taken, and each open branch has a new step
 pub record IsTaken (pick : Pick) (c : Course) (step : Step) : Type 0 where
@@ -44,6 +46,7 @@ first_step pick (Some best) step = first_step_by (is_gt (pick_cmp pick best step
 
 -- of the due steps on branches below the bound it is the one that is picked
 pub record IsPickedBelow (pick : Pick) (p : Problem) (slots : Slots) (bound : ℕ) (step : Step) : Type 0 where
+  pub below : branch_of step < bound
   pub due : IsDue p slots step
   pub first : (other : Step) → branch_of other < bound → IsDue p slots other → pick_cmp pick step other ≢ Greater
 
@@ -65,6 +68,19 @@ pub record SaturatedAt (c : Course) (number : ℕ) : Type 0 where
 abbrev pub IsLooked : Pick → Course → ℕ → Bool → Option Step → Option Step → Type 0
 IsLooked pick c number true old new = SaturatedAt c number
 IsLooked pick c number false old new = Passes pick c number old new
+
+-- ---- branches that wait
+
+-- each open branch below the bound but one has a new step
+abbrev pub AreWaiting : Problem → Slots → Waiting → Type 0
+AreWaiting p slots waiting = (number : ℕ) (branch : Branch) → number < waiting.below → number ≢ waiting.but → IsOpen slots number branch → HasNew p number branch
+
+-- it waits, and a step of a branch before it was found already
+abbrev pub MayWait : Pick → Waiting → ℕ → Option Step → Type 0
+MayWait First waiting number None = ⊥
+MayWait First waiting number (Some step) = (number < waiting.below) × (number ≢ waiting.but)
+MayWait Last waiting number None = ⊥
+MayWait Last waiting number (Some step) = ⊥
 
 -- ---- the end
 

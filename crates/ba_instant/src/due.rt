@@ -1,7 +1,7 @@
 //! The due step of a branch, and of all open branches.
-ghost use Rattle.std.specs.Prelude.{◌≡◌, ◌↔◌, IfOk, IsTrue, None, OnOk};
-ghost use Rattle.ba_kernel.specs.Courses.{IsOpen};
-ghost use Rattle.ba_instant.specs.Nexts.{IsLooked, IsNext, first_step};
+ghost use Rattle.std.specs.Prelude.{◌≡◌, ◌↔◌, IfOk, IsTrue, None, OnOk, length};
+ghost use Rattle.ba_kernel.specs.Courses.{IsOpen, branch_of};
+ghost use Rattle.ba_instant.specs.Nexts.{AreWaiting, IsLooked, IsNext, MayWait, first_step};
 ghost use Rattle.ba_instant.specs.Offers.{Improves, IsClosing, IsDueIfAny, IsOn, IsTelling};
 
 use crate::found::{Found, Spot};
@@ -19,6 +19,34 @@ pub enum Next {
     Saturated(u32),
     /// Takes the step.
     Take(Step),
+}
+
+/// The branches that wait: those of a number below the bound but one, of which each that is open has
+/// a new step.
+#[derive(Clone, Copy)]
+pub struct Waiting {
+    pub below: u32,
+    pub but: u32,
+}
+
+impl Waiting {
+    /// None.
+    pub fn none() -> Waiting
+        ensures { result.below ≡ 0 }
+    {
+        Waiting { below: 0, but: 0 }
+    }
+
+    /// All but that of the step.
+    pub fn beside(search: &Search, step: &Step) -> Waiting
+        ensures below { result.below ≡ length search.now.slots }
+        ensures but { result.but ≡ branch_of step.now }
+    {
+        Waiting {
+            below: search.branches(),
+            but: step.branch(),
+        }
+    }
 }
 
 impl<'a> Spot<'a> {
@@ -89,12 +117,20 @@ fn is_none(best: &Option<Found>) -> bool
 
 /// What the search does next: it takes the step that is picked of all due ones, as long as a branch
 /// is open and each open branch has a new step.
-pub fn next_step(alloc: Global, search: &Search, pick: Pick) -> Result<Next, AllocError>
+///
+/// The branches that wait have a new step, and need not be looked at once the step is found.
+pub fn next_step(
+    alloc: Global,
+    search: &Search,
+    pick: Pick,
+    waiting: Waiting,
+) -> Result<Next, AllocError>
+    requires { AreWaiting search.now.problem search.now.slots waiting }
     ensures { IfOk result (IsNext pick search.now) }
 {
     let mut first = None;
     for number in 0..search.branches() {
-        let saturated = look_at(alloc, search, pick, number, &mut first)?;
+        let saturated = look_at(alloc, search, pick, waiting, number, &mut first)?;
         if saturated {
             return Ok(Next::Saturated(number));
         }
@@ -111,11 +147,16 @@ fn look_at(
     alloc: Global,
     search: &Search,
     pick: Pick,
+    waiting: Waiting,
     number: u32,
     first: &mut Option<Step>,
 ) -> Result<bool, AllocError>
+    requires { AreWaiting search.now.problem search.now.slots waiting }
     ensures { IfOk result (λ it. IsLooked pick search.now number it first.old first.new) }
 {
+    if may_wait(pick, waiting, number, first) {
+        return Ok(false);
+    }
     match search.branch(number) {
         None => Ok(false),
         Some(branch) => {
@@ -134,6 +175,17 @@ fn look_at(
                 }
             }
         }
+    }
+}
+
+/// Whether the branch's due step, if it waits, is picked later than the one so far, which is of a
+/// branch of a lesser number.
+fn may_wait(pick: Pick, waiting: Waiting, number: u32, first: &Option<Step>) -> bool
+    ensures { IsTrue result ↔ MayWait pick waiting number first.now }
+{
+    match (pick, first) {
+        (Pick::First, Some(_)) => number < waiting.below && number != waiting.but,
+        _ => false,
     }
 }
 

@@ -4,12 +4,12 @@ ghost use Rattle.ba_model.specs.declared.limits.TheConstants.{MAX_BUDGET};
 ghost use Rattle.ba_kernel.specs.Courses.{AllClosed, ProblemFits};
 ghost use Rattle.ba_kernel.specs.Tests.{open_at};
 ghost use Rattle.ba_instant.specs.Dues.{Ends, Searches};
-ghost use Rattle.ba_instant.specs.Nexts.{IsLeafOf, IsTaken};
+ghost use Rattle.ba_instant.specs.Nexts.{AreWaiting, IsLeafOf, IsTaken};
 ghost use Rattle.ba_instant.specs.declared.ends.Settled.TheVariants.{Proved as ByProof, Spent};
 ghost use Rattle.ba_instant.specs.declared.order.Pick.TheVariants.{First};
 
 use crate::copies::copy_steps;
-use crate::due::{Next, next_step};
+use crate::due::{Next, Waiting, next_step};
 use crate::order::Pick;
 use ba_facts::Branch;
 use ba_kernel::{Problem, Proved, Search, Step};
@@ -60,15 +60,16 @@ fn settle_in(
     ensures { IfOk result (Ends pick problem budget) }
 {
     let mut search = Search::start(alloc, problem)?;
+    let mut waiting = Waiting::none();
     for _taken in 0..budget {
-        let next = next_step(alloc, &search, pick)?;
+        let next = next_step(alloc, &search, pick, waiting)?;
         match next {
-            Next::Take(step) => take(alloc, &mut search, pick, step)?,
+            Next::Take(step) => waiting = take(alloc, &mut search, pick, step)?,
             Next::Saturated(number) => return saturated(alloc, &search, number),
             Next::Closed => return Ok(closed(search)),
         }
     }
-    let next = next_step(alloc, &search, pick)?;
+    let next = next_step(alloc, &search, pick, waiting)?;
     match next {
         Next::Take(_) => spent(alloc, &search),
         Next::Saturated(number) => saturated(alloc, &search, number),
@@ -76,17 +77,19 @@ fn settle_in(
     }
 }
 
-/// Takes the step, which is due.
-fn take(alloc: Global, search: &mut Search, pick: Pick, step: Step) -> Result<(), AllocError>
+/// Takes the step, which is due. All branches but its own wait then.
+fn take(alloc: Global, search: &mut Search, pick: Pick, step: Step) -> Result<Waiting, AllocError>
     requires few { length search.old.steps < MAX_BUDGET }
     requires taken { IsTaken pick search.old step }
     requires searches { Searches pick search.old.problem search.old.steps search.old.slots }
     ensures searches { OnOk result (Searches pick search.new.problem search.new.steps search.new.slots) }
+    ensures waiting { IfOk result (AreWaiting search.new.problem search.new.slots) }
     ensures problem { OnOk result (search.new.problem ≡ search.old.problem) }
     ensures steps { OnOk result (search.new.steps ≡ search.old.steps ++ step ∷ []) }
 {
+    let waiting = Waiting::beside(search, &step);
     match search.apply(alloc, step) {
-        Ok(()) => Ok(()),
+        Ok(()) => Ok(waiting),
         Err(Failure::NoMemory) => Err(AllocError),
         Err(Failure::Fault(_)) => unreachable!(),
     }

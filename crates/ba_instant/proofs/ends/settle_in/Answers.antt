@@ -6,6 +6,7 @@ pub loop-taken-init : goal.loop-taken-init
 loop-taken-init c = record {
   problem = c.in_ok-search.ensures.problem;
   searches = searches_start c.args.pick c.in_ok-search.search c.args.problem c.in_ok-search.ensures.problem c.in_ok-search.ensures.steps c.in_ok-search.ensures.slots;
+  waiting = λ number b below other is. absurd (let no : ⊥ = omega (arith, below, c.none-waiting.ensures) in no);
   count = ap length c.in_ok-search.ensures.steps;
 }
 

@@ -1,4 +1,4 @@
-use Rattle.ba_instant.proofs.NextLemmas.{not_refused, searches_on}
+use Rattle.ba_instant.proofs.NextLemmas.{not_refused, searches_on, waiting_after}
 use Rattle.ba_instant.proofs.ends.take.Goals as goal
 
 pub unreachable-requires : goal.unreachable-requires
@@ -8,3 +8,8 @@ unreachable-requires c =
 pub returns-in-Ok-clause-searches : goal.returns-in-Ok-clause-searches
 returns-in-Ok-clause-searches c =
     searches_on c.args.pick c.args.search.now c.args.step c.requires.taken c.apply.new.self c.requires.searches c.in-Ok.ensures.taken c.in-Ok.ensures.steps c.in-Ok.ensures.problem
+
+pub returns-in-Ok-clause-waiting : goal.returns-in-Ok-clause-waiting
+returns-in-Ok-clause-waiting c =
+    waiting_after c.args.pick c.args.search.now c.args.step c.requires.taken c.apply.new.self c.beside-waiting.result c.beside-waiting.ensures.below c.beside-waiting.ensures.but
+    c.in-Ok.ensures.taken c.in-Ok.ensures.problem

@@ -1,7 +1,4 @@
-use Rattle.std.proofs.Common.{◌≡◌, subst, sym}
 use Rattle.ba_instant.proofs.DueLemmas.{all_kinds, closing_all}
-use Rattle.ba_instant.specs.Offers.{Improves, IsClosing, IsOn}
-use Rattle.std.specs.Prelude.{None}
 use Rattle.ba_instant.proofs.found.Spot.offer_all.Goals as goal
 
 pub returns-in_ok-offer_telling : goal.returns-in_ok-offer_telling

@@ -1,4 +1,4 @@
-use Rattle.std.proofs.Common.{◌∙◌, ap, subst}
+use Rattle.std.proofs.Common.{subst}
 use Rattle.ba_facts.specs.declared.term.Side.TheVariants.{Two}
 use Rattle.ba_instant.proofs.SplitLemmas.{split_all}
 use Rattle.ba_instant.specs.Offers.{Improves, IsSplitOfParts, IsSplitOfRules, IsSplitOfViews}
