@@ -1,5 +1,5 @@
 -- What follows for the judgement of a query, and for its reply.
-use Rattle.std.proofs.Common.{◌≡◌, ◌∙◌, refl, sym, ap, subst, ℕ, ◌<◌, ◌≤◌, List, [], ◌∷◌, ◌++◌, length, append-nil, arith}
+use Rattle.std.proofs.Common.{◌≡◌, ◌∙◌, refl, sym, subst, ℕ, ◌≤◌, List, [], ◌∷◌, ◌++◌, length, append-nil}
 use Rattle.std.proofs.lemmas.List.Elements.{All-append, All-cons, All-contains_itself, All-head, All-nil, All-tail, All-weaker}
 use Rattle.std.specs.List.{All, Contains}
 use Rattle.std.specs.Prelude.{IfSome, MatchOption, Option, None, Some}
@@ -9,7 +9,7 @@ use Rattle.ba_direct.specs.Cover.{AlwaysStrong, Covered, IsCover}
 use Rattle.ba_direct.specs.declared.covers.Cover.{Cover as Covering}
 use Rattle.ba_facts.specs.Shown.{Absurd}
 use Rattle.ba_facts.specs.declared.branch.Branch.{Branch}
-use Rattle.ba_instant.specs.Dues.{Ends, EndsProved, EndsSaturated, EndsSpent, Searches}
+use Rattle.ba_instant.specs.Dues.{Ends, EndsProved, EndsSaturated, Searches}
 use Rattle.ba_instant.specs.declared.ends.Leaf.{Leaf}
 use Rattle.ba_instant.specs.declared.ends.Settled.{Settled}
 use Rattle.ba_instant.specs.declared.ends.Settled.TheVariants as settled
@@ -17,7 +17,7 @@ use Rattle.ba_instant.specs.declared.order.Pick.{Pick}
 use Rattle.ba_instant.specs.declared.order.Pick.TheVariants.{First}
 use Rattle.ba_kernel.specs.Asked.{AnswersAreRecords, QuestionFits, QuestionIsProblem, RecordFits}
 use Rattle.ba_kernel.specs.Courses.{RuleFits, Runs, Slots}
-use Rattle.ba_kernel.specs.Problems.{ProblemIsQuestion, StrongAll, problem_of}
+use Rattle.ba_kernel.specs.Problems.{ProblemIsQuestion, StrongAll}
 use Rattle.ba_kernel.specs.Tests.{IsTidy, Proof, RunsAreTidy}
 use Rattle.ba_kernel.specs.declared.problem.Problem.{Problem}
 use Rattle.ba_kernel.specs.declared.step.Step.{Step}
@@ -32,7 +32,6 @@ use Rattle.ba_model.specs.declared.query.Query.{Query}
 use Rattle.ba_model.specs.declared.schema.Schema.{Schema}
 use Rattle.ba_model.specs.declared.value.RowSet.{RowSet}
 use Rattle.ba_model.specs.declared.value.Value.{Value}
-use Rattle.ba_refute.specs.Counterexamples.{IsCounterexample}
 use Rattle.ba_refute.specs.Images.{FactIsGiven, IsGiven, TellsTried}
 use Rattle.ba_refute.specs.declared.clause.Clause.{Clause}
 use Rattle.ba_refute.specs.declared.clause.Counterexample.{Counterexample}
@@ -81,7 +80,9 @@ module _ (policy : Policy) (asker : Request) (query : Query) (leaf : Leaf) (it :
     (tells : TellsTried policy asker.context asker.trace query (question policy asker query) leaf.branch it) where
   pub refuted : (pair : Counterexample) → it ≡ tried.Pair pair → (budget : ℕ) → EndsSaturated First (question policy asker query) budget leaf →
       IsReason policy asker budget query (why.Refuted pair)
-  refuted pair e budget ends = (subst (TellsTried policy asker.context asker.trace query (question policy asker query) leaf.branch) e tells).1
+  refuted pair e budget ends =
+      let it = subst (TellsTried policy asker.context asker.trace query (question policy asker query) leaf.branch) e tells in
+      record { leaf = leaf; saturated = ends; image_is = it.0; refutes = it.1 }
 
   pub stuck : (clause : Clause) → it ≡ tried.Stuck clause → (budget : ℕ) → EndsSaturated First (question policy asker query) budget leaf →
       IsReason policy asker budget query (why.Stuck leaf clause)

@@ -12,7 +12,6 @@ use Rattle.ba_kernel.specs.declared.step.Step.{Step}
 use Rattle.ba_model.specs.Conform.{Conforms}
 use Rattle.ba_model.specs.Fit.{ContextFits, IsQuery, kinds_of}
 use Rattle.ba_model.specs.Meaning.{IsAnswer}
-use Rattle.ba_model.specs.declared.policy.Context.{Context}
 use Rattle.ba_model.specs.declared.policy.Policy.{Policy}
 use Rattle.ba_model.specs.declared.query.Query.{Query}
 use Rattle.ba_model.specs.declared.value.RowSet.{RowSet}
@@ -61,6 +60,13 @@ abbrev pub IsGround : Policy → Request → ℕ → Query → By → Type 0
 IsGround policy asker budget query (Cover cover) = IsCover policy asker.context query cover
 IsGround policy asker budget query (Proof steps) = Uncovered policy asker query × IsProof policy asker budget query steps
 
+-- the due steps, within the budget, end at a saturated branch, and the pair is its image, which is a counterexample
+pub record IsRefuted (policy : Policy) (asker : Request) (budget : ℕ) (query : Query) (pair : Counterexample) : Type 0 where
+  pub leaf : Leaf
+  pub saturated : EndsSaturated First (question policy asker query) budget leaf
+  pub image_is : IsImage (question policy asker query) asker.context leaf.branch pair
+  pub refutes : IsCounterexample policy asker.context asker.trace query pair
+
 -- the due steps, within the budget, end at a saturated branch, and this is the first clause that its image doesn't meet
 pub record IsStuck (policy : Policy) (asker : Request) (budget : ℕ) (query : Query) (leaf : Leaf) (clause : Clause) : Type 0 where
   pub saturated : EndsSaturated First (question policy asker query) budget leaf
@@ -70,7 +76,7 @@ pub record IsStuck (policy : Policy) (asker : Request) (budget : ℕ) (query : Q
 
 -- why the question is blocked
 abbrev pub IsReason : Policy → Request → ℕ → Query → Why → Type 0
-IsReason policy asker budget query (Refuted pair) = IsCounterexample policy asker.context asker.trace query pair
+IsReason policy asker budget query (Refuted pair) = IsRefuted policy asker budget query pair
 IsReason policy asker budget query (Spent steps) = EndsSpent First (question policy asker query) budget steps
 IsReason policy asker budget query (Stuck leaf clause) = IsStuck policy asker budget query leaf clause
 

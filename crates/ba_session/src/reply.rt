@@ -10,38 +10,44 @@ use ba_sql_query::ReadQueryFault;
 /// Why a question is answered: the evidence.
 #[derive(Drop)]
 pub enum By {
-    /// A view for each part, with a pairing of the tables.
+    /// Views cover the question: one for each part, with a pairing of the tables.
     Cover(Cover),
-    /// The due steps that leave no branch of the question's problem open.
+    /// No views cover it, and these are the due steps, at most as many as the budget, that leave no
+    /// branch of its problem open.
     Proof(List<Step>),
 }
 
-/// Why a question is blocked: the evidence.
+/// Why a question, which no views cover, is blocked: the evidence.
 #[derive(Drop)]
 pub enum Why {
-    /// Two databases and a row that show that the question isn't strongly compliant.
+    /// The due steps end at a saturated branch, and its image is this: two databases and a row that
+    /// show that the question isn't strongly compliant after the request's trace.
     Refuted(Counterexample),
     /// As many due steps as the budget has. They leave an open branch, and each open branch has a
     /// new step.
     Spent(List<Step>),
-    /// The steps to a saturated branch, and the first clause that its image doesn't meet.
+    /// The due steps that end at a saturated branch, and the first clause that its image doesn't
+    /// meet. Whether the question is strongly compliant isn't known.
     Stuck(Leaf, Clause),
 }
 
 /// What becomes of a question.
 #[derive(Drop)]
 pub enum Reply {
-    /// The rows of the question's query, strictly rising. They join the request's trace.
+    /// The question's query and its rows, strictly rising. They join the request's trace, in common
+    /// with the reply.
     Answer {
         query: Shared<Query>,
         rows: Shared<List<Row>>,
         by: By,
     },
+    /// The question's query, which isn't answered. The request is as before.
     Blocked {
         query: Shared<Query>,
         why: Why,
     },
-    /// The text reads as no query: its first fault.
+    /// The text reads as no query: its first fault. The request is as before.
     Unread(ReadQueryFault),
+    /// Want of memory. It may stand in place of any other reply, and the request is as before.
     NoMemory,
 }

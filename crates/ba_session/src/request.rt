@@ -23,7 +23,9 @@ use std::alloc::{AllocError, Global};
 /// A request of a user: who asks, and what was answered so far.
 #[derive(Drop)]
 pub struct Request {
+    /// The values of the policy's parameters. No question changes them.
     pub context: Context,
+    /// The answered questions with their rows, in the order in which they were asked.
     pub trace: Trace,
 }
 
@@ -40,10 +42,15 @@ impl Request {
 
     /// What becomes of a question of the request, over these tables.
     ///
-    /// A question is answered where single views cover it, or where at most `budget` due steps prove
-    /// that it is strongly compliant after the request's trace; its answer joins the trace. Else it
-    /// is blocked, with a reason that can be checked (see [`crate::Why`]). A text that is no query is
-    /// told by its first fault. Want of memory is a reply of its own. Only an answer changes the trace.
+    /// A question is answered where single views cover it, or else where due steps, at most as many
+    /// as the budget, prove that it is strongly compliant after the request's trace; its answer joins
+    /// the trace. Else it is blocked, with a reason that can be checked ([`crate::Why`]). A text that
+    /// is no query is told by its first fault. Want of memory is a reply of its own. Only an answer
+    /// changes the trace, and nothing changes the context.
+    ///
+    /// The policy and the tables are checked ones of one schema, and the budget is at most
+    /// [`ba_model::MAX_BUDGET`] steps. The request has a context of the policy, and was told nothing
+    /// but answers over these tables: so it stands after `begin`, and after each `ask`.
     pub fn ask(
         &mut self,
         alloc: Global,
