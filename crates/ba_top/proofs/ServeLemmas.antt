@@ -14,9 +14,9 @@ use Rattle.ba_session.specs.Asking.{IsAsker, answer_in}
 use Rattle.ba_session.specs.declared.reply.Reply.{Reply}
 use Rattle.ba_session.specs.declared.request.Request.{Request}
 use Rattle.ba_top.specs.Legal.{AreEntries, HasContext, IsEntry, IsInput, answer_of, context_in, contexts_of, trace_of}
-use Rattle.ba_top.specs.Serving.{AreAskers, IsAsked, IsKnown, IsServed, Stand, begun_in}
+use Rattle.ba_top.specs.Serving.{IsAsked, IsKnown, IsServed, Stand, begun_in}
 use Rattle.ba_top.specs.declared.report.Entry.{Entry}
-use Rattle.ba_top.specs.declared.report.Entry.TheVariants.{Begin, Ask, End}
+use Rattle.ba_top.specs.declared.report.Entry.TheVariants.{Ask}
 use Rattle.ba_top.specs.declared.report.Input.{Input}
 
 -- ---- lists

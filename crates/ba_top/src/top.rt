@@ -127,10 +127,10 @@ pub fn blockaid<F: Files, S: Sink, G: Gate + Sync>(
     sink: &mut S,
     gate: &G,
 ) -> Outcome
-    // Each answer is its query's answer in the request's tables and in every database that meets the schema, gives every view the
-    // same rows and each query that was answered before its printed rows. Each block is of a query that isn't covered, and carries a
-    // counterexample to strong compliance, a derivation as long as the budget, or a stuck branch. The input that the words and the
-    // files come to is the one for which the journal is legal and whose lines were written.
+    // Each answer is that of the query that its line's text reads as, in the request's tables and in every database that meets the
+    // schema, gives every view the same rows and each query that was answered before its printed rows. Each block is of such a query
+    // that isn't covered, and carries a counterexample to strong compliance, a derivation as long as the budget, or a stuck branch.
+    // The input that the words and the files come to is the one for which the journal is legal and whose lines were written.
     ensures headline { IfSome result.journal (λ journal.
         Served (map string_bytes words.now) (F.seen files.old) (F.seen files.new)
         (S.seen sink.old) (S.seen sink.new) result.detail journal) }
