@@ -2,3 +2,4 @@ pub mod Order
 pub mod Dues
 pub mod Offers
 pub mod Nexts
+pub mod Windows
