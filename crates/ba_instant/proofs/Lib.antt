@@ -8,3 +8,11 @@ mod DueLemmas
 mod LateLemmas
 mod PickLemmas
 mod NextLemmas
+mod CarryLemmas
+mod GrowthLemmas
+mod OldFactLemmas
+mod OldTermLemmas
+mod OldMappingLemmas
+mod OldStepLemmas
+mod OldSplitLemmas
+mod QuietLemmas

@@ -1,5 +1,6 @@
 //! What holds of every search, stated as functions that do nothing.
 ghost use Rattle.ba_instant.specs.Dues.{DueListsAreOne, PickedIsOne, SearchesAreDue};
+ghost use Rattle.ba_instant.specs.Windows.{DueIsQuiet, QuietAtFirst, QuietStays, RunsAreGrounded};
 
 /// The steps of a search are a due list of its problem.
 pub fn searches_are_due()
@@ -15,4 +16,25 @@ pub fn picked_is_one()
 /// so many steps is determined.
 pub fn due_lists_are_one()
     ensures { DueListsAreOne }
+{}
+
+/// Each open branch of a course is grounded.
+pub fn runs_are_grounded()
+    ensures { RunsAreGrounded }
+{}
+
+/// Where a branch grows quietly by facts of no round below a bound, no step up to the bound gets new
+/// that wasn't.
+pub fn quiet_stays()
+    ensures { QuietStays }
+{}
+
+/// No step is new whose round is before that of a branch's due step.
+pub fn due_is_quiet()
+    ensures { DueIsQuiet }
+{}
+
+/// No step that tells a branch something is of round 0.
+pub fn quiet_at_first()
+    ensures { QuietAtFirst }
 {}

@@ -1,0 +1,85 @@
+-- A branch that grows quietly stays quiet; it is quiet before its due step, and up to 0.
+use Rattle.std.proofs.Common.{◌≡◌, ◌∙◌, ℕ, ◌+◌, ◌<◌, ◌≤◌, ◌⊎◌, List, inl, inr, refl, ap, subst, arith}
+use Rattle.std.proofs.lemmas.Bool.{cases_lt}
+use Rattle.ba_facts.specs.declared.branch.Branch.{Branch}
+use Rattle.ba_kernel.specs.Courses.{branch_of}
+use Rattle.ba_kernel.specs.Effects.{IsEntryRound}
+use Rattle.ba_kernel.specs.News.{IsNewOn, IsRound}
+use Rattle.ba_kernel.specs.declared.problem.Problem.{Problem}
+use Rattle.ba_kernel.specs.declared.problem.ProblemEntry.{ProblemEntry}
+use Rattle.ba_kernel.specs.declared.step.Step.{Step}
+use Rattle.ba_kernel.specs.declared.step.Step.TheVariants as steps
+use Rattle.ba_instant.proofs.OldSplitLemmas.{split_before}
+use Rattle.ba_instant.proofs.OldStepLemmas.{entry_before, key_before, link_before, rule_before, view_before}
+use Rattle.ba_instant.specs.Dues.{IsDue}
+use Rattle.ba_instant.specs.Offers.{IsTelling}
+use Rattle.ba_instant.specs.Windows.{AreLate, DueIsQuiet, IsGrounded, IsQuietGrowth, IsQuietUpto, QuietAtFirst, QuietStays}
+
+-- ---- growth
+
+module _ (p : Problem) (b c : Branch) (number other bound : ℕ) (grounded : IsGrounded b) (growth : IsQuietGrowth b c) (late : AreLate bound growth.facts)
+    (quiet : IsQuietUpto p b number bound) where
+  -- a step that is new after the growth, on facts that were there, was new and had the round
+  was_new : (step : Step) (round : ℕ) → IsTelling other step → round ≤ bound → IsNewOn p c step → IsRound p c step round →
+      (before : Step) × IsTelling number before × IsNewOn p b before × IsRound p b before round
+  was_new step round (inl (inl (inl (inl (inl (entry, is)))))) below new round_is =
+      let it = entry_before p b c grounded growth bound late number other entry round (subst (λ s. IsNewOn p c s × IsRound p c s round) is (new, round_is)) in
+      (steps.Entry number entry, inl (inl (inl (inl (inl (entry, refl))))), it.0, it.1)
+  was_new step round (inl (inl (inl (inl (inr (fact, (link, is))))))) below new round_is =
+      let it = link_before p b c grounded growth bound late number other link fact round below (subst (λ s. IsNewOn p c s × IsRound p c s round) is (new, round_is)) in
+      (steps.Link number link fact, inl (inl (inl (inl (inr (fact, (link, refl)))))), it.0, it.1)
+  was_new step round (inl (inl (inl (inr (left, (right, (key, is))))))) below new round_is =
+      let it = key_before p b c grounded growth bound late number other key left right round below (subst (λ s. IsNewOn p c s × IsRound p c s round) is (new, round_is)) in
+      (steps.Key number key left right, inl (inl (inl (inr (left, (right, (key, refl)))))), it.0, it.1)
+  was_new step round (inl (inl (inr (rule, (part, (facts, is)))))) below new round_is =
+      let it = rule_before p b c grounded growth bound late number other rule part facts round below (subst (λ s. IsNewOn p c s × IsRound p c s round) is (new, round_is)) in
+      (steps.Rule number rule part facts, inl (inl (inr (rule, (part, (facts, refl))))), it.0, it.1)
+  was_new step round (inl (inr (view, (part, (facts, is))))) below new round_is =
+      let it = view_before p b c grounded growth bound late number other view part facts round below (subst (λ s. IsNewOn p c s × IsRound p c s round) is (new, round_is)) in
+      (steps.View number view part facts, inl (inr (view, (part, (facts, refl)))), it.0, it.1)
+  was_new step round (inr (atom, is)) below new round_is =
+      let here = subst (λ s. IsNewOn p c s × IsRound p c s round) is (new, round_is) in
+      let it = split_before p b c grounded growth bound late number other atom round below here.0 here.1 in
+      (steps.Split number atom, inr (atom, refl), it.0, it.1)
+
+  stays : IsQuietUpto p c other bound
+  stays step round telling new round_is = elim (cases_lt bound round) [
+    | inl later ↦ later
+    | inr below ↦ let it = was_new step round telling below new round_is in quiet it.0 round it.1 it.2 it.3
+  ]
+
+pub quiet_stays : QuietStays
+quiet_stays p b c number other bound grounded growth late quiet = stays p b c number other bound grounded growth late quiet
+
+-- ---- due steps
+
+telling_on : (n : ℕ) (step : Step) → IsTelling n step → branch_of step ≡ n
+telling_on n step (inl (inl (inl (inl (inl h))))) = ap branch_of h.1
+telling_on n step (inl (inl (inl (inl (inr h))))) = ap branch_of (h.1).1
+telling_on n step (inl (inl (inl (inr h)))) = ap branch_of ((h.1).1).1
+telling_on n step (inl (inl (inr h))) = ap branch_of ((h.1).1).1
+telling_on n step (inl (inr h)) = ap branch_of ((h.1).1).1
+telling_on n step (inr h) = ap branch_of h.1
+
+pub due_is_quiet : DueIsQuiet
+due_is_quiet p slots step bound due below other round telling new round_is =
+    let least : due.round ≤ round = due.least other round (telling_on (branch_of step) other telling) new round_is in
+    omega (arith, below, least)
+
+-- ---- round 0
+
+entry_late : (p : Problem) (it : ProblemEntry) (round : ℕ) → IsEntryRound p it.row round → 0 < round
+entry_late p it round (inl h) = omega (arith, h.1)
+entry_late p it round (inr h) = omega (arith, h.1)
+
+late_at : (p : Problem) (b : Branch) (number : ℕ) (step : Step) (round : ℕ) → IsTelling number step → IsRound p b step round → 0 < round
+late_at p b number step round (inl (inl (inl (inl (inl (entry, is)))))) h =
+    let at = subst (λ s. IsRound p b s round) is h in entry_late p at.it round at.round_is
+late_at p b number step round (inl (inl (inl (inl (inr (fact, (link, is))))))) h = let at = subst (λ s. IsRound p b s round) is h in omega (arith, at)
+late_at p b number step round (inl (inl (inl (inr (left, (right, (key, is))))))) h = let at = subst (λ s. IsRound p b s round) is h in omega (arith, at)
+late_at p b number step round (inl (inl (inr (rule, (part, (facts, is)))))) h = let at = subst (λ s. IsRound p b s round) is h in omega (arith, at)
+late_at p b number step round (inl (inr (view, (part, (facts, is))))) h = let at = subst (λ s. IsRound p b s round) is h in omega (arith, at)
+late_at p b number step round (inr (atom, is)) h = let at = subst (λ s. IsRound p b s round) is h in omega (arith, at.round_is)
+
+pub quiet_at_first : QuietAtFirst
+quiet_at_first p b number step round telling new round_is = late_at p b number step round telling round_is
