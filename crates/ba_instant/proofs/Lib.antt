@@ -16,3 +16,5 @@ mod OldMappingLemmas
 mod OldStepLemmas
 mod OldSplitLemmas
 mod QuietLemmas
+mod GroundLemmas
+mod GroundRuns
