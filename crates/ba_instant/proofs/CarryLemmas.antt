@@ -7,8 +7,8 @@ use Rattle.ba_model.specs.declared.value.Value.{Value}
 use Rattle.ba_model.specs.declared.value.Value.TheVariants.{Null, Int}
 use Rattle.ba_facts.proofs.ChainLemmas.{one_rise, then}
 use Rattle.ba_facts.specs.Known.{Chain, DifferentLiterals, Equated, Known, Learned, NotNullTerm, OneClass, Rise, ShownGap, ShownNotNull, ShownNull}
-use Rattle.ba_facts.specs.Known.{equated, itself, turned, joined, within, at_most, less, number, none, first}
-use Rattle.ba_facts.specs.Shown.{AreTheTwo, EitherNull, IsAtMost, IsEqual, IsLess, IsUnequal, NeitherNull, RecordedApart, RefutesOf, ShowsOf, TheSame}
+use Rattle.ba_facts.specs.Known.{equated, itself, turned, joined, left, right, within, at_most, less, number, none, first}
+use Rattle.ba_facts.specs.Shown.{Absurd, AreTheTwo, EitherNull, IsAtMost, IsEqual, IsLess, IsUnequal, NeitherNull, RecordedApart, RefutesOf, ShowsOf, TheSame}
 use Rattle.ba_facts.specs.Shown as shown
 use Rattle.ba_facts.specs.declared.term.Term.{Term}
 use Rattle.ba_facts.specs.declared.term.Term.TheVariants.{Val}
@@ -54,6 +54,23 @@ pub same_then : {k : Known} {a b c : Term} → TheSame k a b → TheSame k b c �
 same_then (inl s) (inl t) = inl (joined s t)
 same_then (inl s) (inr t) = both_gaps (inl s) (inr t)
 same_then (inr s) t = both_gaps (inr s) t
+
+same_turned : {k : Known} {a b : Term} → TheSame k a b → TheSame k b a
+same_turned (inl h) = inl (turned h)
+same_turned (inr h) = inr (h.1, h.0)
+
+-- of two that were recorded apart as what is the same as a and b, `=` is shown where a and b are the same
+equal_apart : {k : Known} {a b : Term} (x y : Term) → Learned k Ne x y → AreTheTwo k x y a b → TheSame k a b → IsEqual k x y
+equal_apart {k} {a} {b} x y h two same = record {
+  not_null = record {
+    left = record { other = x; class = itself; not_null = left h tt };
+    right = record { other = y; class = itself; not_null = right h tt };
+  };
+  same = elim two as (λ _. TheSame k x y) [
+    | inl t ↦ same_then (same_turned t.0) (same_then same t.1)
+    | inr t ↦ same_then (same_turned t.1) (same_then (same_turned same) t.0)
+  ];
+}
 
 module _ (k l : Known) (stands : Term → Term) (carries : Carries k l stands) where
   pub one_class : {a b : Term} → OneClass k a b → OneClass l (stands a) (stands b)
@@ -151,3 +168,12 @@ module _ (k l : Known) (stands : Term → Term) (carries : Carries k l stands) w
   refutes Le a b (inr h) = inr (either_null h)
   refutes IsNull a b h = not_null h
   refutes NotNull a b h = null h
+
+  -- ---- what can't be true
+
+  pub absurd_back : Absurd k → Absurd l
+  absurd_back (shown.literals h) = shown.literals (differ h)
+  absurd_back (shown.null n h) = shown.null (null n) (not_null h)
+  absurd_back (shown.apart {a = a} {b = b} h e) =
+      let g = carries.apart a b h in shown.apart g.learned (equal_apart g.x g.y g.learned g.sides (the_same e.same))
+  absurd_back (shown.rising {n = n} above c) = let g = chain c in shown.rising (omega (arith, ints, above, g.enough)) g.chain

@@ -9,11 +9,13 @@ use Rattle.ba_kernel.specs.declared.problem.Problem.{Problem}
 use Rattle.ba_kernel.specs.declared.problem.ProblemEntry.{ProblemEntry}
 use Rattle.ba_kernel.specs.declared.step.Step.{Step}
 use Rattle.ba_kernel.specs.declared.step.Step.TheVariants as steps
+use Rattle.ba_instant.proofs.CarryLemmas.{absurd_back}
+use Rattle.ba_instant.proofs.GrowthLemmas.{known_before}
 use Rattle.ba_instant.proofs.OldSplitLemmas.{split_before}
 use Rattle.ba_instant.proofs.OldStepLemmas.{entry_before, key_before, link_before, rule_before, view_before}
 use Rattle.ba_instant.specs.Dues.{IsDue}
 use Rattle.ba_instant.specs.Offers.{IsTelling}
-use Rattle.ba_instant.specs.Windows.{AreLate, DueIsQuiet, IsGrounded, IsQuietGrowth, IsQuietUpto, QuietAtFirst, QuietStays}
+use Rattle.ba_instant.specs.Windows.{AreLate, DueIsQuiet, IsGrounded, IsQuietGrowth, IsQuietUpto, QuietAtFirst, QuietIsNotAbsurd, QuietStays}
 
 -- ---- growth
 
@@ -49,7 +51,10 @@ module _ (p : Problem) (b c : Branch) (number other bound : ℕ) (grounded : IsG
   ]
 
 pub quiet_stays : QuietStays
-quiet_stays p b c number other bound grounded growth late quiet = stays p b c number other bound grounded growth late quiet
+quiet_stays p b c number other bound grounded grows quiet = stays p b c number other bound grounded grows.growth grows.late quiet
+
+pub quiet_is_not_absurd : QuietIsNotAbsurd
+quiet_is_not_absurd b c grounded growth h = absurd_back c.known b.known growth.stands (known_before b c grounded growth) h
 
 -- ---- due steps
 

@@ -1,18 +1,17 @@
 -- What isn't new on a branch up to a round, and how a branch may grow so that it stays so.
-use Rattle.std.specs.Prelude.{◌≡◌, ℕ, ◌+◌, ◌<◌, ◌≤◌, List, ◌++◌, All, length, map, Some, false, slice_get, unwrap_or}
-use Rattle.std.specs.List.{range_with_len}
+use Rattle.std.specs.Prelude.{◌≡◌, ℕ, ◌+◌, ◌<◌, ◌≤◌, List, ◌++◌, All, length, Some, false, slice_get}
 use Rattle.ba_model.specs.declared.query.Op.{Op}
 use Rattle.ba_model.specs.declared.query.Op.TheVariants.{Eq, Ne, Lt, Le, IsNull, NotNull}
 use Rattle.ba_facts.specs.Known.{Known, OneClass, ShownNotNull, ShownNull}
 use Rattle.ba_facts.specs.Knowing.{IsThere, LessonIsThere}
-use Rattle.ba_facts.specs.Shown.{IsAtMost, IsLess, NeitherNull, RecordedApart}
+use Rattle.ba_facts.specs.Shown.{Absurd, IsAtMost, IsLess, NeitherNull, RecordedApart}
 use Rattle.ba_facts.specs.declared.branch.Branch.{Branch}
 use Rattle.ba_facts.specs.declared.term.Fact.{Fact}
 use Rattle.ba_facts.specs.declared.term.Lesson.{Lesson}
 use Rattle.ba_facts.specs.declared.term.Lesson.TheVariants.{Same, Holds}
 use Rattle.ba_facts.specs.declared.term.Sort.{Sort}
 use Rattle.ba_facts.specs.declared.term.Term.{Term}
-use Rattle.ba_facts.specs.declared.term.Term.TheVariants.{Unknown, Val, Param, Var}
+use Rattle.ba_facts.specs.declared.term.Term.TheVariants.{Unknown}
 use Rattle.ba_kernel.specs.Courses.{IsOpen, ProblemFits, Runs, Slots, branch_of}
 use Rattle.ba_kernel.specs.News.{IsNewOn, IsRound}
 use Rattle.ba_kernel.specs.declared.problem.Problem.{Problem}
@@ -61,12 +60,10 @@ pub record IsQuietGrowth (b c : Branch) : Type 0 where
 abbrev pub AreLate : ℕ → List Fact → Type 0
 AreLate bound facts = All (λ (fact : Fact). bound ≤ fact.round) facts
 
--- One way to give such terms: for the unknowns past the count these in turn, a parameter (which is never NULL) for those past them, and each other term for itself.
-abbrev pub in_turn : ℕ → List Term → Term → Term
-in_turn count images (Unknown n) = unwrap_or (slice_get (map Unknown (range_with_len 0 count) ++ images) n) (Param 0)
-in_turn count images (Val v) = Val v
-in_turn count images (Param n) = Param n
-in_turn count images (Var n) = Var n
+-- c grows so from b, by such facts
+pub record GrowsQuietly (bound : ℕ) (b c : Branch) : Type 0 where
+  pub growth : IsQuietGrowth b c
+  pub late : AreLate bound growth.facts
 
 -- the terms of the facts, of the goal row and of the lessons are there
 pub record IsGrounded (b : Branch) : Type 0 where
@@ -82,8 +79,11 @@ RunsAreGrounded = (p : Problem) (taken : List Step) (slots : Slots) (number : �
 
 -- where a branch grows quietly by facts of no round below the bound, it stays quiet up to the bound, whatever its number is then
 abbrev pub QuietStays : Type 0
-QuietStays = (p : Problem) (b c : Branch) (number other bound : ℕ) → IsGrounded b → (growth : IsQuietGrowth b c) → AreLate bound growth.facts →
-    IsQuietUpto p b number bound → IsQuietUpto p c other bound
+QuietStays = (p : Problem) (b c : Branch) (number other bound : ℕ) → IsGrounded b → GrowsQuietly bound b c → IsQuietUpto p b number bound → IsQuietUpto p c other bound
+
+-- and it isn't absurd if it wasn't
+abbrev pub QuietIsNotAbsurd : Type 0
+QuietIsNotAbsurd = (b c : Branch) → IsGrounded b → IsQuietGrowth b c → Absurd c.known → Absurd b.known
 
 -- a branch is quiet up to each round before that of its due step, and up to 0
 abbrev pub DueIsQuiet : Type 0

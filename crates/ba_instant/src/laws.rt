@@ -1,6 +1,6 @@
 //! What holds of every search, stated as functions that do nothing.
 ghost use Rattle.ba_instant.specs.Dues.{DueListsAreOne, PickedIsOne, SearchesAreDue};
-ghost use Rattle.ba_instant.specs.Windows.{DueIsQuiet, QuietAtFirst, QuietStays, RunsAreGrounded};
+ghost use Rattle.ba_instant.specs.Windows.{DueIsQuiet, QuietAtFirst, QuietIsNotAbsurd, QuietStays, RunsAreGrounded};
 
 /// The steps of a search are a due list of its problem.
 pub fn searches_are_due()
@@ -27,6 +27,11 @@ pub fn runs_are_grounded()
 /// that wasn't.
 pub fn quiet_stays()
     ensures { QuietStays }
+{}
+
+/// Where a branch grows quietly it isn't absurd if it wasn't.
+pub fn quiet_is_not_absurd()
+    ensures { QuietIsNotAbsurd }
 {}
 
 /// No step is new whose round is before that of a branch's due step.
