@@ -18,3 +18,5 @@ mod OldSplitLemmas
 mod QuietLemmas
 mod GroundLemmas
 mod GroundRuns
+mod MirrorLemmas
+mod GivenLemmas

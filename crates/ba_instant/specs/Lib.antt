@@ -3,3 +3,4 @@ pub mod Dues
 pub mod Offers
 pub mod Nexts
 pub mod Windows
+pub mod QuietSteps

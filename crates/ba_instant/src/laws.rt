@@ -1,5 +1,6 @@
 //! What holds of every search, stated as functions that do nothing.
 ghost use Rattle.ba_instant.specs.Dues.{DueListsAreOne, PickedIsOne, SearchesAreDue};
+ghost use Rattle.ba_instant.specs.QuietSteps.{GivenCaseIsQuiet, QuietStepKeeps, RunsAreFilled};
 ghost use Rattle.ba_instant.specs.Windows.{DueIsQuiet, QuietAtFirst, QuietIsNotAbsurd, QuietStays, RunsAreGrounded};
 
 /// The steps of a search are a due list of its problem.
@@ -42,4 +43,19 @@ pub fn due_is_quiet()
 /// No step that tells a branch something is of round 0.
 pub fn quiet_at_first()
     ensures { QuietAtFirst }
+{}
+
+/// The facts of each open branch of a course have terms that may stand in their tables' columns.
+pub fn runs_are_filled()
+    ensures { RunsAreFilled }
+{}
+
+/// A case of a row that some rows of terms give already grows quietly.
+pub fn given_case_is_quiet()
+    ensures { GivenCaseIsQuiet }
+{}
+
+/// After a quiet step the branch of its number stays quiet up to each round before the step's.
+pub fn quiet_step_keeps()
+    ensures { QuietStepKeeps }
 {}

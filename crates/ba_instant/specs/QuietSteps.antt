@@ -1,0 +1,133 @@
+-- Steps whose first case, which keeps the branch's number, grows quietly.
+use Rattle.std.specs.Prelude.{◌≡◌, ℕ, ◌≤◌, List, [], All, map, Option, Some, false, nat_eq, slice_get}
+use Rattle.std.specs.List.{AllZip, IsDistinct}
+use Rattle.ba_model.specs.SchemaFaults.{columns_of}
+use Rattle.ba_model.specs.declared.policy.View.{View}
+use Rattle.ba_model.specs.declared.query.Op.{Op}
+use Rattle.ba_model.specs.declared.query.Op.TheVariants.{Eq, Ne, Lt, Le, IsNull, NotNull}
+use Rattle.ba_model.specs.declared.query.Part.{Part}
+use Rattle.ba_model.specs.declared.schema.Column.{Column}
+use Rattle.ba_model.specs.declared.schema.Link.{Link}
+use Rattle.ba_model.specs.declared.schema.Rule.{Rule}
+use Rattle.ba_model.specs.declared.schema.Schema.{Schema}
+use Rattle.ba_facts.specs.Known.{Known, OneClass, ShownNotNull}
+use Rattle.ba_facts.specs.Knowing.{IsThere}
+use Rattle.ba_facts.specs.Matches.{Under, row_of, term_of}
+use Rattle.ba_facts.specs.Shown.{RecordedApart}
+use Rattle.ba_facts.specs.declared.branch.Branch.{Branch}
+use Rattle.ba_facts.specs.declared.term.Fact.{Fact}
+use Rattle.ba_facts.specs.declared.term.Side.{Side}
+use Rattle.ba_facts.specs.declared.term.Term.{Term}
+use Rattle.ba_kernel.specs.Courses.{IsOpen, ProblemFits, Runs, Slots, Takes, branch_of}
+use Rattle.ba_kernel.specs.Effects.{IsCase, IsLinkOf, rows_at}
+use Rattle.ba_kernel.specs.News.{IsRound}
+use Rattle.ba_kernel.specs.declared.problem.Problem.{Problem}
+use Rattle.ba_kernel.specs.declared.problem.ProblemEntry.{ProblemEntry}
+use Rattle.ba_kernel.specs.declared.step.Step.{Step}
+use Rattle.ba_kernel.specs.declared.step.Step.TheVariants as steps
+use Rattle.ba_instant.specs.Windows.{GrowsQuietly, IsGrounded, IsQuietUpto, IsToldOf}
+
+-- ---- rows of terms that give a row already, facts or not
+
+-- the term may stand in the column: it is never NULL where the column isn't
+abbrev pub IsFilled : Known → Column → Term → Type 0
+IsFilled k column t = column.nullable ≡ false → ShownNotNull k t
+
+-- a term for each of the table's columns
+abbrev pub IsRowFor : Schema → Known → ℕ → List Term → Type 0
+IsRowFor s k table ts = AllZip (IsFilled k) (columns_of s.tables table) ts
+
+-- there is a term, and it is of one class with the other
+pub record IsOneWith (k : Known) (o : Option Term) (t : Term) : Type 0 where
+  pub term : Term
+  pub is : o ≡ Some term
+  pub class : OneClass k term t
+
+-- a row for each table of the part; what its atoms tell of them is known, and they give a row of the same classes
+pub record GivesRow (s : Schema) (b : Branch) (part : Part) (rows : List (List Term)) (row : List Term) : Type 0 where
+  pub rows_for : AllZip (IsRowFor s b.known) part.from rows
+  pub told : All (Under (IsToldOf b.known) rows) part.conds
+  pub head : AllZip (IsOneWith b.known) (map (term_of rows) part.head) row
+
+-- the terms of each fact may stand in its table's columns
+pub record FactsAreFilled (s : Schema) (b : Branch) : Type 0 where
+  pub facts : All (λ (fact : Fact). IsRowFor s b.known fact.table fact.terms) b.facts
+
+-- ---- steps
+
+-- what is shown is known as lessons tell it: equal terms are of one class, and unequal ones were learned to be so
+abbrev pub IsPlain : Known → Op → Term → Term → Type 0
+IsPlain k Eq a b = OneClass k a b
+IsPlain k Ne a b = RecordedApart k a b
+IsPlain k Lt a b = Unit {0}
+IsPlain k Le a b = Unit {0}
+IsPlain k IsNull a b = Unit {0}
+IsPlain k NotNull a b = Unit {0}
+
+-- the facts are the view's first part's, whose atoms are plain of them
+pub record IsQuietView (p : Problem) (b : Branch) (view part : ℕ) (facts : List ℕ) : Type 0 where
+  pub first : part ≡ 0
+  pub it : View
+  pub view_is : slice_get p.policy.views view ≡ Some it
+  pub of : Part
+  pub part_is : slice_get it.query.parts 0 ≡ Some of
+  pub plain : All (Under (IsPlain b.known) (rows_at b facts)) of.conds
+
+-- no two of the link's columns go to one target column
+pub record IsQuietLink (s : Schema) (b : Branch) (link fact : ℕ) : Type 0 where
+  pub f : Fact
+  pub fact_is : slice_get b.facts fact ≡ Some f
+  pub it : Link
+  pub link_of : IsLinkOf s f link it
+  pub distinct : IsDistinct nat_eq it.target_columns
+
+-- some rows of terms give the entry's row by its query's first part
+pub record IsQuietEntry (p : Problem) (b : Branch) (entry : ℕ) : Type 0 where
+  pub it : ProblemEntry
+  pub there : slice_get p.entries entry ≡ Some it
+  pub of : Part
+  pub part_is : slice_get it.query.parts 0 ≡ Some of
+  pub row : List Term
+  pub row_is : map (term_of []) it.row ≡ map Some row
+  pub rows : List (List Term)
+  pub gives : GivesRow p.policy.schema b of rows row
+
+-- some rows of terms give the facts' row by the rule's right query's first part
+pub record IsQuietRule (p : Problem) (b : Branch) (rule part : ℕ) (facts : List ℕ) : Type 0 where
+  pub it : Rule
+  pub rule_is : slice_get p.policy.schema.rules rule ≡ Some it
+  pub left : Part
+  pub left_is : slice_get it.left.parts part ≡ Some left
+  pub of : Part
+  pub part_is : slice_get it.right.parts 0 ≡ Some of
+  pub row : List Term
+  pub row_is : row_of b facts left.head ≡ map Some row
+  pub rows : List (List Term)
+  pub gives : GivesRow p.policy.schema b of rows row
+
+abbrev pub IsQuietStep : Problem → Branch → Step → Type 0
+IsQuietStep p b (steps.Entry branch entry) = IsQuietEntry p b entry
+IsQuietStep p b (steps.Key branch key left right) = ⊥
+IsQuietStep p b (steps.Link branch link fact) = IsQuietLink p.policy.schema b link fact
+IsQuietStep p b (steps.Rule branch rule part facts) = IsQuietRule p b rule part facts
+IsQuietStep p b (steps.View branch view part facts) = IsQuietView p b view part facts
+IsQuietStep p b (steps.Split branch atom) = ⊥
+IsQuietStep p b (steps.Absurd branch) = ⊥
+IsQuietStep p b (steps.Goal branch part facts) = ⊥
+
+-- ---- the laws
+
+-- the facts of each open branch of a course are filled
+abbrev pub RunsAreFilled : Type 0
+RunsAreFilled = (p : Problem) (taken : List Step) (slots : Slots) (number : ℕ) (b : Branch) → Runs p taken slots → IsOpen slots number b → FactsAreFilled p.policy.schema b
+
+-- a case of a row that some rows of terms give already grows quietly
+abbrev pub GivenCaseIsQuiet : Type 0
+GivenCaseIsQuiet = (s : Schema) (b c : Branch) (side : Side) (round : ℕ) (part : Part) (rows : List (List Term)) (row : List Term) →
+    All (IsThere b.known) row → GivesRow s b part rows row → IsCase s b side round row part c → GrowsQuietly round b c
+
+-- After a quiet step the branch of its number stays quiet up to each round before the step's.
+abbrev pub QuietStepKeeps : Type 0
+QuietStepKeeps = (p : Problem) (taken : List Step) (step : Step) (old new : Slots) (b c : Branch) (round bound : ℕ) → ProblemFits p → Runs p taken old → Takes p old step new →
+    IsOpen old (branch_of step) b → IsOpen new (branch_of step) c → IsQuietStep p b step → IsRound p b step round → bound ≤ round →
+    IsQuietUpto p b (branch_of step) bound → IsQuietUpto p c (branch_of step) bound
