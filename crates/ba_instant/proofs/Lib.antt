@@ -20,3 +20,4 @@ mod GroundLemmas
 mod GroundRuns
 mod MirrorLemmas
 mod GivenLemmas
+mod FilledRuns
