@@ -21,3 +21,6 @@ mod GroundRuns
 mod MirrorLemmas
 mod GivenLemmas
 mod FilledRuns
+mod QuietStepLemmas
+mod LinkRowLemmas
+mod KeepLemmas

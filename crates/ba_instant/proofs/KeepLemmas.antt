@@ -1,0 +1,176 @@
+-- After a quiet step the branch of its number stays quiet up to each round before the step's.
+use Rattle.std.proofs.Common.{◌≡◌, ◌∙◌, ℕ, zero, suc, ◌+◌, ◌<◌, ◌≤◌, List, [], ◌∷◌, ◌++◌, length, map, max, refl, ap, sym, subst, arith}
+use Rattle.std.proofs.lemmas.List.{length-set}
+use Rattle.std.proofs.lemmas.List.Elements.{All-weaker}
+use Rattle.std.proofs.lemmas.Option.{same_Some, slice_get_within}
+use Rattle.std.specs.List.{All, AllZip, IsDistinct}
+use Rattle.std.specs.Prelude.{Option, Some, None, nat_eq, slice_get, slice_set}
+use Rattle.ba_model.specs.declared.policy.View.{View}
+use Rattle.ba_model.specs.declared.query.Part.{Part}
+use Rattle.ba_model.specs.declared.schema.Link.{Link}
+use Rattle.ba_model.specs.declared.schema.Rule.{Rule}
+use Rattle.ba_model.specs.declared.schema.Table.{Table}
+use Rattle.ba_facts.specs.Knowing.{IsThere}
+use Rattle.ba_facts.specs.Matches.{Under, round_of, row_of, term_of}
+use Rattle.ba_facts.specs.declared.branch.Branch.{Branch}
+use Rattle.ba_facts.specs.declared.term.Fact.{Fact}
+use Rattle.ba_facts.specs.declared.term.Side.{Side}
+use Rattle.ba_facts.specs.declared.term.Side.TheVariants.{One, Two}
+use Rattle.ba_facts.specs.declared.term.Term.{Term}
+use Rattle.ba_kernel.proofs.BuildNext.{row_there}
+use Rattle.ba_kernel.proofs.StepFits.{All-at}
+use Rattle.ba_kernel.specs.Courses.{IsOpen, Slots, after, branch_of}
+use Rattle.ba_kernel.specs.Effects.{EntryLeads, IsCase, IsLinkOf, Leads, LinkLeads, RuleLeads, ViewLeads, rows_at, with_fact, with_lessons}
+use Rattle.ba_kernel.specs.News.{IsRound}
+use Rattle.ba_kernel.specs.declared.problem.Problem.{Problem}
+use Rattle.ba_kernel.specs.declared.problem.ProblemEntry.{ProblemEntry}
+use Rattle.ba_kernel.specs.declared.step.Step.{Step}
+use Rattle.ba_kernel.specs.declared.step.Step.TheVariants as steps
+use Rattle.ba_instant.proofs.FilledRuns.{runs_are_filled}
+use Rattle.ba_instant.proofs.GivenLemmas.{case_grows}
+use Rattle.ba_instant.proofs.GroundRuns.{runs_are_grounded}
+use Rattle.ba_instant.proofs.LinkRowLemmas.{link_grows}
+use Rattle.ba_instant.proofs.OldFactLemmas.{round_is}
+use Rattle.ba_instant.proofs.QuietLemmas.{quiet_stays}
+use Rattle.ba_instant.proofs.QuietStepLemmas.{yields_gives}
+use Rattle.ba_instant.proofs.RoundLemmas.{round_once}
+use Rattle.ba_instant.specs.QuietSteps.{FactsAreFilled, GivesRow, IsPlain, IsQuietEntry, IsQuietLink, IsQuietRule, IsQuietStep, IsQuietView, QuietStepKeeps}
+use Rattle.ba_instant.specs.Windows.{GrowsQuietly, IsGrounded}
+
+-- ---- the case that keeps the number
+
+set_at : {X : Type 0} (xs : List X) (n : ℕ) (y : X) → n < length xs → slice_get (slice_set xs n y) n ≡ Some y
+set_at [] n y below = absurd (let no : ⊥ = omega (arith, below) in no)
+set_at (x ∷ xs) zero y below = refl
+set_at (x ∷ xs) (suc n) y below = set_at xs n y (omega (arith, below))
+
+in_front : {X : Type 0} (xs ys : List X) (m : ℕ) → m < length xs → slice_get (xs ++ ys) m ≡ slice_get xs m
+in_front [] ys m below = absurd (let no : ⊥ = omega (arith, below) in no)
+in_front (x ∷ xs) ys zero below = refl
+in_front (x ∷ xs) ys (suc m) below = in_front xs ys m (omega (arith, below))
+
+-- the cases begin with this one
+abbrev BeginsWith : List Branch → Branch → Type 0
+BeginsWith [] c = ⊥
+BeginsWith (d ∷ others) c = d ≡ c
+
+first_case : (slots : Slots) (n : ℕ) (cases : List Branch) (c : Branch) → n < length slots → IsOpen (after slots n cases) n c → BeginsWith cases c
+first_case slots n [] c below e = let none = set_at slots n None below in cc
+first_case slots n (d ∷ others) c below e =
+    let counted = length-set slots n (Some d) in
+    let here = in_front (slice_set slots n (Some d)) (map Some others) n (omega (arith, below, counted)) ∙ set_at slots n (Some d) below in
+    same_Some d c (same_Some (Some d) (Some c) (sym here ∙ e))
+
+of_first : {X : Type 0} (R : X → Branch → Type 0) (parts : List X) (cases : List Branch) (of : X) (c : Branch) → AllZip R parts cases → slice_get parts 0 ≡ Some of → BeginsWith cases c → R of c
+of_first R [] [] of c h e begins = absurd begins
+of_first R [] (d ∷ cases) of c h e begins = absurd h
+of_first R (part ∷ parts) [] of c h e begins = absurd begins
+of_first R (part ∷ parts) (d ∷ cases) of c h e begins = subst (λ x. R x c) (same_Some part of e) (subst (R part) begins h.0)
+
+of_one : (cases : List Branch) (new c : Branch) → cases ≡ new ∷ [] → BeginsWith cases c → new ≡ c
+of_one cases new c e begins = subst (λ cs. BeginsWith cs c) e begins
+
+rows_same : (xs ys : List Term) → map Some xs ≡ map Some ys → xs ≡ ys
+rows_same [] [] e = refl
+rows_same [] (y ∷ ys) e = cc
+rows_same (x ∷ xs) [] e = cc
+rows_same (x ∷ xs) (y ∷ ys) e =
+    let first : x ≡ y = cc in
+    let rest = rows_same xs ys (let r : map Some xs ≡ map Some ys = cc in r) in
+    cc
+
+at_least : (bound round : ℕ) (b c : Branch) → bound ≤ round → GrowsQuietly round b c → GrowsQuietly bound b c
+at_least bound round b c low h =
+    record {
+      growth = h.growth;
+      late = All-weaker (λ (fact : Fact). round ≤ fact.round) (λ (fact : Fact). bound ≤ fact.round)
+          (λ fact (it : round ≤ fact.round). let all : bound ≤ fact.round = omega (arith, low, it) in all) h.growth.facts h.late;
+    }
+
+-- ---- each kind
+
+module _ (p : Problem) (b c : Branch) (grounded : IsGrounded b) (filled : FactsAreFilled p.policy.schema b) where
+  entry_grows : (branch entry round : ℕ) (cases : List Branch) → EntryLeads p b entry cases → BeginsWith cases c → IsQuietEntry p b entry → IsRound p b (steps.Entry branch entry) round →
+      GrowsQuietly round b c
+  entry_grows branch entry round cases leads begins quiet round_at =
+      let it : quiet.it ≡ leads.it = same_Some quiet.it leads.it (sym quiet.there ∙ leads.there) in
+      let round_same : leads.round ≡ round = round_once p b (steps.Entry branch entry) leads.round round (record { it = leads.it; there = leads.there; round_is = leads.round_is }) round_at in
+      let part_is : slice_get leads.it.query.parts 0 ≡ Some quiet.of = subst (λ (e : ProblemEntry). slice_get e.query.parts 0 ≡ Some quiet.of) it quiet.part_is in
+      let row : quiet.row ≡ leads.row =
+      rows_same quiet.row leads.row (sym (subst (λ (e : ProblemEntry). map (term_of []) e.row ≡ map Some quiet.row) it quiet.row_is) ∙ leads.row_is) in
+      let gives = subst (GivesRow p.policy.schema b quiet.of quiet.rows) row quiet.gives in
+      let case = of_first (IsCase p.policy.schema b One leads.round leads.row) leads.it.query.parts cases quiet.of c leads.cases_are part_is begins in
+      let there = row_there b [] leads.it.row leads.row (record { facts = grounded.facts }) leads.row_is in
+      subst (λ r. GrowsQuietly r b c) round_same (case_grows p.policy.schema b One leads.round quiet.of quiet.rows leads.row gives c there case)
+
+  rule_grows : (rule part : ℕ) (facts : List ℕ) (cases : List Branch) → RuleLeads p b rule part facts cases → BeginsWith cases c → IsQuietRule p b rule part facts →
+      GrowsQuietly (1 + round_of b facts) b c
+  rule_grows rule part facts cases leads begins quiet =
+      let it : quiet.it ≡ leads.it = same_Some quiet.it leads.it (sym quiet.rule_is ∙ leads.rule_is) in
+      let left : quiet.left ≡ leads.left =
+      same_Some quiet.left leads.left (sym (subst (λ (r : Rule). slice_get r.left.parts part ≡ Some quiet.left) it quiet.left_is) ∙ leads.part_is) in
+      let part_is : slice_get leads.it.right.parts 0 ≡ Some quiet.of = subst (λ (r : Rule). slice_get r.right.parts 0 ≡ Some quiet.of) it quiet.part_is in
+      let row : quiet.row ≡ leads.row =
+      rows_same quiet.row leads.row (sym (subst (λ (q : Part). row_of b facts q.head ≡ map Some quiet.row) left quiet.row_is) ∙ leads.yields.head) in
+      let gives = subst (GivesRow p.policy.schema b quiet.of quiet.rows) row quiet.gives in
+      let case = of_first (IsCase p.policy.schema b leads.side (1 + round_of b facts) leads.row) leads.it.right.parts cases quiet.of c leads.cases_are part_is begins in
+      let there = row_there b facts leads.left.head leads.row (record { facts = grounded.facts }) leads.yields.head in
+      case_grows p.policy.schema b leads.side (1 + round_of b facts) quiet.of quiet.rows leads.row gives c there case
+
+  view_grows : (view part : ℕ) (facts : List ℕ) (cases : List Branch) → ViewLeads p b view part facts cases → BeginsWith cases c → IsQuietView p b view part facts →
+      GrowsQuietly (1 + round_of b facts) b c
+  view_grows view part facts cases leads begins quiet =
+      let s = p.policy.schema in
+      let it : quiet.it ≡ leads.it = same_Some quiet.it leads.it (sym quiet.view_is ∙ leads.view_is) in
+      let part_is : slice_get leads.it.query.parts 0 ≡ Some quiet.of = subst (λ (v : View). slice_get v.query.parts 0 ≡ Some quiet.of) it quiet.part_is in
+      let of : quiet.of ≡ leads.of = same_Some quiet.of leads.of (sym part_is ∙ subst (λ n. slice_get leads.it.query.parts n ≡ Some leads.of) quiet.first leads.part_is) in
+      let plain = subst (λ (q : Part). All (Under (IsPlain b.known) (rows_at b facts)) q.conds) of quiet.plain in
+      let gives = yields_gives s b filled One leads.of facts leads.row leads.yields plain in
+      let first : slice_get leads.it.query.parts 0 ≡ Some leads.of = part_is ∙ ap Some of in
+      let case = of_first (IsCase s b Two (1 + round_of b facts) leads.row) leads.it.query.parts cases leads.of c leads.cases_are first begins in
+      let there = row_there b facts leads.of.head leads.row (record { facts = grounded.facts }) leads.yields.head in
+      case_grows s b Two (1 + round_of b facts) leads.of (rows_at b facts) leads.row gives c there case
+
+  link_same : (link : ℕ) (f g : Fact) (it other : Link) → f ≡ g → IsLinkOf p.policy.schema f link it → IsLinkOf p.policy.schema g link other → it ≡ other
+  link_same link f g it other same h k =
+      let table : h.table ≡ k.table =
+      same_Some h.table k.table (sym h.table_is ∙ subst (λ (x : Fact). slice_get p.policy.schema.tables x.table ≡ Some k.table) (sym same) k.table_is) in
+      same_Some it other (sym (subst (λ (t : Table). slice_get t.links link ≡ Some it) table h.link_is) ∙ k.link_is)
+
+  link_grows_by : (link fact : ℕ) (cases : List Branch) → LinkLeads p b link fact cases → BeginsWith cases c → IsQuietLink p.policy.schema b link fact →
+      GrowsQuietly (1 + round_of b (fact ∷ [])) b c
+  link_grows_by link fact cases leads begins quiet =
+      let s = p.policy.schema in
+      let f : quiet.f ≡ leads.f = same_Some quiet.f leads.f (sym quiet.fact_is ∙ leads.fact_is) in
+      let it : quiet.it ≡ leads.it = link_same link quiet.f leads.f quiet.it leads.it f quiet.link_of leads.link_of in
+      let distinct = subst (λ (l : Link). IsDistinct nat_eq l.target_columns) it quiet.distinct in
+      let there = All-at (λ (x : Fact). All (IsThere b.known) x.terms) b.facts fact leads.f grounded.facts leads.fact_is in
+      let at = round_is b fact leads.f leads.fact_is in
+      let same : 1 + leads.f.round ≡ 1 + round_of b (fact ∷ []) = omega (arith, at) in
+      let new = with_lessons (with_fact s leads.f.side (1 + leads.f.round) b leads.it.target) leads.lessons in
+      subst (GrowsQuietly (1 + round_of b (fact ∷ [])) b) (of_one cases new c leads.cases_are begins)
+      (subst (λ r. GrowsQuietly r b new) same (link_grows s b leads.f leads.it there leads.not_null distinct leads.lessons leads.lessons_are))
+
+  step_grows : (step : Step) (cases : List Branch) (round : ℕ) → Leads p b step cases → BeginsWith cases c → IsQuietStep p b step → IsRound p b step round → GrowsQuietly round b c
+  step_grows (steps.Entry branch entry) cases round leads begins quiet round_at = entry_grows branch entry round cases leads begins quiet round_at
+  step_grows (steps.Key branch key left right) cases round leads begins quiet round_at = absurd quiet
+  step_grows (steps.Link branch link fact) cases round leads begins quiet round_at =
+      subst (λ r. GrowsQuietly r b c) (sym round_at) (link_grows_by link fact cases leads begins quiet)
+  step_grows (steps.Rule branch rule part facts) cases round leads begins quiet round_at =
+      subst (λ r. GrowsQuietly r b c) (sym round_at) (rule_grows rule part facts cases leads begins quiet)
+  step_grows (steps.View branch view part facts) cases round leads begins quiet round_at =
+      subst (λ r. GrowsQuietly r b c) (sym round_at) (view_grows view part facts cases leads begins quiet)
+  step_grows (steps.Split branch atom) cases round leads begins quiet round_at = absurd quiet
+  step_grows (steps.Absurd branch) cases round leads begins quiet round_at = absurd quiet
+  step_grows (steps.Goal branch part facts) cases round leads begins quiet round_at = absurd quiet
+
+pub quiet_step_keeps : QuietStepKeeps
+quiet_step_keeps p taken step old new b c round bound fits runs takes was is quiet round_at low h =
+    let n = branch_of step in
+    let same : takes.branch ≡ b = same_Some takes.branch b (same_Some (Some takes.branch) (Some b) (sym takes.open_ ∙ was)) in
+    let leads = subst (λ d. Leads p d step takes.cases) same takes.leads in
+    let begins = first_case old n takes.cases c (slice_get_within old n (Some b) was) (subst (λ slots. IsOpen slots n c) takes.new_is is) in
+    let grounded = runs_are_grounded p taken old n b fits runs was in
+    let filled = runs_are_filled p taken old n b runs was in
+    let grows = step_grows p b c grounded filled step takes.cases round leads begins quiet round_at in
+    quiet_stays p b c n n bound grounded (at_least bound round b c low grows) h

@@ -1,0 +1,85 @@
+-- What quiet steps lead to.
+use Rattle.std.proofs.Common.{◌≡◌, ◌∙◌, ℕ, zero, suc, ◌+◌, ◌<◌, ◌≤◌, List, [], ◌∷◌, ◌++◌, length, map, refl, ap, sym, subst, arith}
+use Rattle.std.proofs.lemmas.List.Elements.{All-cons, All-head, All-nil, All-tail}
+use Rattle.std.proofs.lemmas.Option.{same_Some}
+use Rattle.std.specs.List.{All, AllZip}
+use Rattle.std.specs.Prelude.{Option, Some, None, slice_get}
+use Rattle.ba_model.specs.declared.query.Atom.{Atom}
+use Rattle.ba_model.specs.declared.query.Op.{Op}
+use Rattle.ba_model.specs.declared.query.Op.TheVariants.{Eq, Ne, Lt, Le, IsNull, NotNull}
+use Rattle.ba_model.specs.declared.query.Operand.{Operand}
+use Rattle.ba_model.specs.declared.query.Part.{Part}
+use Rattle.ba_model.specs.declared.schema.Schema.{Schema}
+use Rattle.ba_facts.specs.Known.{Known, OneClass, itself}
+use Rattle.ba_facts.specs.Matches.{IsFactOf, IsMapping, IsShown, Under, row_of, term_of, terms_at}
+use Rattle.ba_facts.specs.Shown.{ShowsOf}
+use Rattle.ba_facts.specs.declared.branch.Branch.{Branch}
+use Rattle.ba_facts.specs.declared.term.Fact.{Fact}
+use Rattle.ba_facts.specs.declared.term.Side.{Side}
+use Rattle.ba_facts.specs.declared.term.Term.{Term}
+use Rattle.ba_kernel.proofs.StepFits.{All-at}
+use Rattle.ba_kernel.specs.Effects.{Yields, rows_at}
+use Rattle.ba_instant.specs.QuietSteps.{FactsAreFilled, GivesRow, IsOneWith, IsPlain, IsRowFor}
+use Rattle.ba_instant.specs.Windows.{IsToldOf}
+
+-- ---- facts that yield a row give it
+
+module _ (s : Schema) (b : Branch) (filled : FactsAreFilled s b) where
+  abbrev k : Known
+  k = b.known
+
+  fact_row : (side : Side) (table n : ℕ) → IsFactOf b side table n → IsRowFor s k table (terms_at b n)
+  fact_row side table n h =
+      let it = All-at (λ (fact : Fact). IsRowFor s k fact.table fact.terms) b.facts n h.fact filled.facts h.there in
+      let terms_are : terms_at b n ≡ h.fact.terms = cc (h.there) in
+      subst (λ ts. IsRowFor s k table ts) (sym terms_are) (subst (λ t. IsRowFor s k t h.fact.terms) h.table_is it)
+
+  fact_rows : (side : Side) (from facts : List ℕ) → IsMapping b side from facts → AllZip (IsRowFor s k) from (rows_at b facts)
+  fact_rows side [] [] h = tt
+  fact_rows side [] (n ∷ facts) h = absurd h
+  fact_rows side (table ∷ from) [] h = absurd h
+  fact_rows side (table ∷ from) (n ∷ facts) h = (fact_row side table n h.0, fact_rows side from facts h.1)
+
+  plain_told : (op : Op) (x y : Term) → ShowsOf k op x y → IsPlain k op x y → IsToldOf k op x y
+  plain_told Eq x y h plain = (h.not_null, plain)
+  plain_told Ne x y h plain = (h.0, plain)
+  plain_told Lt x y h plain = h
+  plain_told Le x y h plain = h
+  plain_told IsNull x y h plain = h
+  plain_told NotNull x y h plain = h
+
+  atom_told : (rows : List (List Term)) (atom : Atom) → IsShown k rows atom → Under (IsPlain k) rows atom → Under (IsToldOf k) rows atom
+  atom_told rows atom h plain =
+      let left : plain.left ≡ h.left = same_Some plain.left h.left (sym plain.left_is ∙ h.left_is) in
+      let right : plain.right ≡ h.right = same_Some plain.right h.right (sym plain.right_is ∙ h.right_is) in
+      record {
+        left = h.left;
+        right = h.right;
+        left_is = h.left_is;
+        right_is = h.right_is;
+        holds = plain_told atom.op h.left h.right h.holds (subst (λ x. IsPlain k atom.op x h.right) left (subst (IsPlain k atom.op plain.left) right plain.holds));
+      }
+
+  atoms_told : (rows : List (List Term)) (conds : List Atom) → All (IsShown k rows) conds → All (Under (IsPlain k) rows) conds → All (Under (IsToldOf k) rows) conds
+  atoms_told rows [] h plain = All-nil (Under (IsToldOf k) rows)
+  atoms_told rows (atom ∷ conds) h plain =
+      All-cons (Under (IsToldOf k) rows) atom conds (atom_told rows atom (All-head (IsShown k rows) atom conds h) (All-head (Under (IsPlain k) rows) atom conds plain))
+      (atoms_told rows conds (All-tail (IsShown k rows) atom conds h) (All-tail (Under (IsPlain k) rows) atom conds plain))
+
+  head_given : (rows : List (List Term)) (head : List Operand) (row : List Term) → map (term_of rows) head ≡ map Some row → AllZip (IsOneWith k) (map (term_of rows) head) row
+  head_given rows [] [] e = tt
+  head_given rows [] (t ∷ row) e = cc
+  head_given rows (x ∷ head) [] e = cc
+  head_given rows (x ∷ head) (t ∷ row) e =
+      let first : term_of rows x ≡ Some t = cc in
+      let rest : map (term_of rows) head ≡ map Some row = cc in
+      (record { term = t; is = first; class = itself }, head_given rows head row rest)
+
+  pub yields_gives : (side : Side) (part : Part) (facts : List ℕ) (row : List Term) → Yields b side part facts row → All (Under (IsPlain k) (rows_at b facts)) part.conds →
+      GivesRow s b part (rows_at b facts) row
+  yields_gives side part facts row h plain =
+      record {
+        rows_for = fact_rows side part.from facts h.mapping;
+        told = atoms_told (rows_at b facts) part.conds h.shown plain;
+        head = head_given (rows_at b facts) part.head row h.head;
+      }
