@@ -19,7 +19,7 @@ use Rattle.ba_facts.specs.declared.term.Side.TheVariants.{One, Two}
 use Rattle.ba_facts.specs.declared.term.Term.{Term}
 use Rattle.ba_kernel.proofs.BuildNext.{row_there}
 use Rattle.ba_kernel.proofs.StepFits.{All-at}
-use Rattle.ba_kernel.specs.Courses.{IsOpen, Slots, after, branch_of}
+use Rattle.ba_kernel.specs.Courses.{IsOpen, ProblemFits, Slots, after, branch_of}
 use Rattle.ba_kernel.specs.Effects.{EntryLeads, IsCase, IsLinkOf, Leads, LinkLeads, RuleLeads, ViewLeads, rows_at, with_fact, with_lessons}
 use Rattle.ba_kernel.specs.News.{IsRound}
 use Rattle.ba_kernel.specs.declared.problem.Problem.{Problem}
@@ -31,10 +31,10 @@ use Rattle.ba_instant.proofs.GivenLemmas.{case_grows}
 use Rattle.ba_instant.proofs.GroundRuns.{runs_are_grounded}
 use Rattle.ba_instant.proofs.LinkRowLemmas.{link_grows}
 use Rattle.ba_instant.proofs.OldFactLemmas.{round_is}
-use Rattle.ba_instant.proofs.QuietLemmas.{quiet_stays}
+use Rattle.ba_instant.proofs.QuietLemmas.{new_was_new, quiet_stays}
 use Rattle.ba_instant.proofs.QuietStepLemmas.{yields_gives}
 use Rattle.ba_instant.proofs.RoundLemmas.{round_once}
-use Rattle.ba_instant.specs.QuietSteps.{FactsAreFilled, GivesRow, IsPlain, IsQuietEntry, IsQuietLink, IsQuietRule, IsQuietStep, IsQuietView, QuietStepKeeps}
+use Rattle.ba_instant.specs.QuietSteps.{FactsAreFilled, GivesRow, IsPlain, IsQuietEntry, IsQuietLink, IsQuietRule, IsQuietStep, IsQuietView, NewAfterQuietStep, QuietStepKeeps, TakesQuietly}
 use Rattle.ba_instant.specs.Windows.{GrowsQuietly, IsGrounded}
 
 -- ---- the case that keeps the number
@@ -164,13 +164,24 @@ module _ (p : Problem) (b c : Branch) (grounded : IsGrounded b) (filled : FactsA
   step_grows (steps.Absurd branch) cases round leads begins quiet round_at = absurd quiet
   step_grows (steps.Goal branch part facts) cases round leads begins quiet round_at = absurd quiet
 
+module _ (p : Problem) (taken : List Step) (step : Step) (old new : Slots) (b c : Branch) (round : ℕ) (fits : ProblemFits p) (it : TakesQuietly p taken step old new b c round) where
+  grounded_there : IsGrounded b
+  grounded_there = runs_are_grounded p taken old (branch_of step) b fits it.runs it.from
+
+  grows_there : GrowsQuietly round b c
+  grows_there =
+      let n = branch_of step in
+      let same : it.takes.branch ≡ b = same_Some it.takes.branch b (same_Some (Some it.takes.branch) (Some b) (sym it.takes.open_ ∙ it.from)) in
+      let leads = subst (λ d. Leads p d step it.takes.cases) same it.takes.leads in
+      let begins = first_case old n it.takes.cases c (slice_get_within old n (Some b) it.from) (subst (λ slots. IsOpen slots n c) it.takes.new_is it.to) in
+      let filled = runs_are_filled p taken old n b it.runs it.from in
+      step_grows p b c grounded_there filled step it.takes.cases round leads begins it.quiet it.round_is
+
+pub new_after_quiet_step : NewAfterQuietStep
+new_after_quiet_step p taken step old new b c round other its_round fits it telling is_new its low =
+    new_was_new p b c (branch_of step) round other its_round (grounded_there p taken step old new b c round fits it) (grows_there p taken step old new b c round fits it) telling low is_new its
+
 pub quiet_step_keeps : QuietStepKeeps
-quiet_step_keeps p taken step old new b c round bound fits runs takes was is quiet round_at low h =
+quiet_step_keeps p taken step old new b c round bound fits it low quiet =
     let n = branch_of step in
-    let same : takes.branch ≡ b = same_Some takes.branch b (same_Some (Some takes.branch) (Some b) (sym takes.open_ ∙ was)) in
-    let leads = subst (λ d. Leads p d step takes.cases) same takes.leads in
-    let begins = first_case old n takes.cases c (slice_get_within old n (Some b) was) (subst (λ slots. IsOpen slots n c) takes.new_is is) in
-    let grounded = runs_are_grounded p taken old n b fits runs was in
-    let filled = runs_are_filled p taken old n b runs was in
-    let grows = step_grows p b c grounded filled step takes.cases round leads begins quiet round_at in
-    quiet_stays p b c n n bound grounded (at_least bound round b c low grows) h
+    quiet_stays p b c n n bound (grounded_there p taken step old new b c round fits it) (at_least bound round b c low (grows_there p taken step old new b c round fits it)) quiet

@@ -20,11 +20,12 @@ use Rattle.ba_facts.specs.declared.term.Side.{Side}
 use Rattle.ba_facts.specs.declared.term.Term.{Term}
 use Rattle.ba_kernel.specs.Courses.{IsOpen, ProblemFits, Runs, Slots, Takes, branch_of}
 use Rattle.ba_kernel.specs.Effects.{IsCase, IsLinkOf, rows_at}
-use Rattle.ba_kernel.specs.News.{IsRound}
+use Rattle.ba_kernel.specs.News.{IsNewOn, IsRound}
 use Rattle.ba_kernel.specs.declared.problem.Problem.{Problem}
 use Rattle.ba_kernel.specs.declared.problem.ProblemEntry.{ProblemEntry}
 use Rattle.ba_kernel.specs.declared.step.Step.{Step}
 use Rattle.ba_kernel.specs.declared.step.Step.TheVariants as steps
+use Rattle.ba_instant.specs.Offers.{IsTelling}
 use Rattle.ba_instant.specs.Windows.{GrowsQuietly, IsGrounded, IsQuietUpto, IsToldOf}
 
 -- ---- rows of terms that give a row already, facts or not
@@ -126,8 +127,22 @@ abbrev pub GivenCaseIsQuiet : Type 0
 GivenCaseIsQuiet = (s : Schema) (b c : Branch) (side : Side) (round : ℕ) (part : Part) (rows : List (List Term)) (row : List Term) →
     All (IsThere b.known) row → GivesRow s b part rows row → IsCase s b side round row part c → GrowsQuietly round b c
 
+-- the step is accepted, and leads from b to c at its number; it is quiet, and has this round
+pub record TakesQuietly (p : Problem) (taken : List Step) (step : Step) (old new : Slots) (b c : Branch) (round : ℕ) : Type 0 where
+  pub runs : Runs p taken old
+  pub takes : Takes p old step new
+  pub from : IsOpen old (branch_of step) b
+  pub to : IsOpen new (branch_of step) c
+  pub quiet : IsQuietStep p b step
+  pub round_is : IsRound p b step round
+
+-- What is new after a quiet step, of a round up to the step's, was new before, of the same round.
+abbrev pub NewAfterQuietStep : Type 0
+NewAfterQuietStep = (p : Problem) (taken : List Step) (step : Step) (old new : Slots) (b c : Branch) (round : ℕ) (other : Step) (its_round : ℕ) → ProblemFits p →
+    TakesQuietly p taken step old new b c round → IsTelling (branch_of step) other → IsNewOn p c other → IsRound p c other its_round → its_round ≤ round →
+    IsNewOn p b other × IsRound p b other its_round
+
 -- After a quiet step the branch of its number stays quiet up to each round before the step's.
 abbrev pub QuietStepKeeps : Type 0
-QuietStepKeeps = (p : Problem) (taken : List Step) (step : Step) (old new : Slots) (b c : Branch) (round bound : ℕ) → ProblemFits p → Runs p taken old → Takes p old step new →
-    IsOpen old (branch_of step) b → IsOpen new (branch_of step) c → IsQuietStep p b step → IsRound p b step round → bound ≤ round →
-    IsQuietUpto p b (branch_of step) bound → IsQuietUpto p c (branch_of step) bound
+QuietStepKeeps = (p : Problem) (taken : List Step) (step : Step) (old new : Slots) (b c : Branch) (round bound : ℕ) → ProblemFits p →
+    TakesQuietly p taken step old new b c round → bound ≤ round → IsQuietUpto p b (branch_of step) bound → IsQuietUpto p c (branch_of step) bound

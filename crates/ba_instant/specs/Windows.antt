@@ -77,6 +77,11 @@ pub record IsGrounded (b : Branch) : Type 0 where
 abbrev pub RunsAreGrounded : Type 0
 RunsAreGrounded = (p : Problem) (taken : List Step) (slots : Slots) (number : ℕ) (b : Branch) → ProblemFits p → Runs p taken slots → IsOpen slots number b → IsGrounded b
 
+-- Where a branch grows quietly by facts of no round below the bound, a step of a round up to the bound that is new then was new before, of the same round.
+abbrev pub NewWasNew : Type 0
+NewWasNew = (p : Problem) (b c : Branch) (number bound : ℕ) (step : Step) (round : ℕ) → IsGrounded b → GrowsQuietly bound b c → IsTelling number step → round ≤ bound →
+    IsNewOn p c step → IsRound p c step round → IsNewOn p b step × IsRound p b step round
+
 -- where a branch grows quietly by facts of no round below the bound, it stays quiet up to the bound, whatever its number is then
 abbrev pub QuietStays : Type 0
 QuietStays = (p : Problem) (b c : Branch) (number other bound : ℕ) → IsGrounded b → GrowsQuietly bound b c → IsQuietUpto p b number bound → IsQuietUpto p c other bound

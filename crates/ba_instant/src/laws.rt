@@ -1,7 +1,7 @@
 //! What holds of every search, stated as functions that do nothing.
 ghost use Rattle.ba_instant.specs.Dues.{DueListsAreOne, PickedIsOne, SearchesAreDue};
-ghost use Rattle.ba_instant.specs.QuietSteps.{GivenCaseIsQuiet, QuietStepKeeps, RunsAreFilled};
-ghost use Rattle.ba_instant.specs.Windows.{DueIsQuiet, QuietAtFirst, QuietIsNotAbsurd, QuietStays, RunsAreGrounded};
+ghost use Rattle.ba_instant.specs.QuietSteps.{GivenCaseIsQuiet, NewAfterQuietStep, QuietStepKeeps, RunsAreFilled};
+ghost use Rattle.ba_instant.specs.Windows.{DueIsQuiet, NewWasNew, QuietAtFirst, QuietIsNotAbsurd, QuietStays, RunsAreGrounded};
 
 /// The steps of a search are a due list of its problem.
 pub fn searches_are_due()
@@ -24,8 +24,13 @@ pub fn runs_are_grounded()
     ensures { RunsAreGrounded }
 {}
 
-/// Where a branch grows quietly by facts of no round below a bound, no step up to the bound gets new
-/// that wasn't.
+/// Where a branch grows quietly by facts of no round below a bound, a step of a round up to the bound
+/// that is new then was new before, of the same round.
+pub fn new_was_new()
+    ensures { NewWasNew }
+{}
+
+/// Where a branch grows quietly by facts of no round below a bound, it stays quiet up to the bound.
 pub fn quiet_stays()
     ensures { QuietStays }
 {}
@@ -53,6 +58,11 @@ pub fn runs_are_filled()
 /// A case of a row that some rows of terms give already grows quietly.
 pub fn given_case_is_quiet()
     ensures { GivenCaseIsQuiet }
+{}
+
+/// What is new after a quiet step, of a round up to the step's, was new before, of the same round.
+pub fn new_after_quiet_step()
+    ensures { NewAfterQuietStep }
 {}
 
 /// After a quiet step the branch of its number stays quiet up to each round before the step's.
