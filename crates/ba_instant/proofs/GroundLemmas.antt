@@ -1,44 +1,27 @@
 -- Lessons of terms that are there, and branches to which they are added.
-use Rattle.std.proofs.Common.{◌≡◌, ℕ, ◌+◌, ◌<◌, ◌≤◌, List, [], ◌∷◌, ◌++◌, length, map, refl, sym, subst, arith}
-use Rattle.std.proofs.lemmas.List.Elements.{All-append, All-cons, All-head, All-map, All-nil, All-set, All-tail, All-weaker}
-use Rattle.std.proofs.lemmas.Option.{same_Some, slice_get_within}
+use Rattle.std.proofs.Common.{◌≡◌, ℕ, ◌≤◌, List, [], ◌∷◌, ◌++◌, length, map, refl, sym, subst, arith}
+use Rattle.std.proofs.lemmas.List.Elements.{All-append, All-cons, All-head, All-nil, All-tail, All-weaker}
+use Rattle.std.proofs.lemmas.Option.{same_Some}
 use Rattle.std.specs.List.{All, AllZip, range_with_len, zip}
 use Rattle.std.specs.Option.{option_map}
 use Rattle.std.specs.Prelude.{Option, Some, None, option_and_then, slice_get}
 use Rattle.ba_model.specs.declared.query.Atom.{Atom}
 use Rattle.ba_model.specs.declared.query.Op.{Op}
-use Rattle.ba_model.specs.declared.query.Op.TheVariants.{Eq, Ne, Lt, Le, IsNull, NotNull}
 use Rattle.ba_model.specs.declared.query.Operand.{Operand}
 use Rattle.ba_model.specs.declared.query.Part.{Part}
-use Rattle.ba_model.specs.declared.schema.Kind.{Kind}
 use Rattle.ba_model.specs.declared.schema.Schema.{Schema}
 use Rattle.ba_facts.specs.Known.{Known}
 use Rattle.ba_facts.specs.Knowing.{IsThere, LessonIsThere}
-use Rattle.ba_facts.specs.Laws.{kind_of_term}
-use Rattle.ba_facts.specs.Matches.{round_of, term_of, terms_at}
+use Rattle.ba_facts.specs.Matches.{term_of}
 use Rattle.ba_facts.specs.declared.branch.Branch.{Branch}
-use Rattle.ba_facts.specs.declared.term.Fact.{Fact}
 use Rattle.ba_facts.specs.declared.term.Lesson.{Lesson}
 use Rattle.ba_facts.specs.declared.term.Lesson.TheVariants.{Same, Holds}
 use Rattle.ba_facts.specs.declared.term.Side.{Side}
-use Rattle.ba_facts.specs.declared.term.Side.TheVariants.{One, Two}
-use Rattle.ba_facts.specs.declared.term.Sort.{Sort}
 use Rattle.ba_facts.specs.declared.term.Term.{Term}
-use Rattle.ba_facts.specs.declared.term.Term.TheVariants.{Unknown, Val, Param, Var}
-use Rattle.ba_facts.specs.declared.term.TermAtom.{TermAtom}
-use Rattle.ba_kernel.proofs.BuildNext.{row_there, tidy_there}
-use Rattle.ba_kernel.proofs.BuildStarts.{nothing_there}
 use Rattle.ba_kernel.proofs.StepFits.{All-at}
-use Rattle.ba_kernel.proofs.TidyLemmas.{facts_there, row_there_more, term_there, terms_there, there_more, unknowns_kept}
-use Rattle.ba_kernel.proofs.TidyRuns.{runs_are_tidy}
-use Rattle.ba_kernel.specs.Courses.{IsStartOf, ProblemFits, Runs, Slots, after, branch_of, nothing_known, start, next}
-use Rattle.ba_kernel.specs.Effects.{IsCase, Leads, lesson_of, negation_of, rows_at, same_at, same_of, with_facts, with_lessons}
-use Rattle.ba_kernel.specs.Tests.{FactIsTidy, IsTidy}
+use Rattle.ba_kernel.proofs.TidyLemmas.{facts_there, row_there_more, term_there, there_more, unknowns_kept}
+use Rattle.ba_kernel.specs.Effects.{IsCase, lesson_of, rows_at, same_at, same_of, with_facts, with_lessons}
 use Rattle.ba_kernel.specs.Tidy.{FactsAreThere, TermsAreThere}
-use Rattle.ba_kernel.specs.declared.problem.Problem.{Problem}
-use Rattle.ba_kernel.specs.declared.step.Step.{Step}
-use Rattle.ba_kernel.specs.declared.step.Step.TheVariants as steps
-use Rattle.ba_instant.specs.Windows.{RunsAreGrounded}
 
 -- ---- lessons of terms that are there
 

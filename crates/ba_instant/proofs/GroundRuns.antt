@@ -1,5 +1,5 @@
 -- The open branches of a course are grounded.
-use Rattle.std.proofs.Common.{◌≡◌, ℕ, ◌+◌, ◌<◌, ◌≤◌, List, [], ◌∷◌, ◌++◌, length, map, refl, sym, subst, arith}
+use Rattle.std.proofs.Common.{◌≡◌, ℕ, ◌+◌, ◌<◌, List, [], ◌∷◌, ◌++◌, length, map, refl, sym, subst}
 use Rattle.std.proofs.lemmas.List.Elements.{All-append, All-cons, All-head, All-map, All-nil, All-set, All-tail}
 use Rattle.std.proofs.lemmas.Option.{slice_get_within}
 use Rattle.std.specs.List.{All, AllZip, range_with_len}
@@ -12,11 +12,11 @@ use Rattle.ba_model.specs.declared.query.Part.{Part}
 use Rattle.ba_model.specs.declared.schema.Kind.{Kind}
 use Rattle.ba_facts.specs.Knowing.{IsThere, LessonIsThere}
 use Rattle.ba_facts.specs.Laws.{kind_of_term}
-use Rattle.ba_facts.specs.Matches.{round_of, row_of, term_of, terms_at}
+use Rattle.ba_facts.specs.Matches.{round_of, term_of, terms_at}
 use Rattle.ba_facts.specs.declared.branch.Branch.{Branch}
 use Rattle.ba_facts.specs.declared.term.Fact.{Fact}
 use Rattle.ba_facts.specs.declared.term.Lesson.{Lesson}
-use Rattle.ba_facts.specs.declared.term.Lesson.TheVariants.{Same, Holds}
+use Rattle.ba_facts.specs.declared.term.Lesson.TheVariants.{Holds}
 use Rattle.ba_facts.specs.declared.term.Side.TheVariants.{One, Two}
 use Rattle.ba_facts.specs.declared.term.Sort.{Sort}
 use Rattle.ba_facts.specs.declared.term.Term.{Term}
@@ -34,8 +34,8 @@ use Rattle.ba_kernel.specs.Tidy.{FactsAreThere, TermsAreThere}
 use Rattle.ba_kernel.specs.declared.problem.Problem.{Problem}
 use Rattle.ba_kernel.specs.declared.step.Step.{Step}
 use Rattle.ba_kernel.specs.declared.step.Step.TheVariants as steps
-use Rattle.ba_instant.proofs.GroundLemmas.{LessonsAreThere, atoms_there, cases_there, facts_keep, lesson_more, lessons_more, links_there, pairs_there}
-use Rattle.ba_instant.specs.Windows.{IsGrounded, RunsAreGrounded}
+use Rattle.ba_instant.proofs.GroundLemmas.{LessonsAreThere, atoms_there, cases_there, facts_keep, lessons_more, links_there, pairs_there}
+use Rattle.ba_instant.specs.Windows.{RunsAreGrounded}
 
 -- ---- terms with a kind
 

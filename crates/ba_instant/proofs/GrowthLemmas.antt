@@ -1,18 +1,16 @@
 -- A branch that grew quietly knows what it knew, and no more of the terms that stand for those that it has.
-use Rattle.std.proofs.Common.{◌≡◌, ℕ, zero, suc, ◌+◌, ◌<◌, ◌≤◌, ◌⊎◌, pos, List, [], ◌∷◌, ◌++◌, Contains, inl, inr, length, refl, sym, subst, arith}
-use Rattle.std.proofs.lemmas.Bool.{cases_lt}
+use Rattle.std.proofs.Common.{◌≡◌, ℕ, zero, suc, ◌+◌, ◌⊎◌, List, [], ◌∷◌, ◌++◌, Contains, inl, inr, length, refl, sym, subst, arith}
 use Rattle.std.proofs.lemmas.List.Elements.{All-contains, Contains-append_cases, Contains-append_left}
-use Rattle.std.proofs.lemmas.Option.{slice_get-get_or, slice_get_within}
-use Rattle.std.specs.List.{All}
-use Rattle.std.specs.Prelude.{Some, None, false, slice_get}
+use Rattle.std.proofs.lemmas.Option.{slice_get_within}
+use Rattle.std.specs.Prelude.{Some, false, slice_get}
 use Rattle.ba_facts.proofs.Elements.{get_append_old}
 use Rattle.ba_model.specs.declared.query.Op.{Op}
 use Rattle.ba_model.specs.declared.query.Op.TheVariants.{Eq, Ne, Lt, Le, IsNull, NotNull}
 use Rattle.ba_model.specs.declared.value.Value.TheVariants.{Null}
-use Rattle.ba_facts.specs.Known.{Equated, IsComparison, Known, Learned, NotNullTerm, OneClass, ShownGap, ShownNotNull}
+use Rattle.ba_facts.specs.Known.{Equated, IsComparison, Known, Learned, NotNullTerm, OneClass, ShownNotNull}
 use Rattle.ba_facts.specs.Known.{same, equal, null, equated, itself, column, literal, param, var, left, right, recorded, at_most, less}
 use Rattle.ba_facts.specs.Knowing.{IsThere, LessonIsThere}
-use Rattle.ba_facts.specs.Shown.{NeitherNull, RecordedApart}
+use Rattle.ba_facts.specs.Shown.{NeitherNull}
 use Rattle.ba_facts.specs.declared.branch.Branch.{Branch}
 use Rattle.ba_facts.specs.declared.term.Lesson.{Lesson}
 use Rattle.ba_facts.specs.declared.term.Lesson.TheVariants.{Same, Holds}

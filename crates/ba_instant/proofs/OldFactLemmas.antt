@@ -1,9 +1,8 @@
 -- The facts of a branch after more were added, and mappings to them.
 use Rattle.std.proofs.Common.{◌≡◌, ℕ, ◌+◌, ◌<◌, ◌≤◌, ◌⊎◌, List, [], ◌∷◌, ◌++◌, inl, inr, length, map, max, refl, ap, ap₂, sym, ◌∙◌, subst, arith}
 use Rattle.std.proofs.lemmas.Option.{get_or_from_slice_get, slice_get_within}
-use Rattle.std.specs.List.{All, AllZip}
 use Rattle.std.specs.Option.{option_map}
-use Rattle.std.specs.Prelude.{Option, Some, None, slice_get, unwrap_or}
+use Rattle.std.specs.Prelude.{Option, Some, slice_get, unwrap_or}
 use Rattle.ba_facts.proofs.Elements.{get_append_old}
 use Rattle.ba_facts.specs.Matches.{IsFactOf, IsMapping, round_of, terms_at}
 use Rattle.ba_facts.specs.declared.branch.Branch.{Branch}

@@ -1,34 +1,24 @@
 -- After a quiet growth a step on facts that were there is new only if it was before.
-use Rattle.std.proofs.Common.{◌≡◌, ◌∙◌, ℕ, ◌+◌, ◌<◌, ◌≤◌, List, [], ◌∷◌, ◌++◌, Contains, inl, inr, length, map, refl, ap, sym, subst, arith}
+use Rattle.std.proofs.Common.{◌≡◌, ◌∙◌, ℕ, ◌+◌, ◌<◌, ◌≤◌, List, [], ◌∷◌, map, ap, sym, subst, arith}
 use Rattle.std.proofs.lemmas.List.Elements.{All-weaker}
-use Rattle.std.proofs.lemmas.Option.{slice_get-get_or, slice_get_within}
 use Rattle.std.specs.List.{All, AllZip, Any, zip}
-use Rattle.std.specs.Option.{option_map}
-use Rattle.std.specs.Prelude.{Option, Some, None, slice_get}
-use Rattle.ba_model.specs.declared.query.Op.{Op}
-use Rattle.ba_model.specs.declared.query.Op.TheVariants.{Eq, Ne, Lt, Le, IsNull, NotNull}
+use Rattle.std.specs.Prelude.{Some, slice_get}
+use Rattle.ba_model.specs.declared.query.Op.TheVariants.{Eq}
 use Rattle.ba_model.specs.declared.query.Operand.{Operand}
 use Rattle.ba_model.specs.declared.query.Part.{Part}
-use Rattle.ba_model.specs.declared.schema.Kind.{Kind}
-use Rattle.ba_model.specs.declared.schema.Schema.{Schema}
-use Rattle.ba_facts.proofs.Elements.{get_append_old}
 use Rattle.ba_facts.specs.Known.{Known}
 use Rattle.ba_facts.specs.Knowing.{IsThere}
-use Rattle.ba_facts.specs.Laws.{kind_of_term}
-use Rattle.ba_facts.specs.Matches.{GivesAtom, IsAnswered, IsLiveAtom, IsMapping, round_of, row_of, term_of, terms_at}
+use Rattle.ba_facts.specs.Matches.{IsAnswered, IsMapping, round_of, row_of, term_of, terms_at}
 use Rattle.ba_facts.specs.Shown.{TheSame}
 use Rattle.ba_facts.specs.declared.branch.Branch.{Branch}
 use Rattle.ba_facts.specs.declared.term.Fact.{Fact}
 use Rattle.ba_facts.specs.declared.term.Side.{Side}
 use Rattle.ba_facts.specs.declared.term.Side.TheVariants.{One, Two}
-use Rattle.ba_facts.specs.declared.term.Sort.{Sort}
 use Rattle.ba_facts.specs.declared.term.Term.{Term}
-use Rattle.ba_facts.specs.declared.term.Term.TheVariants.{Unknown, Val, Param, Var}
-use Rattle.ba_facts.specs.declared.term.TermAtom.{TermAtom}
 use Rattle.ba_kernel.proofs.StepFits.{All-at}
 use Rattle.ba_kernel.proofs.TidyLemmas.{term_there}
-use Rattle.ba_kernel.specs.Effects.{AreEqualAt, IsNotNullAt, MayBeSplit, SplitFits}
-use Rattle.ba_kernel.specs.News.{AreEqualIn, EntryIsMet, IsCandidate, IsNewOn, IsOfNewKind, IsRound, IsSplitRound, KeyIsMet, LinkIsMet, RuleIsMet, SplitTells, ViewIsMet, of_view, of_goal, of_rule}
+use Rattle.ba_kernel.specs.Effects.{AreEqualAt, IsNotNullAt}
+use Rattle.ba_kernel.specs.News.{AreEqualIn, EntryIsMet, IsNewOn, IsRound, KeyIsMet, LinkIsMet, RuleIsMet, ViewIsMet}
 use Rattle.ba_kernel.specs.Tests.{FactsPass, KeyPasses, LinkPasses, RulePasses, ViewPasses}
 use Rattle.ba_kernel.specs.declared.problem.Problem.{Problem}
 use Rattle.ba_kernel.specs.declared.step.Step.{Step}
@@ -36,8 +26,8 @@ use Rattle.ba_kernel.specs.declared.step.Step.TheVariants as steps
 use Rattle.ba_instant.proofs.CarryLemmas.{Carries}
 use Rattle.ba_instant.proofs.GrowthLemmas.{known_before, still_known}
 use Rattle.ba_instant.proofs.OldFactLemmas.{AreKept, are_kept, fact_before, fact_kept, fact_of_kept, low_first, mapping_before, mapping_kept, round_is, round_kept, terms_kept}
-use Rattle.ba_instant.proofs.OldMappingLemmas.{given_on, live_atom_back, live_atom_on, row_kept, shown_back}
-use Rattle.ba_instant.proofs.OldTermLemmas.{neither_back, not_null_back, refutes_on, same_on, shows_back, shows_on}
+use Rattle.ba_instant.proofs.OldMappingLemmas.{given_on, row_kept, shown_back}
+use Rattle.ba_instant.proofs.OldTermLemmas.{not_null_back, same_on, shows_back, shows_on}
 use Rattle.ba_instant.specs.Windows.{AreLate, IsGrounded, IsQuietGrowth}
 
 module _ (p : Problem) (b c : Branch) (grounded : IsGrounded b) (growth : IsQuietGrowth b c) where

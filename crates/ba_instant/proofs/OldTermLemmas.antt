@@ -1,5 +1,5 @@
 -- After a quiet growth just that is shown and refuted of the terms that were there which was before.
-use Rattle.std.proofs.Common.{◌≡◌, List, inl, inr, sym, subst}
+use Rattle.std.proofs.Common.{◌≡◌, List, subst}
 use Rattle.std.specs.Prelude.{Some}
 use Rattle.ba_model.specs.declared.query.Atom.{Atom}
 use Rattle.ba_model.specs.declared.query.Op.{Op}

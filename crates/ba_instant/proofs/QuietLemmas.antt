@@ -1,5 +1,5 @@
 -- A branch that grows quietly stays quiet; it is quiet before its due step, and up to 0.
-use Rattle.std.proofs.Common.{◌≡◌, ◌∙◌, ℕ, ◌+◌, ◌<◌, ◌≤◌, List, inl, inr, refl, ap, sym, subst, arith}
+use Rattle.std.proofs.Common.{◌≡◌, ◌∙◌, ℕ, ◌<◌, ◌≤◌, inl, inr, refl, ap, sym, subst, arith}
 use Rattle.std.proofs.lemmas.Bool.{cases_lt}
 use Rattle.ba_facts.specs.declared.branch.Branch.{Branch}
 use Rattle.ba_kernel.specs.Courses.{branch_of}
@@ -13,7 +13,6 @@ use Rattle.ba_instant.proofs.CarryLemmas.{absurd_back}
 use Rattle.ba_instant.proofs.GrowthLemmas.{known_before}
 use Rattle.ba_instant.proofs.OldSplitLemmas.{split_before}
 use Rattle.ba_instant.proofs.OldStepLemmas.{entry_before, key_before, link_before, rule_before, view_before}
-use Rattle.ba_instant.specs.Dues.{IsDue}
 use Rattle.ba_instant.specs.Offers.{IsTelling}
 use Rattle.ba_instant.specs.Windows.{AreLate, DueIsQuiet, IsGrounded, IsQuietGrowth, IsQuietUpto, NewWasNew, QuietAtFirst, QuietIsNotAbsurd, QuietStays}
 

@@ -1,17 +1,17 @@
 -- What quiet steps lead to.
-use Rattle.std.proofs.Common.{◌≡◌, ◌∙◌, ℕ, zero, suc, ◌+◌, ◌<◌, ◌≤◌, List, [], ◌∷◌, ◌++◌, length, map, refl, ap, sym, subst, arith}
+use Rattle.std.proofs.Common.{◌≡◌, ◌∙◌, ℕ, List, [], ◌∷◌, map, sym, subst}
 use Rattle.std.proofs.lemmas.List.Elements.{All-cons, All-head, All-nil, All-tail}
 use Rattle.std.proofs.lemmas.Option.{same_Some}
 use Rattle.std.specs.List.{All, AllZip}
-use Rattle.std.specs.Prelude.{Option, Some, None, slice_get}
+use Rattle.std.specs.Prelude.{Some}
 use Rattle.ba_model.specs.declared.query.Atom.{Atom}
 use Rattle.ba_model.specs.declared.query.Op.{Op}
 use Rattle.ba_model.specs.declared.query.Op.TheVariants.{Eq, Ne, Lt, Le, IsNull, NotNull}
 use Rattle.ba_model.specs.declared.query.Operand.{Operand}
 use Rattle.ba_model.specs.declared.query.Part.{Part}
 use Rattle.ba_model.specs.declared.schema.Schema.{Schema}
-use Rattle.ba_facts.specs.Known.{Known, OneClass, itself}
-use Rattle.ba_facts.specs.Matches.{IsFactOf, IsMapping, IsShown, Under, row_of, term_of, terms_at}
+use Rattle.ba_facts.specs.Known.{Known, itself}
+use Rattle.ba_facts.specs.Matches.{IsFactOf, IsMapping, IsShown, Under, term_of, terms_at}
 use Rattle.ba_facts.specs.Shown.{ShowsOf}
 use Rattle.ba_facts.specs.declared.branch.Branch.{Branch}
 use Rattle.ba_facts.specs.declared.term.Fact.{Fact}

@@ -26,7 +26,7 @@ use Rattle.ba_kernel.specs.declared.problem.ProblemEntry.{ProblemEntry}
 use Rattle.ba_kernel.specs.declared.step.Step.{Step}
 use Rattle.ba_kernel.specs.declared.step.Step.TheVariants as steps
 use Rattle.ba_instant.specs.Offers.{IsTelling}
-use Rattle.ba_instant.specs.Windows.{GrowsQuietly, IsGrounded, IsQuietUpto, IsToldOf}
+use Rattle.ba_instant.specs.Windows.{GrowsQuietly, IsQuietUpto, IsToldOf}
 
 -- ---- rows of terms that give a row already, facts or not
 
