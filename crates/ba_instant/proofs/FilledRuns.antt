@@ -28,6 +28,7 @@ use Rattle.ba_kernel.specs.declared.step.Step.{Step}
 use Rattle.ba_kernel.specs.declared.step.Step.TheVariants as steps
 use Rattle.ba_instant.proofs.CarryLemmas.{Carries, not_null}
 use Rattle.ba_instant.proofs.GrowthLemmas.{carries_on}
+use Rattle.ba_instant.proofs.MirrorLemmas.{next_at}
 use Rattle.ba_instant.specs.QuietSteps.{FactsAreFilled, IsFilled, IsRowFor, RunsAreFilled}
 
 -- ---- what facts and lessons keep, each open branch has
@@ -112,19 +113,16 @@ filled_more k l carries [] (t ∷ ts) h = absurd h
 filled_more k l carries (c ∷ columns) [] h = absurd h
 filled_more k l carries (c ∷ columns) (t ∷ ts) h = (λ is. not_null k l (λ u. u) carries (h.0 is), filled_more k l carries columns ts h.1)
 
-there_at : (before : List Sort) (sort : Sort) (rest : List Sort) → slice_get (before ++ sort ∷ rest) (length before) ≡ Some sort
-there_at [] sort rest = refl
-there_at (other ∷ before) sort rest = there_at before sort rest
-
 -- new unknowns may stand in the columns whose sorts they have
 new_filled : (l : Known) (before : List Sort) (columns : List Column) → l.unknowns ≡ before ++ map sort_of columns → AllZip (IsFilled l) columns (unknowns_from (length before) (length columns))
 new_filled l before [] e = tt
 new_filled l before (c ∷ columns) e =
     let rest = new_filled l (before ++ sort_of c ∷ []) columns (e ∙ sym (append_assoc before (sort_of c ∷ []) (map sort_of columns))) in
     let here : slice_get l.unknowns (length before) ≡ Some (sort_of c) =
-    subst (λ us. slice_get us (length before) ≡ Some (sort_of c)) (sym e) (there_at before (sort_of c) (map sort_of columns)) in
-    (λ is. record { other = _; class = itself; not_null = column here is },
-    subst (λ n. AllZip (IsFilled l) columns (unknowns_from n (length columns))) (length_push before (sort_of c)) rest)
+    subst (λ us. slice_get us (length before) ≡ Some (sort_of c)) (sym e) (next_at before (sort_of c) (map sort_of columns)) in (
+      λ is. record { other = _; class = itself; not_null = column here is },
+      subst (λ n. AllZip (IsFilled l) columns (unknowns_from n (length columns))) (length_push before (sort_of c)) rest,
+    )
 
 module _ (s : Schema) where
   abbrev HasRow : Known → Fact → Type 0

@@ -22,6 +22,7 @@ use Rattle.ba_kernel.proofs.StepFits.{All-at}
 use Rattle.ba_kernel.proofs.TidyLemmas.{facts_there, row_there_more, term_there, there_more, unknowns_kept}
 use Rattle.ba_kernel.specs.Effects.{IsCase, lesson_of, rows_at, same_at, same_of, with_facts, with_lessons}
 use Rattle.ba_kernel.specs.Tidy.{FactsAreThere, TermsAreThere}
+use Rattle.ba_instant.proofs.MirrorLemmas.{learned_same}
 
 -- ---- lessons of terms that are there
 
@@ -101,14 +102,10 @@ lessons_more b lessons h g =
     (All-weaker (LessonIsThere b.known) (LessonIsThere new.known) (lesson_more b.known new.known (omega arith)) lessons g)
 
 module _ (s : Schema) (side : Side) (round : ℕ) where
-  same_learned : (from : List ℕ) (b : Branch) → (with_facts s side round b from).known.learned ≡ b.known.learned
-  same_learned [] b = refl
-  same_learned (table ∷ from) b = same_learned from (with_facts s side round b (table ∷ []))
-
   pub facts_keep : (from : List ℕ) (b : Branch) → LessonsAreThere b → LessonsAreThere (with_facts s side round b from)
   facts_keep from b h =
       let new = with_facts s side round b from in
-      subst (All (LessonIsThere new.known)) (sym (same_learned from b))
+      subst (All (LessonIsThere new.known)) (sym (learned_same s side round from b))
       (All-weaker (LessonIsThere b.known) (LessonIsThere new.known) (lesson_more b.known new.known (unknowns_kept s side round from b)) b.known.learned h)
 
   case_there : (b : Branch) (row : List Term) (part : Part) (new : Branch) → FactsAreThere b → TermsAreThere b.known row → LessonsAreThere b →

@@ -125,7 +125,7 @@ module _ (p : Problem) where
       let there : (x : Operand) (t : Term) → term_of (rows_at mid numbers) x ≡ Some t → IsThere mid.known t = λ x t e. term_there mid numbers x t mid_facts e in
       let plain : (x : Operand) (t : Term) → term_of [] x ≡ Some t → IsThere mid.known t = λ x t e. operand_there mid.known [] x t (All-nil (TermsAreThere mid.known)) e in
       let lessons = All-append (LessonIsThere mid.known) h.atoms h.assumed (atoms_there mid.known (rows_at mid numbers) there part.conds h.atoms h.atoms_are)
-          (atoms_there mid.known [] plain p.assumed h.assumed h.assumed_are) in
+      (atoms_there mid.known [] plain p.assumed h.assumed h.assumed_are) in
       let it : LessonsAreThere (record (with_lessons mid (h.atoms ++ h.assumed)) { goal = h.goal }) =
       lessons_more mid (h.atoms ++ h.assumed) (facts_keep s One 0 part.from (nothing_known p) (All-nil (LessonIsThere (nothing_known p).known))) lessons in
       subst LessonsAreThere (sym h.new_is) it

@@ -1,5 +1,5 @@
 -- After a quiet step the branch of its number stays quiet up to each round before the step's.
-use Rattle.std.proofs.Common.{◌≡◌, ◌∙◌, ℕ, zero, suc, ◌+◌, ◌<◌, ◌≤◌, List, [], ◌∷◌, ◌++◌, length, map, refl, ap, sym, subst, arith}
+use Rattle.std.proofs.Common.{◌≡◌, ◌∙◌, ℕ, zero, suc, ◌+◌, ◌<◌, ◌≤◌, List, [], ◌∷◌, length, map, refl, ap, sym, subst, arith}
 use Rattle.std.proofs.lemmas.List.{length-set}
 use Rattle.std.proofs.lemmas.List.Elements.{All-weaker}
 use Rattle.std.proofs.lemmas.Option.{same_Some, slice_get_within}
@@ -30,6 +30,7 @@ use Rattle.ba_instant.proofs.GivenLemmas.{case_grows}
 use Rattle.ba_instant.proofs.GroundRuns.{runs_are_grounded}
 use Rattle.ba_instant.proofs.LinkRowLemmas.{link_grows}
 use Rattle.ba_instant.proofs.OldFactLemmas.{round_is}
+use Rattle.ba_instant.proofs.OldSplitLemmas.{get_within_front}
 use Rattle.ba_instant.proofs.QuietLemmas.{new_was_new, quiet_stays}
 use Rattle.ba_instant.proofs.QuietStepLemmas.{yields_gives}
 use Rattle.ba_instant.proofs.RoundLemmas.{round_once}
@@ -43,11 +44,6 @@ set_at [] n y below = absurd (let no : ⊥ = omega (arith, below) in no)
 set_at (x ∷ xs) zero y below = refl
 set_at (x ∷ xs) (suc n) y below = set_at xs n y (omega (arith, below))
 
-in_front : {X : Type 0} (xs ys : List X) (m : ℕ) → m < length xs → slice_get (xs ++ ys) m ≡ slice_get xs m
-in_front [] ys m below = absurd (let no : ⊥ = omega (arith, below) in no)
-in_front (x ∷ xs) ys zero below = refl
-in_front (x ∷ xs) ys (suc m) below = in_front xs ys m (omega (arith, below))
-
 -- the cases begin with this one
 abbrev BeginsWith : List Branch → Branch → Type 0
 BeginsWith [] c = ⊥
@@ -57,7 +53,7 @@ first_case : (slots : Slots) (n : ℕ) (cases : List Branch) (c : Branch) → n 
 first_case slots n [] c below e = let none = set_at slots n None below in cc
 first_case slots n (d ∷ others) c below e =
     let counted = length-set slots n (Some d) in
-    let here = in_front (slice_set slots n (Some d)) (map Some others) n (omega (arith, below, counted)) ∙ set_at slots n (Some d) below in
+    let here = get_within_front (slice_set slots n (Some d)) (map Some others) n (omega (arith, below, counted)) ∙ set_at slots n (Some d) below in
     same_Some d c (same_Some (Some d) (Some c) (sym here ∙ e))
 
 of_first : {X : Type 0} (R : X → Branch → Type 0) (parts : List X) (cases : List Branch) (of : X) (c : Branch) → AllZip R parts cases → slice_get parts 0 ≡ Some of → BeginsWith cases c → R of c

@@ -57,9 +57,10 @@ module _ (ts : List Term) where
   picks : (columns targets : List ℕ) → IsDistinct nat_eq targets → Picks (pick ts columns targets) ts columns targets
   picks [] targets h = tt
   picks (i ∷ columns) [] h = tt
-  picks (i ∷ columns) (m ∷ targets) h =
-      (ap (λ flag. pick_by flag (cell ts i) (pick ts columns targets m)) (eq-eqb m m refl),
-      picks_past i m columns targets columns targets (IsDistinct-head nat_eq m targets h) (picks columns targets (IsDistinct-tail nat_eq m targets h)))
+  picks (i ∷ columns) (m ∷ targets) h = (
+    ap (λ flag. pick_by flag (cell ts i) (pick ts columns targets m)) (eq-eqb m m refl),
+    picks_past i m columns targets columns targets (IsDistinct-head nat_eq m targets h) (picks columns targets (IsDistinct-tail nat_eq m targets h)),
+  )
 
 range_at : (g : ℕ → Term) (first count n : ℕ) (v : Term) → slice_get (map g (range_with_len first count)) n ≡ Some v → v ≡ g (first + n)
 range_at g first zero n v e = cc

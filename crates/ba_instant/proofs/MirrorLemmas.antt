@@ -60,7 +60,7 @@ own_stays k images (Val v) there = refl
 own_stays k images (Param n) there = refl
 own_stays k images (Var n) there = refl
 
-next_at : (before : List Term) (t : Term) (after : List Term) → slice_get (before ++ t ∷ after) (length before) ≡ Some t
+pub next_at : {X : Type 0} (before : List X) (t : X) (after : List X) → slice_get (before ++ t ∷ after) (length before) ≡ Some t
 next_at [] t after = refl
 next_at (u ∷ before) t after = next_at before t after
 

@@ -35,7 +35,7 @@ use Rattle.ba_instant.proofs.OldTermLemmas.{neither_back, refutes_on, shows_on}
 use Rattle.ba_instant.specs.Windows.{AreLate, IsGrounded, IsQuietGrowth}
 
 -- a list's items stay where more are added
-get_within_front : {X : Type 0} (xs ys : List X) (n : ℕ) → n < length xs → slice_get (xs ++ ys) n ≡ slice_get xs n
+pub get_within_front : {X : Type 0} (xs ys : List X) (n : ℕ) → n < length xs → slice_get (xs ++ ys) n ≡ slice_get xs n
 get_within_front xs ys n below = elim (slice_get_cases xs n).1 [
   | inl h ↦ get_append_old xs ys n h.0 h.2 ∙ sym h.2
   | inr h ↦ absurd (omega (arith, below, h.0))
@@ -158,9 +158,10 @@ module _ (p : Problem) (b c : Branch) (grounded : IsGrounded b) (growth : IsQuie
         IsNewOn p b (steps.Split number atom) × IsRound p b (steps.Split number atom) round
     split_before number other atom round below new round_is =
         let low : round_of c round_is.facts < bound = omega (arith, below, round_is.round_is) in
-        let candidate = candidate_back atom round_is.facts low round_is.candidate in
-        (record {
-          passes = fits_back atom (candidate_there atom round_is.facts candidate) new.passes;
-          tells = tells_back atom round_is.facts candidate new.tells;
-        },
-        round_back atom round round_is candidate)
+        let candidate = candidate_back atom round_is.facts low round_is.candidate in (
+          record {
+            passes = fits_back atom (candidate_there atom round_is.facts candidate) new.passes;
+            tells = tells_back atom round_is.facts candidate new.tells;
+          },
+          round_back atom round round_is candidate,
+        )

@@ -209,9 +209,10 @@ module _ (p : Problem) (b c : Branch) (grounded : IsGrounded b) (growth : IsQuie
         let low : round_of c facts < bound = omega (arith, below, h.1) in
         let is = h.0.passes in
         let pass = facts_pass is.side is.it facts low is.pass in
-        let passes : RulePasses p b rule part facts = record { it = is.it; is_part = is.is_part; side = is.side; pass = pass } in
-        (record { passes = passes; tells = λ met. h.0.tells (rule_met rule part facts met) },
-        h.1 ∙ ap (λ r. 1 + r) (round_kept b c facts (kept is.side is.it.from facts pass.mapping)))
+        let passes : RulePasses p b rule part facts = record { it = is.it; is_part = is.is_part; side = is.side; pass = pass } in (
+          record { passes = passes; tells = λ met. h.0.tells (rule_met rule part facts met) },
+          h.1 ∙ ap (λ r. 1 + r) (round_kept b c facts (kept is.side is.it.from facts pass.mapping)),
+        )
 
     pub view_before : (number other view part : ℕ) (facts : List ℕ) (round : ℕ) → round ≤ bound → IsNewWith c (steps.View other view part facts) round →
         IsNewWith b (steps.View number view part facts) round
