@@ -29,7 +29,7 @@ module _ (c : Course) (pick : Pick) (n : ℕ) where
   closing_on step (inl h) = ap branch_of h
   closing_on step (inr h) = ap branch_of (h.1).1
 
-  telling_on : (step : Step) → IsTelling n step → branch_of step ≡ n
+  pub telling_on : (step : Step) → IsTelling n step → branch_of step ≡ n
   telling_on step (inl (inl (inl (inl (inl h))))) = ap branch_of h.1
   telling_on step (inl (inl (inl (inl (inr h))))) = ap branch_of (h.1).1
   telling_on step (inl (inl (inl (inr h)))) = ap branch_of ((h.1).1).1
@@ -118,9 +118,6 @@ module _ (c : Course) (n : ℕ) (b : Branch) (open_ : IsOpen c.slots n b) where
   round_on step round on h =
       subst (λ at. IsRoundAt c.problem at step round) (open_is c.slots n b open_) (subst (λ m. IsRoundAt c.problem (open_at c.slots m) step round) on h)
 
-  pub due_none : (pick : Pick) (best : Option Found) → best ≡ None → Improves c pick (IsOn n) None best → IsDueIfAny c pick n None
-  due_none pick best none h = λ step on is. h.finds step on is none
-
   found_of : (found : Found) (best : Option Found) → best ≡ Some found → (best ≡ None) ⊎ IsSomeFound c (IsOn n) best → IsFound c (IsOn n) found
   found_of found best is (inl none) = absurd (let wrong : Some found ≡ None = sym is ∙ none in cc)
   found_of found best is (inr it) = subst (IsSomeFound c (IsOn n)) is it
@@ -154,12 +151,12 @@ module _ (c : Course) (n : ℕ) (b : Branch) (open_ : IsOpen c.slots n b) where
         (subst (λ d. IsRound c.problem d found.step found.round) (sym same) (round_on found.step found.round is.of is.round_is)) in
         not_greater (pick_cmp pick found.step other) (reached_step pick found it (let e : found.round ≡ due.round = omega (arith, one, two) in e) reach)
 
-    found_due : IsDueOn c pick n found.step
-    found_due = record { on = is.of; due = found_is_due; first = found_first }
+    found_due : IsDueOn c pick n found
+    found_due = record { on = is.of; due = found_is_due; first = found_first; round_is = is.round_is }
 
-  pub due_some : (pick : Pick) (best : Option Found) (found : Found) → best ≡ Some found → Improves c pick (IsOn n) None best → IsDueOn c pick n found.step
-  due_some pick best found is h =
-      found_due pick found (found_of found best is h.from) (λ it k. subst (λ o. Reaches pick o it) is (h.reaches it k))
+  pub due_any : (pick : Pick) (best : Option Found) → Improves c pick (IsOn n) None best → IsDueIfAny c pick n best
+  due_any pick None h = λ step on is. h.finds step on is refl
+  due_any pick (Some found) h = found_due pick found (found_of found (Some found) refl h.from) (λ it k. h.reaches it k)
 
   -- ---- a step of round 0
 

@@ -6,6 +6,9 @@ mod MapLemmas
 mod SplitLemmas
 mod DueLemmas
 mod LateLemmas
+mod LookLemmas
+mod PairLemmas
+mod TakeLemmas
 mod PickLemmas
 mod NextLemmas
 mod CarryLemmas

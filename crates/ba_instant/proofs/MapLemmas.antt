@@ -60,7 +60,7 @@ fails_on P rows more atom f h =
 -- ---- the search through a part's tables
 
 module _ (c : Course) (pick : Pick) (b : Branch) (n : ℕ) (form : Form) (side : Side) (part : Part) where
-  abbrev From : List ℕ → List ℕ → Step → Type 0
+  abbrev pub From : List ℕ → List ℕ → Step → Type 0
   From = IsMappedFrom b n form side part
 
   hidden : (from chosen : List ℕ) → Any (IsHidden b.known (rows_at b chosen)) part.conds → (step : Step) → From from chosen step → IsNewIn c step → ⊥
@@ -112,17 +112,11 @@ module _ (c : Course) (pick : Pick) (b : Branch) (n : ℕ) (form : Form) (side :
         (improves_as c pick (From rest deeper) (By fact) mid new (λ step e new. (is, subst (λ xs. From rest xs step) are e))
         (λ step e new. subst (λ xs. From rest xs step) (sym are) e.1) now))
 
-    pub mapped_skipped : (fact : ℕ) (old new last : Option Found) → last ≡ new → (IsFactOf b side table fact → ⊥) →
-        Improves c pick (Upto By fact) old new → Improves c pick (Upto By (fact + 1)) old last
-    mapped_skipped fact old new last same other before =
-        subst (Improves c pick (Upto By (fact + 1)) old) (sym same)
-        (improves_next c pick By fact old new new before (improves_none c pick (By fact) new (λ step e is. other e.0)))
-
-    by_from : (step : Step) → OfAny By step → From (table ∷ rest) chosen step
+    pub by_from : (step : Step) → OfAny By step → From (table ∷ rest) chosen step
     by_from step (fact, (is, (facts, same, h))) =
         (facts, same, record { rest = fact ∷ h.rest; facts_are = h.facts_are ∙ append_assoc chosen (fact ∷ []) h.rest; facts_of = (is, h.facts_of); meets = h.meets })
 
-    from_by : (step : Step) → From (table ∷ rest) chosen step → OfAny By step
+    pub from_by : (step : Step) → From (table ∷ rest) chosen step → OfAny By step
     from_by step (facts, same, h) = at h.rest h.facts_are h.facts_of
       where
         at : (left : List ℕ) → facts ≡ chosen ++ left → IsMapping b side (table ∷ rest) left → OfAny By step

@@ -1,5 +1,5 @@
 -- What a search does next, and how it ends.
-use Rattle.std.proofs.Common.{◌≡◌, ◌∙◌, ℕ, zero, suc, ◌+◌, ◌<◌, ◌≤◌, Bool, true, false, inl, inr, [], ◌∷◌, ◌++◌, get_or, length, map, refl, sym, ap, subst, arith, List}
+use Rattle.std.proofs.Common.{◌≡◌, ◌∙◌, ℕ, zero, suc, ◌+◌, ◌<◌, ◌≤◌, ◌⊎◌, Bool, true, false, inl, inr, [], ◌∷◌, ◌++◌, get_or, length, map, refl, sym, ap, subst, arith, List}
 use Rattle.std.proofs.lemmas.Option.{slice_get-get_or, slice_get_within}
 use Rattle.std.proofs.lemmas.List.{length-set}
 use Rattle.std.specs.Cmp.{nat_cmp_is, upto}
@@ -25,12 +25,15 @@ use Rattle.ba_instant.proofs.ChaseLemmas.{open_is}
 use Rattle.ba_instant.proofs.DueLemmas.{gt_false, new_in, not_greater, one_open}
 use Rattle.ba_instant.proofs.OrderLemmas.{pick_total}
 use Rattle.ba_instant.specs.Dues.{DueList, Ends, HasNew, HaveNewBelow, IsSaturated, Searches}
-use Rattle.ba_instant.specs.Nexts.{AreWaiting, IsFirstBelow, IsLeafOf, IsLeastSaturated, IsNext, IsPickedBelow, IsTaken, MayWait, Passes, SaturatedAt, first_step, first_step_by}
-use Rattle.ba_instant.specs.Offers.{IsDueIfAny, IsDueOn}
+use Rattle.ba_instant.proofs.LookLemmas.{quiet_first}
+use Rattle.ba_instant.specs.Nexts.{AreWaiting, ComesLater, IsFirstBelow, IsLeafOf, IsLeastSaturated, IsNext, IsPickedBelow, IsTaken, Passes, SaturatedAt, Waits, first_step}
+use Rattle.ba_instant.specs.Offers.{IsDueIfAny, IsDueOn, first_by}
 use Rattle.ba_instant.specs.Order.{atom_cmp, numbers_cmp, pick_cmp, step_atom, step_cmp, step_rank}
 use Rattle.ba_instant.specs.declared.due.Next.{Next}
 use Rattle.ba_instant.specs.declared.due.Next.TheVariants as nexts
-use Rattle.ba_instant.specs.declared.due.Waiting.{Waiting}
+use Rattle.ba_instant.specs.Windows.{IsQuietUpto}
+use Rattle.ba_instant.specs.declared.waiting.Waiting.{Waiting}
+use Rattle.ba_instant.specs.declared.found.Found.{Found}
 use Rattle.ba_instant.specs.declared.ends.Settled.{Settled}
 use Rattle.ba_instant.specs.declared.ends.Settled.TheVariants as settled
 use Rattle.ba_instant.specs.declared.order.Pick.{Pick}
@@ -64,75 +67,80 @@ branch_first one other less e =
 
 module _ (pick : Pick) (c : Course) (n : ℕ) where
   -- the branch isn't open
-  pub passes_closed : (first : Option Step) → open_at c.slots n ≡ None → Passes pick c n first first
+  pub passes_closed : (first : Option Found) → open_at c.slots n ≡ None → Passes pick c n first first
   passes_closed first none = record { has = λ b h. absurd (not_open c.slots n b none h); first = more first }
     where
-      more : (first : Option Step) → IsFirstBelow pick c.problem c.slots n first → IsFirstBelow pick c.problem c.slots (n + 1) first
+      more : (first : Option Found) → IsFirstBelow pick c n first → IsFirstBelow pick c (n + 1) first
       more None h = λ number b below is. elim (up_to_bound number n below) [
         | inl less ↦ h number b less is
         | inr same ↦ not_open c.slots n b none (subst (λ m. IsOpen c.slots m b) same is)
       ]
-      more (Some step) h = record {
+      more (Some it) h = record {
         below = omega (arith, h.below);
         due = h.due;
         first = λ other below due. elim (up_to_bound (branch_of other) n below) [
           | inl less ↦ h.first other less due
           | inr same ↦ absurd (not_open c.slots n due.branch none (subst (λ m. IsOpen c.slots m due.branch) same due.open_))
         ];
+        round_is = h.round_is;
       }
 
-  -- the branch waits, and comes after that of the step
-  pub passes_waiting : (waiting : Waiting) (first : Option Step) → MayWait pick waiting n first → AreWaiting c.problem c.slots waiting → Passes pick c n first first
-  passes_waiting waiting first may are = record { has = λ b is. waits pick first may b is; first = more pick first may }
+  -- the branch has a new step, and comes after that of the step that was found
+  pub passes_later : (first : Option Found) → ComesLater pick first → ((b : Branch) → IsOpen c.slots n b → HasNew c.problem n b) → Passes pick c n first first
+  passes_later first later has = record { has = has; first = more pick first later }
     where
-      waits : (pick : Pick) (first : Option Step) → MayWait pick waiting n first → (b : Branch) → IsOpen c.slots n b → HasNew c.problem n b
-      waits First (Some step) may b is = are n b may.0 may.1 is
-      waits First None may b is = absurd may
-      waits Last (Some step) may b is = absurd may
-      waits Last None may b is = absurd may
-
-      more : (pick : Pick) (first : Option Step) → MayWait pick waiting n first → IsFirstBelow pick c.problem c.slots n first → IsFirstBelow pick c.problem c.slots (n + 1) first
-      more First (Some step) may h = record {
+      more : (pick : Pick) (first : Option Found) → ComesLater pick first → IsFirstBelow pick c n first → IsFirstBelow pick c (n + 1) first
+      more First (Some it) later h = record {
         below = omega (arith, h.below);
         due = h.due;
         first = λ other below due. elim (up_to_bound (branch_of other) n below) [
           | inl less ↦ h.first other less due
-          | inr same ↦ branch_first step other (let before = h.below in omega (arith, before, same))
+          | inr same ↦ branch_first it.step other (let before = h.below in omega (arith, before, same))
         ];
+        round_is = h.round_is;
       }
-      more First None may h = absurd may
-      more Last (Some step) may h = absurd may
-      more Last None may h = absurd may
+      more First None later h = absurd later
+      more Last (Some it) later h = absurd later
+      more Last None later h = absurd later
+
+  pub passes_waiting : (waiting : Waiting) (first : Option Found) → ComesLater pick first → Waits waiting n → AreWaiting c.problem c.slots waiting → Passes pick c n first first
+  passes_waiting waiting first later waits are = passes_later first later (λ b is. are.waits n b waits.0 waits.1 is)
 
   -- it has a due step
-  module _ (step : Step) (it : IsDueOn c pick n step) where
-    has_new : (b : Branch) → IsOpen c.slots n b → HasNew c.problem n b
+  module _ (found : Found) (it : IsDueOn c pick n found) where
+    pub has_new : (b : Branch) → IsOpen c.slots n b → HasNew c.problem n b
     has_new b h =
         let same : it.due.branch ≡ b = one_open c.slots n it.due.branch b (subst (λ m. IsOpen c.slots m it.due.branch) it.on it.due.open_) h in
-        record { step = step; on = it.on; new_ = subst (λ d. IsNewOn c.problem d step) same it.due.new_ }
+        record { step = found.step; on = it.on; new_ = subst (λ d. IsNewOn c.problem d found.step) same it.due.new_ }
 
-    kept : (best : Step) (b : Bool) → is_gt (pick_cmp pick best step) ≡ b → IsPickedBelow pick c.problem c.slots n best →
-        IsFirstBelow pick c.problem c.slots (n + 1) (first_step_by b best step)
+    kept : (best : Found) (b : Bool) → is_gt (pick_cmp pick best.step found.step) ≡ b → IsPickedBelow pick c n best → IsFirstBelow pick c (n + 1) (first_by b best found)
     kept best false e h = record {
       below = omega (arith, h.below);
       due = h.due;
       first = λ other below due. elim (up_to_bound (branch_of other) n below) [
         | inl less ↦ h.first other less due
-        | inr same ↦ not_greater (pick_cmp pick best other) (upto (pick_total pick) best step other e (gt_false (pick_cmp pick step other) (it.first other same due)))
+        | inr same ↦
+            not_greater (pick_cmp pick best.step other)
+            (upto (pick_total pick) best.step found.step other e (gt_false (pick_cmp pick found.step other) (it.first other same due)))
       ];
+      round_is = h.round_is;
     }
     kept best true e h =
-        let less : is_gt (pick_cmp pick step best) ≡ false = ap is_gt ((pick_total pick).antisymm step best) ∙ not_behind (pick_cmp pick best step) e in
+        let less : is_gt (pick_cmp pick found.step best.step) ≡ false =
+        ap is_gt ((pick_total pick).antisymm found.step best.step) ∙ not_behind (pick_cmp pick best.step found.step) e in
         record {
           below = omega (arith, it.on);
           due = it.due;
           first = λ other below due. elim (up_to_bound (branch_of other) n below) [
-            | inl before ↦ not_greater (pick_cmp pick step other) (upto (pick_total pick) step best other less (gt_false (pick_cmp pick best other) (h.first other before due)))
+            | inl before ↦
+                not_greater (pick_cmp pick found.step other)
+                (upto (pick_total pick) found.step best.step other less (gt_false (pick_cmp pick best.step other) (h.first other before due)))
             | inr same ↦ it.first other same due
           ];
+          round_is = it.round_is;
         }
 
-    picked_more : (first : Option Step) → IsFirstBelow pick c.problem c.slots n first → IsFirstBelow pick c.problem c.slots (n + 1) (first_step pick first step)
+    picked_more : (first : Option Found) → IsFirstBelow pick c n first → IsFirstBelow pick c (n + 1) (first_step pick first found)
     picked_more None h = record {
       below = omega (arith, it.on);
       due = it.due;
@@ -140,21 +148,19 @@ module _ (pick : Pick) (c : Course) (n : ℕ) where
         | inl less ↦ absurd (h (branch_of other) due.branch less due.open_)
         | inr same ↦ it.first other same due
       ];
+      round_is = it.round_is;
     }
-    picked_more (Some best) h = kept best (is_gt (pick_cmp pick best step)) refl h
+    picked_more (Some best) h = kept best (is_gt (pick_cmp pick best.step found.step)) refl h
 
-    pub passes_due : (old new : Option Step) → new ≡ first_step pick old step → Passes pick c n old new
-    passes_due old new is = record {
-      has = has_new;
-      first = λ h. subst (IsFirstBelow pick c.problem c.slots (n + 1)) (sym is) (picked_more old h);
-    }
+    pub passes_due : (old new : Option Found) → new ≡ first_step pick old found → Passes pick c n old new
+    passes_due old new is = record { has = has_new; first = λ h. subst (IsFirstBelow pick c (n + 1)) (sym is) (picked_more old h) }
 
   pub saturated_at : (b : Branch) → IsOpen c.slots n b → IsDueIfAny c pick n None → SaturatedAt c n
   saturated_at b open_ none = record { branch = b; saturated = record { open_ = open_; none_new = λ step on new. none step on (new_in c n b open_ step on new) } }
 
   -- ---- the branches so far
 
-  pub news_more : (old new : Option Step) → Passes pick c n old new → HaveNewBelow c.problem c.slots n → HaveNewBelow c.problem c.slots (n + 1)
+  pub news_more : (old new : Option Found) → Passes pick c n old new → HaveNewBelow c.problem c.slots n → HaveNewBelow c.problem c.slots (n + 1)
   news_more old new h before number b below is = elim (up_to_bound number n below) [
     | inl less ↦ before number b less is
     | inr same ↦ subst (λ m. HasNew c.problem m b) (sym same) (h.has b (subst (λ m. IsOpen c.slots m b) same is))
@@ -163,8 +169,8 @@ module _ (pick : Pick) (c : Course) (n : ℕ) where
   pub least_saturated : SaturatedAt c n → HaveNewBelow c.problem c.slots n → IsLeastSaturated c n
   least_saturated h before = record { branch = h.branch; saturated = h.saturated; least = before }
 
-  pub all_taken : (step : Step) → length c.slots ≤ n → HaveNewBelow c.problem c.slots n → IsPickedBelow pick c.problem c.slots n step → IsTaken pick c step
-  all_taken step past before h = record {
+  pub all_taken : (found : Found) → length c.slots ≤ n → HaveNewBelow c.problem c.slots n → IsPickedBelow pick c n found → IsTaken pick c found
+  all_taken found past before h = record {
     each = λ number b below is. before number b (omega (arith, past, below)) is;
     picked = record {
       due = h.due;
@@ -172,6 +178,7 @@ module _ (pick : Pick) (c : Course) (n : ℕ) where
           let below : branch_of other < length c.slots = slice_get_within c.slots (branch_of other) (Some due.branch) due.open_ in
           h.first other (omega (arith, past, below)) due;
     };
+    round_is = h.round_is;
   }
 
   pub all_closed : length c.slots ≤ n → ((number : ℕ) (b : Branch) → number < n → IsOpen c.slots number b → ⊥) → AllClosed c.slots
@@ -202,7 +209,10 @@ was_open slots n m (first ∷ others) b below other e =
     let same : length (slice_set slots n (Some first)) ≡ length slots = length-set slots n (Some first) in
     sym (elsewhere slots n m (Some first) other) ∙ (sym (in_front (slice_set slots n (Some first)) (map Some others) m (omega (arith, below, same))) ∙ e)
 
-module _ (pick : Pick) (c : Course) (step : Step) (it : IsTaken pick c step) where
+module _ (pick : Pick) (c : Course) (found : Found) (it : IsTaken pick c found) where
+  abbrev step : Step
+  step = found.step
+
   pub not_refused : (error : Failure StepFault) (fault : StepFault) → error ≡ Fault fault → IsErrorOf c step error → ⊥
   not_refused error fault is h =
       let refused : IsRefusedAt c.problem (open_at c.slots (branch_of step)) step fault = subst (IsErrorOf c step) is h in
@@ -217,13 +227,16 @@ module _ (pick : Pick) (c : Course) (step : Step) (it : IsTaken pick c step) whe
       (subst (λ taken. Searches pick c.problem taken new.slots) (sym steps_are) (Searches.next before it.each it.picked takes))
 
   -- all branches but that of the step are as before
-  pub waiting_after : (new : Course) (waiting : Waiting) → waiting.below ≡ length c.slots → waiting.but ≡ branch_of step → Takes c.problem c.slots step new.slots →
-      new.problem ≡ c.problem → AreWaiting new.problem new.slots waiting
-  waiting_after new waiting below_is but_is takes problem_is number b below other is =
-      let less : number < length c.slots = omega (arith, below, below_is) in
-      let open_ : IsOpen c.slots number b =
-      was_open c.slots (branch_of step) number takes.cases b less (λ same. other (same ∙ sym but_is)) (subst (λ slots. IsOpen slots number b) takes.new_is is) in
-      subst (λ p. HasNew p number b) (sym problem_is) (it.each number b less open_)
+  pub waiting_after : (new : Course) (waiting : Waiting) → waiting.below ≡ length c.slots → waiting.but ≡ branch_of found.step → waiting.quiet ≡ 0 →
+      Takes c.problem c.slots found.step new.slots → new.problem ≡ c.problem → AreWaiting new.problem new.slots waiting
+  waiting_after new waiting below_is but_is quiet_is takes problem_is = record {
+    waits = λ number b below other is.
+        let less : number < length c.slots = omega (arith, below, below_is) in
+        let open_ : IsOpen c.slots number b =
+        was_open c.slots (branch_of found.step) number takes.cases b less (λ same. other (same ∙ sym but_is)) (subst (λ slots. IsOpen slots number b) takes.new_is is) in
+        subst (λ p. HasNew p number b) (sym problem_is) (it.each number b less open_);
+    quiet_ = λ b is. subst (IsQuietUpto new.problem b waiting.but) (sym quiet_is) (quiet_first new.problem b waiting.but);
+  }
 
   some_open : ¬ (AllClosed c.slots)
   some_open all =
@@ -234,7 +247,7 @@ module _ (pick : Pick) (c : Course) (step : Step) (it : IsTaken pick c step) whe
 -- ---- the ends
 
 module _ (pick : Pick) (budget : ℕ) (c : Course) (searches : Searches pick c.problem c.steps c.slots) where
-  pub ends_spent : (step : Step) (it : Settled) → IsTaken pick c step → length c.steps ≡ budget → it ≡ settled.Spent c.steps → Ends pick c.problem budget it
+  pub ends_spent : (step : Found) (it : Settled) → IsTaken pick c step → length c.steps ≡ budget → it ≡ settled.Spent c.steps → Ends pick c.problem budget it
   ends_spent step it taken spent is =
       subst (Ends pick c.problem budget) (sym is)
       (record { slots = c.slots; searches = searches; spent = spent; some_open = some_open pick c step taken; each = taken.each })
@@ -263,6 +276,20 @@ if_ok_as : (P Q : Settled → Type 0) (r : Result Settled AllocError) → ((it :
 if_ok_as P Q (Ok it) to h = to it h
 if_ok_as P Q (Err e) to h = h
 
+pub none_waits : (p : Problem) (slots : Slots) (waiting : Waiting) → waiting.below ≡ 0 → waiting.quiet ≡ 0 → AreWaiting p slots waiting
+none_waits p slots waiting below quiet = record {
+  waits = λ number b less other is. absurd (let no : ⊥ = omega (arith, less, below) in no);
+  quiet_ = λ b is. subst (IsQuietUpto p b waiting.but) (sym quiet) (quiet_first p b waiting.but);
+}
+
+-- on the one branch that doesn't wait as was told, and on any other up to 0
+pub quiet_on : (waiting : Waiting) (number quiet : ℕ) (p : Problem) (slots : Slots) (b : Branch) → (quiet ≡ waiting.quiet) × (number ≡ waiting.but) ⊎ (quiet ≡ 0) →
+    AreWaiting p slots waiting → IsOpen slots number b → IsQuietUpto p b number quiet
+quiet_on waiting number quiet p slots b (inl h) are is =
+    subst (λ bound. IsQuietUpto p b number bound) (sym h.0)
+    (subst (λ m. IsQuietUpto p b m waiting.quiet) (sym h.1) (are.quiet_ b (subst (λ m. IsOpen slots m b) h.1 is)))
+quiet_on waiting number quiet p slots b (inr none) are is = subst (λ bound. IsQuietUpto p b number bound) (sym none) (quiet_first p b number)
+
 pub searches_start : (pick : Pick) (c : Course) (p : Problem) → c.problem ≡ p → c.steps ≡ [] → IsStart p c.slots → Searches pick c.problem c.steps c.slots
 searches_start pick c p problem_is none start =
     subst (λ q. Searches pick q c.steps c.slots) (sym problem_is) (subst (λ taken. Searches pick p taken c.slots) (sym none) (Searches.start start))
@@ -271,7 +298,7 @@ module _ (pick : Pick) (budget : ℕ) (c : Course) (p : Problem) (problem_is : c
   of_problem : (it : Settled) → Ends pick c.problem budget it → Ends pick p budget it
   of_problem it h = subst (λ q. Ends pick q budget it) problem_is h
 
-  pub may_spend : (step : Step) (next : Next) (r : Result Settled AllocError) → IsNext pick c next → next ≡ nexts.Take step → length c.steps ≡ budget →
+  pub may_spend : (step : Found) (next : Next) (r : Result Settled AllocError) → IsNext pick c next → next ≡ nexts.Take step → length c.steps ≡ budget →
       IfOk r (λ it. it ≡ settled.Spent c.steps) → IfOk r (Ends pick p budget)
   may_spend step next r h is spent =
       if_ok_as (λ it. it ≡ settled.Spent c.steps) (Ends pick p budget) r

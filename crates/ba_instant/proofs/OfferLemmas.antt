@@ -26,7 +26,7 @@ module _ (c : Course) (pick : Pick) where
   -- ---- one step
 
   -- what is the same step is reached
-  reaches_same : (best it : Found) → it.step ≡ best.step → it.round ≡ best.round → is_gt (found_cmp pick best it) ≡ false
+  pub reaches_same : (best it : Found) → it.step ≡ best.step → it.round ≡ best.round → is_gt (found_cmp pick best it) ≡ false
   reaches_same best it same_step same_round =
       let same : best ≡ it = λ i. record { round = sym same_round i; step = sym same_step i } in
       subst (λ z. is_gt (found_cmp pick best z) ≡ false) same (ap is_gt (tied_itself (found_total pick) best))

@@ -5,6 +5,7 @@ use Rattle.std.proofs.lemmas.Option.{get_or_from_slice_get, slice_get-get_or, sl
 use Rattle.std.specs.List.{Any, Contains}
 use Rattle.std.specs.Prelude.{Option, Some, None, slice_get}
 use Rattle.ba_model.specs.declared.query.Atom.{Atom}
+use Rattle.ba_model.specs.declared.query.Op.TheVariants.{Eq}
 use Rattle.ba_model.specs.declared.query.Part.{Part}
 use Rattle.ba_facts.specs.Matches.{AreMatches, GivesAtom, IsMatch, terms_at}
 use Rattle.ba_facts.specs.declared.branch.Branch.{Branch}
@@ -13,13 +14,14 @@ use Rattle.ba_facts.specs.declared.term.Side.{Side}
 use Rattle.ba_facts.specs.declared.term.Side.TheVariants.{One, Two}
 use Rattle.ba_facts.specs.declared.term.TermAtom.{TermAtom}
 use Rattle.ba_kernel.specs.Courses.{IsOpen}
-use Rattle.ba_kernel.specs.News.{IsCandidate}
+use Rattle.ba_kernel.specs.News.{IsCandidate, IsOfNewKind}
 use Rattle.ba_kernel.specs.NewParts.{IsAtomOfParts, IsAtomOfRules, IsAtomOfViews}
 use Rattle.ba_kernel.specs.Tests.{Course}
 use Rattle.ba_kernel.specs.declared.step.Step.{Step}
 use Rattle.ba_kernel.specs.declared.step.Step.TheVariants as steps
 use Rattle.ba_instant.proofs.ChaseLemmas.{new_on}
-use Rattle.ba_instant.proofs.OfferLemmas.{improves_as, improves_both, improves_next}
+use Rattle.ba_instant.proofs.OfferLemmas.{improves_as, improves_both, improves_next, improves_none}
+use Rattle.ba_instant.specs.Looks.{AreEquations}
 use Rattle.ba_instant.specs.Offers.{Improves, IsNewIn, IsSplitBy, IsSplitOfAtom, IsSplitOfConds, IsSplitOfPart, IsSplitOfParts, IsSplitOfRules, IsSplitOfSides, IsSplitOfViews, IsSplitStep, Upto}
 use Rattle.ba_instant.specs.declared.found.Found.{Found}
 use Rattle.ba_instant.specs.declared.order.Pick.{Pick}
@@ -60,6 +62,12 @@ module _ (c : Course) (pick : Pick) where
     at_all i old new past h =
         improves_as c pick (Upto At i) OfSome old new (λ step e is. at_some i step e)
         (λ step e is. (e.0, omega (arith, e.2, past), (e.1, slice_get-get_or xs e.0 e.1 e.2 ∙ ap Some e.3, e.4))) h
+
+  -- of numbers
+  pub number_more : (xs : List ℕ) (R : ℕ → Step → Type 0) (i : ℕ) (old mid new : Option Found) → i < length xs → Improves c pick (Upto (At xs R) i) old mid →
+      Improves c pick (R (get_or xs i 0)) mid new → Improves c pick (Upto (At xs R) (i + 1)) old new
+  number_more xs R i old mid new inside before now =
+      at_more xs R i (get_or xs i 0) old mid new inside (sym (get_or_from_slice_get xs i (get_or xs i 0) (get_or xs i 0) (slice_get-get_or xs i 0 inside))) before now
 
   module _ (n : ℕ) where
     -- by an atom of some element
@@ -103,6 +111,18 @@ module _ (c : Course) (pick : Pick) where
           (λ step e is.
           let at = contains_map (λ (it : Mapping). it.facts) found e.2 (are.complete e.2 (e.3).live) in
           (at.0, at.1, at.2, at.3, (e.0, e.1, subst (λ facts. Any (GivesAtom (map (terms_at b) facts) e.0) part.conds) (sym at.4) (e.3).stands))) h
+
+      -- no atom of a part that has only equations is split
+      pub split_none : (open_ : IsOpen c.slots n b) (side : Side) (part : Part) (old : Option Found) → AreEquations part.conds → Improves c pick (IsSplitOfPart b n side part) old old
+      split_none open_ side part old equations =
+          improves_none c pick (IsSplitOfPart b n side part) old
+          (λ step e new.
+          let at = new_on c n b (steps.Split n e.0) open_ refl (subst (IsNewIn c) e.1 new) in
+          let stands = (e.3).stands in
+          let of = stands.4 in
+          let eq : (stands.1).op ≡ Eq = All-contains (λ (cond : Atom). cond.op ≡ Eq) part.conds stands.1 equations (stands.0, stands.2, stands.3) in
+          let kind : IsOfNewKind b.known Eq (e.0).left (e.0).right = subst (λ op. IsOfNewKind b.known op (e.0).left (e.0).right) (sym of.op ∙ eq) at.tells.kind in
+          absurd kind)
 
       pub split_sides : (parts : List Part) (old mid new : Option Found) → Improves c pick (IsSplitOfParts b n One parts) old mid → Improves c pick (IsSplitOfParts b n Two parts) mid new →
           Improves c pick (IsSplitOfSides b n parts) old new

@@ -1,6 +1,7 @@
 pub mod Order
 pub mod Dues
 pub mod Offers
-pub mod Nexts
 pub mod Windows
 pub mod QuietSteps
+pub mod Looks
+pub mod Nexts

@@ -8,19 +8,23 @@ use Rattle.ba_kernel.specs.Tests.{Course, open_at}
 use Rattle.ba_kernel.specs.declared.problem.Problem.{Problem}
 use Rattle.ba_kernel.specs.declared.step.Step.{Step}
 use Rattle.ba_instant.specs.Dues.{EachHasNew, HasNew, HaveNewBelow, IsDue, IsPicked, IsSaturated}
+use Rattle.ba_instant.specs.Offers.{IsRoundIn, first_by}
 use Rattle.ba_instant.specs.Order.{pick_cmp}
+use Rattle.ba_instant.specs.Windows.{IsQuietUpto}
 use Rattle.ba_instant.specs.declared.due.Next.{Next}
-use Rattle.ba_instant.specs.declared.due.Waiting.{Waiting}
+use Rattle.ba_instant.specs.declared.waiting.Waiting.{Waiting}
 use Rattle.ba_instant.specs.declared.due.Next.TheVariants.{Closed, Saturated, Take}
 use Rattle.ba_instant.specs.declared.ends.Settled.{Settled}
+use Rattle.ba_instant.specs.declared.found.Found.{Found}
 use Rattle.ba_instant.specs.declared.ends.Settled.TheVariants as settled
 use Rattle.ba_instant.specs.declared.order.Pick.{Pick}
 use Rattle.ba_instant.specs.declared.order.Pick.TheVariants.{First, Last}
 
--- the step is the one that is taken, and each open branch has a new step
-pub record IsTaken (pick : Pick) (c : Course) (step : Step) : Type 0 where
+-- the step is the one that is taken, with its round, and each open branch has a new step
+pub record IsTaken (pick : Pick) (c : Course) (it : Found) : Type 0 where
   pub each : EachHasNew c.problem c.slots
-  pub picked : IsPicked pick c.problem c.slots step
+  pub picked : IsPicked pick c.problem c.slots it.step
+  pub round_is : IsRoundIn c it.step it.round
 
 -- the branch of the number is the least that is saturated
 pub record IsLeastSaturated (c : Course) (number : ℕ) : Type 0 where
@@ -31,56 +35,58 @@ pub record IsLeastSaturated (c : Course) (number : ℕ) : Type 0 where
 abbrev pub IsNext : Pick → Course → Next → Type 0
 IsNext pick c Closed = AllClosed c.slots
 IsNext pick c (Saturated number) = IsLeastSaturated c number
-IsNext pick c (Take step) = IsTaken pick c step
+IsNext pick c (Take it) = IsTaken pick c it
 
--- the other step only where it is picked earlier
-abbrev pub first_step_by : Bool → Step → Step → Option Step
-first_step_by false best step = Some best
-first_step_by true best step = Some step
-
-abbrev pub first_step : Pick → Option Step → Step → Option Step
-first_step pick None step = Some step
-first_step pick (Some best) step = first_step_by (is_gt (pick_cmp pick best step)) best step
+-- the other one only where its step is picked earlier
+abbrev pub first_step : Pick → Option Found → Found → Option Found
+first_step pick None it = Some it
+first_step pick (Some best) it = first_by (is_gt (pick_cmp pick best.step it.step)) best it
 
 -- ---- the branches so far
 
--- of the due steps on branches below the bound it is the one that is picked
-pub record IsPickedBelow (pick : Pick) (p : Problem) (slots : Slots) (bound : ℕ) (step : Step) : Type 0 where
-  pub below : branch_of step < bound
-  pub due : IsDue p slots step
-  pub first : (other : Step) → branch_of other < bound → IsDue p slots other → pick_cmp pick step other ≢ Greater
+-- of the due steps on branches below the bound it is the one that is picked, with its round
+pub record IsPickedBelow (pick : Pick) (c : Course) (bound : ℕ) (it : Found) : Type 0 where
+  pub below : branch_of it.step < bound
+  pub due : IsDue c.problem c.slots it.step
+  pub first : (other : Step) → branch_of other < bound → IsDue c.problem c.slots other → pick_cmp pick it.step other ≢ Greater
+  pub round_is : IsRoundIn c it.step it.round
 
 -- or no branch below the bound is open
-abbrev pub IsFirstBelow : Pick → Problem → Slots → ℕ → Option Step → Type 0
-IsFirstBelow pick p slots bound None = (number : ℕ) (branch : Branch) → number < bound → ¬ (IsOpen slots number branch)
-IsFirstBelow pick p slots bound (Some step) = IsPickedBelow pick p slots bound step
+abbrev pub IsFirstBelow : Pick → Course → ℕ → Option Found → Type 0
+IsFirstBelow pick c bound None = (number : ℕ) (branch : Branch) → number < bound → ¬ (IsOpen c.slots number branch)
+IsFirstBelow pick c bound (Some it) = IsPickedBelow pick c bound it
 
 -- the branch of the number is closed or has a new step, and of the due steps it is the one that is picked
-pub record Passes (pick : Pick) (c : Course) (number : ℕ) (old new : Option Step) : Type 0 where
+pub record Passes (pick : Pick) (c : Course) (number : ℕ) (old new : Option Found) : Type 0 where
   pub has : (branch : Branch) → IsOpen c.slots number branch → HasNew c.problem number branch
-  pub first : IsFirstBelow pick c.problem c.slots number old → IsFirstBelow pick c.problem c.slots (number + 1) new
+  pub first : IsFirstBelow pick c number old → IsFirstBelow pick c (number + 1) new
 
 -- the branch is saturated
 pub record SaturatedAt (c : Course) (number : ℕ) : Type 0 where
   pub branch : Branch
   pub saturated : IsSaturated c.problem c.slots number branch
 
-abbrev pub IsLooked : Pick → Course → ℕ → Bool → Option Step → Option Step → Type 0
+abbrev pub IsLooked : Pick → Course → ℕ → Bool → Option Found → Option Found → Type 0
 IsLooked pick c number true old new = SaturatedAt c number
 IsLooked pick c number false old new = Passes pick c number old new
 
 -- ---- branches that wait
 
--- each open branch below the bound but one has a new step
-abbrev pub AreWaiting : Problem → Slots → Waiting → Type 0
-AreWaiting p slots waiting = (number : ℕ) (branch : Branch) → number < waiting.below → number ≢ waiting.but → IsOpen slots number branch → HasNew p number branch
+-- Each open branch below the bound but one has a new step, and that one is quiet up to the round.
+pub record AreWaiting (p : Problem) (slots : Slots) (waiting : Waiting) : Type 0 where
+  pub waits : (number : ℕ) (branch : Branch) → number < waiting.below → number ≢ waiting.but → IsOpen slots number branch → HasNew p number branch
+  pub quiet_ : (branch : Branch) → IsOpen slots waiting.but branch → IsQuietUpto p branch waiting.but waiting.quiet
 
--- it waits, and a step of a branch before it was found already
-abbrev pub MayWait : Pick → Waiting → ℕ → Option Step → Type 0
-MayWait First waiting number None = ⊥
-MayWait First waiting number (Some step) = (number < waiting.below) × (number ≢ waiting.but)
-MayWait Last waiting number None = ⊥
-MayWait Last waiting number (Some step) = ⊥
+-- its new steps aren't the next one: a step of a branch before it was found already
+abbrev pub ComesLater : Pick → Option Found → Type 0
+ComesLater First None = ⊥
+ComesLater First (Some it) = Unit {0}
+ComesLater Last None = ⊥
+ComesLater Last (Some it) = ⊥
+
+-- it waits
+abbrev pub Waits : Waiting → ℕ → Type 0
+Waits waiting number = (number < waiting.below) × (number ≢ waiting.but)
 
 -- ---- the end
 

@@ -126,11 +126,6 @@ links_at s b fact = unwrap_or (option_map (λ table. table.links) (table_at s b 
 abbrev pub fact_round : Branch → ℕ → ℕ
 fact_round b fact = unwrap_or (option_map (λ it. it.round) (slice_get b.facts fact)) 0
 
--- the steps on the fact may have no later round than what was found
-abbrev pub IsTimely : Branch → ℕ → Option Found → Type 0
-IsTimely b fact None = Unit {0}
-IsTimely b fact (Some best) = fact_round b fact < best.round
-
 -- ---- steps of mappings
 
 -- the step of the form on the facts
@@ -221,12 +216,13 @@ IsClosing number step = (step ≡ steps.Absurd number) ⊎ IsGoalStep number ste
 abbrev pub IsTelling : ℕ → Step → Type 0
 IsTelling number step = ((((IsEntryOf number step ⊎ IsLinkStep number step) ⊎ IsKeyStep number step) ⊎ IsRuleStep number step) ⊎ IsViewStep number step) ⊎ IsSplitStep number step
 
--- The due step that is picked on the branch, or none where no step on it is new.
-pub record IsDueOn (c : Course) (pick : Pick) (number : ℕ) (step : Step) : Type 0 where
-  pub on : branch_of step ≡ number
-  pub due : IsDue c.problem c.slots step
-  pub first : (other : Step) → branch_of other ≡ number → IsDue c.problem c.slots other → pick_cmp pick step other ≢ Greater
+-- The due step that is picked on the branch with its round, or none where no step on it is new.
+pub record IsDueOn (c : Course) (pick : Pick) (number : ℕ) (it : Found) : Type 0 where
+  pub on : branch_of it.step ≡ number
+  pub due : IsDue c.problem c.slots it.step
+  pub first : (other : Step) → branch_of other ≡ number → IsDue c.problem c.slots other → pick_cmp pick it.step other ≢ Greater
+  pub round_is : IsRoundIn c it.step it.round
 
-abbrev pub IsDueIfAny : Course → Pick → ℕ → Option Step → Type 0
+abbrev pub IsDueIfAny : Course → Pick → ℕ → Option Found → Type 0
 IsDueIfAny c pick number None = (step : Step) → branch_of step ≡ number → ¬ (IsNewIn c step)
-IsDueIfAny c pick number (Some step) = IsDueOn c pick number step
+IsDueIfAny c pick number (Some it) = IsDueOn c pick number it

@@ -1,11 +1,15 @@
 //! The due step of a branch, and of all open branches.
-ghost use Rattle.std.specs.Prelude.{◌≡◌, ◌↔◌, IfOk, IsTrue, None, OnOk, length};
-ghost use Rattle.ba_kernel.specs.Courses.{IsOpen, branch_of};
-ghost use Rattle.ba_instant.specs.Nexts.{AreWaiting, IsLooked, IsNext, MayWait, first_step};
+ghost use Rattle.std.specs.Prelude.{◌≡◌, ◌↔◌, IfOk, IsTrue, None, OnOk};
+ghost use Rattle.ba_kernel.specs.Courses.{IsOpen};
+ghost use Rattle.ba_instant.specs.Looks.{IsLook};
+ghost use Rattle.ba_instant.specs.Nexts.{AreWaiting, ComesLater, IsLooked, IsNext, Waits, first_step};
 ghost use Rattle.ba_instant.specs.Offers.{Improves, IsClosing, IsDueIfAny, IsOn, IsTelling};
 
 use crate::found::{Found, Spot};
 use crate::order::Pick;
+use crate::recent::recent_facts;
+use crate::waiting::Waiting;
+use ba_facts::Branch;
 use ba_kernel::{Search, Step};
 use std::alloc::{AllocError, Global};
 use std::cmp::Ordering;
@@ -17,55 +21,24 @@ pub enum Next {
     Closed,
     /// The branch of the number has no new step.
     Saturated(u32),
-    /// Takes the step.
-    Take(Step),
-}
-
-/// The branches that wait: those of a number below the bound but one, of which each that is open has
-/// a new step.
-#[derive(Clone, Copy)]
-pub struct Waiting {
-    pub below: u32,
-    pub but: u32,
-}
-
-impl Waiting {
-    /// None.
-    pub fn none() -> Waiting
-        ensures { result.below ≡ 0 }
-    {
-        Waiting { below: 0, but: 0 }
-    }
-
-    /// All but that of the step.
-    pub fn beside(search: &Search, step: &Step) -> Waiting
-        ensures below { result.below ≡ length search.now.slots }
-        ensures but { result.but ≡ branch_of step.now }
-    {
-        Waiting {
-            below: search.branches(),
-            but: step.branch(),
-        }
-    }
+    /// Takes the step, which has this round.
+    Take(Found),
 }
 
 impl<'a> Spot<'a> {
-    /// The due step that is picked on the branch; none where no step on it is new.
-    pub fn due_step(&self, alloc: Global) -> Result<Option<Step>, AllocError>
-        requires { IsOpen self.now.search.now.slots self.now.number self.now.branch.now }
+    /// The due step that is picked on the branch, with its round; none where no step on it is new.
+    pub fn due_step(&self, alloc: Global) -> Result<Option<Found>, AllocError>
+        requires { IsLook self.now.search.now self.now.number self.now.branch.now self.now.quiet self.now.recent.now }
         ensures { IfOk result (IsDueIfAny self.now.search.now self.now.pick self.now.number) }
     {
         let mut best = None;
         self.offer_all(alloc, &mut best)?;
-        match best {
-            Some(found) => Ok(Some(found.step)),
-            None => Ok(None),
-        }
+        Ok(best)
     }
 
     /// Offers all steps on the branch. Those that close it have round 0, and no others do.
     fn offer_all(&self, alloc: Global, best: &mut Option<Found>) -> Result<(), AllocError>
-        requires open { IsOpen self.now.search.now.slots self.now.number self.now.branch.now }
+        requires look { IsLook self.now.search.now self.now.number self.now.branch.now self.now.quiet self.now.recent.now }
         requires none { best.old ≡ None }
         ensures { OnOk result (Improves self.now.search.now self.now.pick (IsOn self.now.number) best.old best.new) }
     {
@@ -78,7 +51,7 @@ impl<'a> Spot<'a> {
 
     /// Offers the steps that close the branch.
     fn offer_closing(&self, alloc: Global, best: &mut Option<Found>) -> Result<(), AllocError>
-        requires { IsOpen self.now.search.now.slots self.now.number self.now.branch.now }
+        requires { IsLook self.now.search.now self.now.number self.now.branch.now self.now.quiet self.now.recent.now }
         ensures { OnOk result (Improves self.now.search.now self.now.pick (IsClosing self.now.number) best.old best.new) }
     {
         let absurd = Step::Absurd {
@@ -92,7 +65,7 @@ impl<'a> Spot<'a> {
     /// Offers the steps that tell the branch something. Links come before keys, since a link that is
     /// found early leaves few pairs of facts to be looked at.
     fn offer_telling(&self, alloc: Global, best: &mut Option<Found>) -> Result<(), AllocError>
-        requires { IsOpen self.now.search.now.slots self.now.number self.now.branch.now }
+        requires { IsLook self.now.search.now self.now.number self.now.branch.now self.now.quiet self.now.recent.now }
         ensures { OnOk result (Improves self.now.search.now self.now.pick (IsTelling self.now.number) best.old best.new) }
     {
         self.offer_entries(best);
@@ -136,7 +109,7 @@ pub fn next_step(
         }
     }
     match first {
-        Some(step) => Ok(Next::Take(step)),
+        Some(found) => Ok(Next::Take(found)),
         None => Ok(Next::Closed),
     }
 }
@@ -149,7 +122,7 @@ fn look_at(
     pick: Pick,
     waiting: Waiting,
     number: u32,
-    first: &mut Option<Step>,
+    first: &mut Option<Found>,
 ) -> Result<bool, AllocError>
     requires { AreWaiting search.now.problem search.now.slots waiting }
     ensures { IfOk result (λ it. IsLooked pick search.now number it first.old first.new) }
@@ -160,17 +133,11 @@ fn look_at(
     match search.branch(number) {
         None => Ok(false),
         Some(branch) => {
-            let spot = Spot {
-                search,
-                branch,
-                number,
-                pick,
-            };
-            let due = spot.due_step(alloc)?;
+            let due = due_on(alloc, search, branch, number, pick, waiting)?;
             match due {
                 None => Ok(true),
-                Some(step) => {
-                    keep_picked(pick, step, first);
+                Some(found) => {
+                    keep_picked(pick, found, first);
                     Ok(false)
                 }
             }
@@ -178,26 +145,58 @@ fn look_at(
     }
 }
 
-/// Whether the branch's due step, if it waits, is picked later than the one so far, which is of a
-/// branch of a lesser number.
-fn may_wait(pick: Pick, waiting: Waiting, number: u32, first: &Option<Step>) -> bool
-    ensures { IsTrue result ↔ MayWait pick waiting number first.now }
+/// Whether the branch waits, and a step of a branch before was found.
+fn may_wait(pick: Pick, waiting: Waiting, number: u32, first: &Option<Found>) -> bool
+    ensures { IsTrue result ↔ (ComesLater pick first.now × Waits waiting number) }
+{
+    comes_later(pick, first) && waiting.has(number)
+}
+
+/// The branch's due step with its round, if it has one.
+fn due_on(
+    alloc: Global,
+    search: &Search,
+    branch: &Branch,
+    number: u32,
+    pick: Pick,
+    waiting: Waiting,
+) -> Result<Option<Found>, AllocError>
+    requires waiting { AreWaiting search.now.problem search.now.slots waiting }
+    requires open { IsOpen search.now.slots number branch.now }
+    ensures { IfOk result (IsDueIfAny search.now pick number) }
+{
+    let quiet = waiting.quiet_of(number);
+    let recent = recent_facts(alloc, branch, quiet)?;
+    let spot = Spot {
+        search,
+        branch,
+        number,
+        pick,
+        quiet,
+        recent: &recent,
+    };
+    spot.due_step(alloc)
+}
+
+/// Whether a step of a branch before was found, so that no step of another is picked before it.
+fn comes_later(pick: Pick, first: &Option<Found>) -> bool
+    ensures { IsTrue result ↔ ComesLater pick first.now }
 {
     match (pick, first) {
-        (Pick::First, Some(_)) => number < waiting.below && number != waiting.but,
+        (Pick::First, Some(_)) => true,
         _ => false,
     }
 }
 
-/// Keeps the one of the two steps that is picked earlier.
-fn keep_picked(pick: Pick, step: Step, first: &mut Option<Step>)
-    ensures { first.new ≡ first_step pick first.old step }
+/// Keeps the one of the two whose step is picked earlier.
+fn keep_picked(pick: Pick, found: Found, first: &mut Option<Found>)
+    ensures { first.new ≡ first_step pick first.old found }
 {
     let is_first = match first {
-        Some(old) => pick.compare(old, &step) == Ordering::Greater,
+        Some(old) => pick.compare(&old.step, &found.step) == Ordering::Greater,
         None => true,
     };
     if is_first {
-        *first = Some(step);
+        *first = Some(found);
     }
 }

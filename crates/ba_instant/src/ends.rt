@@ -9,8 +9,10 @@ ghost use Rattle.ba_instant.specs.declared.ends.Settled.TheVariants.{Proved as B
 ghost use Rattle.ba_instant.specs.declared.order.Pick.TheVariants.{First};
 
 use crate::copies::copy_steps;
-use crate::due::{Next, Waiting, next_step};
+use crate::due::{Next, next_step};
+use crate::found::Found;
 use crate::order::Pick;
+use crate::waiting::Waiting;
 use ba_facts::Branch;
 use ba_kernel::{Problem, Proved, Search, Step};
 use ba_model::{Failure, List};
@@ -64,7 +66,7 @@ fn settle_in(
     for _taken in 0..budget {
         let next = next_step(alloc, &search, pick, waiting)?;
         match next {
-            Next::Take(step) => waiting = take(alloc, &mut search, pick, step)?,
+            Next::Take(found) => waiting = take(alloc, &mut search, pick, found)?,
             Next::Saturated(number) => return saturated(alloc, &search, number),
             Next::Closed => return Ok(closed(search)),
         }
@@ -78,17 +80,17 @@ fn settle_in(
 }
 
 /// Takes the step, which is due. All branches but its own wait then.
-fn take(alloc: Global, search: &mut Search, pick: Pick, step: Step) -> Result<Waiting, AllocError>
+fn take(alloc: Global, search: &mut Search, pick: Pick, found: Found) -> Result<Waiting, AllocError>
     requires few { length search.old.steps < MAX_BUDGET }
-    requires taken { IsTaken pick search.old step }
+    requires taken { IsTaken pick search.old found }
     requires searches { Searches pick search.old.problem search.old.steps search.old.slots }
     ensures searches { OnOk result (Searches pick search.new.problem search.new.steps search.new.slots) }
     ensures waiting { IfOk result (AreWaiting search.new.problem search.new.slots) }
     ensures problem { OnOk result (search.new.problem ≡ search.old.problem) }
-    ensures steps { OnOk result (search.new.steps ≡ search.old.steps ++ step ∷ []) }
+    ensures steps { OnOk result (search.new.steps ≡ search.old.steps ++ found.step ∷ []) }
 {
-    let waiting = Waiting::beside(search, &step);
-    match search.apply(alloc, step) {
+    let waiting = Waiting::beside(search, &found.step);
+    match search.apply(alloc, found.step) {
         Ok(()) => Ok(waiting),
         Err(Failure::NoMemory) => Err(AllocError),
         Err(Failure::Fault(_)) => unreachable!(),

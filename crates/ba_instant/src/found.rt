@@ -1,8 +1,8 @@
 //! The first of the new steps that were looked at.
-ghost use Rattle.std.specs.Prelude.{◌≡◌, IfOk};
+ghost use Rattle.std.specs.Prelude.{◌≡◌, ◌↔◌, ◌≤◌, ℕ, IfOk, IsTrue};
 ghost use Rattle.std.specs.Ordering.{is_gt};
 ghost use Rattle.ba_kernel.specs.Courses.{IsOpen};
-ghost use Rattle.ba_instant.specs.Offers.{Improves, first_found, found_cmp};
+ghost use Rattle.ba_instant.specs.Offers.{Improves, IsNewIn, IsRoundIn, Reaches, first_found, found_cmp};
 
 use crate::order::Pick;
 use ba_facts::Branch;
@@ -18,12 +18,17 @@ pub struct Found {
 }
 
 /// An open branch of a search, by number, and which of its due steps is looked for.
+///
+/// No step that tells the branch something is new there whose round is at most `quiet`. The facts of
+/// that round or a later one are `recent`, by number.
 #[derive(Clone, Copy)]
 pub struct Spot<'a> {
     pub search: &'a Search,
     pub branch: &'a Branch,
     pub number: u32,
     pub pick: Pick,
+    pub quiet: u32,
+    pub recent: &'a [u32],
 }
 
 impl<'a> Spot<'a> {
@@ -37,13 +42,25 @@ impl<'a> Spot<'a> {
             None => (),
         }
     }
+
+    /// The same of a step whose round is at least so much if it is new. It isn't looked at where
+    /// what was found comes before it even so.
+    pub fn offer_late(&self, least: u64, step: Step, best: &mut Option<Found>)
+        requires { (round : ℕ) → IsNewIn self.now.search.now step → IsRoundIn self.now.search.now step round → least ≤ round }
+        ensures { Improves self.now.search.now self.now.pick (λ it. it ≡ step) best.old best.new }
+    {
+        if is_reached(self.pick, best, least, &step) {
+            return;
+        }
+        self.offer(step, best);
+    }
 }
 
 fn keep_first(pick: Pick, found: Found, best: &mut Option<Found>)
     ensures { best.new ≡ first_found pick best.old found }
 {
     let is_first = match best {
-        Some(old) => is_before(pick, &found, old),
+        Some(old) => is_before(pick, found.round, &found.step, old),
         None => true,
     };
     if is_first {
@@ -51,14 +68,22 @@ fn keep_first(pick: Pick, found: Found, best: &mut Option<Found>)
     }
 }
 
-#[tactic(auto, unfolding(crate::specs::Offers::found_cmp))]
-fn is_before(pick: Pick, found: &Found, old: &Found) -> bool
-    ensures { result ≡ is_gt (found_cmp pick old.now found.now) }
+/// Whether there is one that was found, and the step of the round isn't before it.
+fn is_reached(pick: Pick, best: &Option<Found>, round: u64, step: &Step) -> bool
+    ensures { IsTrue result ↔ Reaches pick best.now (record { round = round; step = step.now }) }
 {
-    let order = old
-        .round
-        .cmp(&found.round)
-        .then(pick.compare(&old.step, &found.step));
+    match best {
+        Some(old) => !is_before(pick, round, step, old),
+        None => false,
+    }
+}
+
+/// Whether the step of the round comes before what was found.
+#[tactic(auto, unfolding(crate::specs::Offers::found_cmp))]
+fn is_before(pick: Pick, round: u64, step: &Step, old: &Found) -> bool
+    ensures { result ≡ is_gt (found_cmp pick old.now (record { round = round; step = step.now })) }
+{
+    let order = old.round.cmp(&round).then(pick.compare(&old.step, step));
     order == Ordering::Greater
 }
 

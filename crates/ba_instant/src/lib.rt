@@ -7,11 +7,14 @@ mod copies;
 mod due;
 mod ends;
 mod found;
+mod keys;
 pub mod laws;
 mod mapped;
 mod order;
 mod parts;
+mod recent;
 mod splits;
+mod waiting;
 
 pub use ends::{Leaf, Settled, settle};
 pub use order::{Pick, compare_steps};

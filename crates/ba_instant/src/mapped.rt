@@ -1,10 +1,12 @@
 //! Steps on facts that a part is mapped to.
-ghost use Rattle.std.specs.Prelude.{◌≡◌, ◌↔◌, [], Any, IfOk, IsTrue, OnOk};
+ghost use Rattle.std.specs.Prelude.{◌≡◌, ◌↔◌, [], ◌∷◌, Any, IfOk, IsTrue, OnOk};
 ghost use Rattle.ba_facts.specs.Matches.{IsFactOf};
 ghost use Rattle.ba_kernel.specs.Effects.{rows_at};
+ghost use Rattle.ba_instant.specs.Looks.{AreOld, IsLook, IsTimelyOf, least_round};
 ghost use Rattle.ba_instant.specs.Offers.{Improves, IsHidden, IsMapped, IsMappedFrom, step_of};
 
 use crate::found::{Found, Spot, counted};
+use crate::recent::{fact_round, greatest_round};
 use ba_facts::{Branch, Side};
 use ba_kernel::Step;
 use ba_model::{Atom, List, Part};
@@ -58,6 +60,7 @@ impl<'a> Mapped<'a> {
     /// Offers the step on each facts of the side that show the part's atoms.
     #[tactic(auto, using(crate::proofs::MapLemmas::mapped_whole))]
     pub fn offer(&self, alloc: Global, best: &mut Option<Found>) -> Result<(), AllocError>
+        requires { IsLook self.now.spot.now.search.now self.now.spot.now.number self.now.spot.now.branch.now self.now.spot.now.quiet self.now.spot.now.recent.now }
         ensures { OnOk result (Improves self.now.spot.now.search.now self.now.spot.now.pick (IsMapped self.now.spot.now.branch.now self.now.spot.now.number self.now.form self.now.side self.now.part.now) best.old best.new) }
     {
         let mut chosen = Vec::new(alloc);
@@ -73,26 +76,52 @@ impl<'a> Mapped<'a> {
         chosen: &mut Vec<u32>,
         best: &mut Option<Found>,
     ) -> Result<(), AllocError>
+        requires { IsLook self.now.spot.now.search.now self.now.spot.now.number self.now.spot.now.branch.now self.now.spot.now.quiet self.now.spot.now.recent.now }
         ensures chosen { OnOk result (chosen.new.items ≡ chosen.old.items) }
         ensures best { OnOk result (Improves self.now.spot.now.search.now self.now.spot.now.pick (IsMappedFrom self.now.spot.now.branch.now self.now.spot.now.number self.now.form self.now.side self.now.part.now from.now chosen.old.items) best.old best.new) }
     {
+        let Some((table, rest)) = from.split_first() else {
+            return self.offer_on(alloc, chosen, best);
+        };
         if is_hopeless(self.spot.branch, self.part, chosen) {
             return Ok(());
         }
-        match from.split_first() {
-            None => self.offer_on(alloc, chosen, best),
-            Some((table, rest)) => {
-                let count = counted(self.spot.branch.facts.len())?;
-                for fact in 0..count {
-                    if self.is_fact(*table, fact) {
-                        chosen.push(fact)?;
-                        self.offer_from(alloc, rest, chosen, best)?;
-                        chosen.pop();
-                    }
-                }
-                Ok(())
+        if rest.is_empty() && self.are_old(chosen) {
+            return self.offer_recent(alloc, *table, chosen, best);
+        }
+        let count = counted(self.spot.branch.facts.len())?;
+        for fact in 0..count {
+            if self.may_take(*table, fact, best) {
+                chosen.push(fact)?;
+                self.offer_from(alloc, rest, chosen, best)?;
+                chosen.pop();
             }
         }
+        Ok(())
+    }
+
+    /// Offers the step on the chosen facts and one more of the table. None of the chosen ones is
+    /// recent, so that the last one is.
+    fn offer_recent(
+        &self,
+        alloc: Global,
+        table: u32,
+        chosen: &mut Vec<u32>,
+        best: &mut Option<Found>,
+    ) -> Result<(), AllocError>
+        requires look { IsLook self.now.spot.now.search.now self.now.spot.now.number self.now.spot.now.branch.now self.now.spot.now.quiet self.now.spot.now.recent.now }
+        requires old { AreOld self.now.spot.now.branch.now self.now.spot.now.quiet self.now.form chosen.old.items }
+        ensures chosen { OnOk result (chosen.new.items ≡ chosen.old.items) }
+        ensures best { OnOk result (Improves self.now.spot.now.search.now self.now.spot.now.pick (IsMappedFrom self.now.spot.now.branch.now self.now.spot.now.number self.now.form self.now.side self.now.part.now (table ∷ []) chosen.old.items) best.old best.new) }
+    {
+        for fact in self.spot.recent {
+            if self.may_take(table, *fact, best) {
+                chosen.push(*fact)?;
+                self.offer_on(alloc, chosen, best)?;
+                chosen.pop();
+            }
+        }
+        Ok(())
     }
 
     /// Offers the step on the facts, if they show the part's atoms.
@@ -102,15 +131,55 @@ impl<'a> Mapped<'a> {
         facts: &[u32],
         best: &mut Option<Found>,
     ) -> Result<(), AllocError>
+        requires { IsLook self.now.spot.now.search.now self.now.spot.now.number self.now.spot.now.branch.now self.now.spot.now.quiet self.now.spot.now.recent.now }
         ensures { OnOk result (Improves self.now.spot.now.search.now self.now.spot.now.pick (IsMappedFrom self.now.spot.now.branch.now self.now.spot.now.number self.now.form self.now.side self.now.part.now [] facts.now) best.old best.new) }
     {
         match self.spot.branch.undecided(self.part, facts) {
             None => {
                 let step = self.form.on(self.spot.number, copied(alloc, facts)?);
-                self.spot.offer(step, best);
+                self.spot.offer_late(self.least_round(facts), step, best);
                 Ok(())
             }
             Some(_) => Ok(()),
+        }
+    }
+
+    /// The least round of the step on the facts.
+    fn least_round(&self, facts: &[u32]) -> u64
+        ensures { result ≡ least_round self.now.spot.now.branch.now self.now.form facts.now }
+    {
+        match self.form {
+            Form::OfGoal { .. } => 0,
+            _ => u64::from(greatest_round(self.spot.branch, facts)) + 1,
+        }
+    }
+
+    /// Whether the step tells something, and none of the facts is recent.
+    fn are_old(&self, chosen: &[u32]) -> bool
+        ensures { IsTrue result ↔ AreOld self.now.spot.now.branch.now self.now.spot.now.quiet self.now.form chosen.now }
+    {
+        match self.form {
+            Form::OfGoal { .. } => false,
+            _ => greatest_round(self.spot.branch, chosen) < self.spot.quiet,
+        }
+    }
+
+    /// Whether the number is that of a fact of the table on the side, and the step on it may come
+    /// before what was found.
+    fn may_take(&self, table: u32, fact: u32, best: &Option<Found>) -> bool
+        ensures { IsTrue result ↔ (IsFactOf self.now.spot.now.branch.now self.now.side table fact × IsTimelyOf self.now.spot.now.pick self.now.spot.now.number self.now.spot.now.branch.now self.now.form fact best.now) }
+    {
+        self.is_fact(table, fact) && self.is_timely(fact, best)
+    }
+
+    fn is_timely(&self, fact: u32, best: &Option<Found>) -> bool
+        ensures { IsTrue result ↔ IsTimelyOf self.now.spot.now.pick self.now.spot.now.number self.now.spot.now.branch.now self.now.form fact best.now }
+    {
+        let round = fact_round(self.spot.branch, fact);
+        match self.form {
+            Form::OfRule { .. } => self.spot.is_timely(3, round, best),
+            Form::OfView { .. } => self.spot.is_timely(4, round, best),
+            Form::OfGoal { .. } => true,
         }
     }
 

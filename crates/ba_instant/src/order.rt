@@ -60,7 +60,7 @@ fn compare_numbers(one: &Step, other: &Step) -> Ordering
         .then(facts_of(one).cmp(facts_of(other)))
 }
 
-fn rank_of(step: &Step) -> u8
+pub fn rank_of(step: &Step) -> u8
     ensures { result ≡ step_rank step.now }
 {
     match step {

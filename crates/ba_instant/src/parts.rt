@@ -1,6 +1,6 @@
 //! Rules, views and the goal.
 ghost use Rattle.std.specs.Prelude.{◌≡◌, ◌<◌, OnOk, Some, length, slice_get};
-ghost use Rattle.ba_kernel.specs.Courses.{IsOpen};
+ghost use Rattle.ba_instant.specs.Looks.{IsLook};
 ghost use Rattle.ba_instant.specs.Offers.{Improves, IsGoalStep, IsOfRule, IsOfSides, IsOfView, IsRuleStep, IsViewStep};
 ghost use Rattle.ba_instant.specs.declared.mapped.Form.TheVariants.{OfRule};
 
@@ -55,7 +55,17 @@ impl<'a> Spot<'a> {
 
     /// Offers the steps by views.
     pub fn offer_views(&self, alloc: Global, best: &mut Option<Found>) -> Result<(), AllocError>
-        requires { IsOpen self.now.search.now.slots self.now.number self.now.branch.now }
+        requires { IsLook self.now.search.now self.now.number self.now.branch.now self.now.quiet self.now.recent.now }
+        ensures { OnOk result (Improves self.now.search.now self.now.pick (IsViewStep self.now.number) best.old best.new) }
+    {
+        if self.is_timely(4, self.quiet, best) {
+            self.offer_all_views(alloc, best)?;
+        }
+        Ok(())
+    }
+
+    fn offer_all_views(&self, alloc: Global, best: &mut Option<Found>) -> Result<(), AllocError>
+        requires { IsLook self.now.search.now self.now.number self.now.branch.now self.now.quiet self.now.recent.now }
         ensures { OnOk result (Improves self.now.search.now self.now.pick (IsViewStep self.now.number) best.old best.new) }
     {
         let count = counted(self.search.problem().policy.views.len())?;
@@ -72,7 +82,7 @@ impl<'a> Spot<'a> {
         view: u32,
         best: &mut Option<Found>,
     ) -> Result<(), AllocError>
-        requires open { IsOpen self.now.search.now.slots self.now.number self.now.branch.now }
+        requires look { IsLook self.now.search.now self.now.number self.now.branch.now self.now.quiet self.now.recent.now }
         requires there { view < length self.now.search.now.problem.policy.views }
         ensures { OnOk result (Improves self.now.search.now self.now.pick (IsOfView self.now.number view) best.old best.new) }
     {
@@ -92,7 +102,17 @@ impl<'a> Spot<'a> {
 
     /// Offers the steps by rules.
     pub fn offer_rules(&self, alloc: Global, best: &mut Option<Found>) -> Result<(), AllocError>
-        requires { IsOpen self.now.search.now.slots self.now.number self.now.branch.now }
+        requires { IsLook self.now.search.now self.now.number self.now.branch.now self.now.quiet self.now.recent.now }
+        ensures { OnOk result (Improves self.now.search.now self.now.pick (IsRuleStep self.now.number) best.old best.new) }
+    {
+        if self.is_timely(3, self.quiet, best) {
+            self.offer_all_rules(alloc, best)?;
+        }
+        Ok(())
+    }
+
+    fn offer_all_rules(&self, alloc: Global, best: &mut Option<Found>) -> Result<(), AllocError>
+        requires { IsLook self.now.search.now self.now.number self.now.branch.now self.now.quiet self.now.recent.now }
         ensures { OnOk result (Improves self.now.search.now self.now.pick (IsRuleStep self.now.number) best.old best.new) }
     {
         let count = counted(self.search.problem().policy.schema.rules.len())?;
@@ -109,7 +129,7 @@ impl<'a> Spot<'a> {
         rule: u32,
         best: &mut Option<Found>,
     ) -> Result<(), AllocError>
-        requires open { IsOpen self.now.search.now.slots self.now.number self.now.branch.now }
+        requires look { IsLook self.now.search.now self.now.number self.now.branch.now self.now.quiet self.now.recent.now }
         requires there { rule < length self.now.search.now.problem.policy.schema.rules }
         ensures { OnOk result (Improves self.now.search.now self.now.pick (IsOfRule self.now.number rule) best.old best.new) }
     {
@@ -130,7 +150,7 @@ impl<'a> Spot<'a> {
         part: &Part,
         best: &mut Option<Found>,
     ) -> Result<(), AllocError>
-        requires { IsOpen self.now.search.now.slots self.now.number self.now.branch.now }
+        requires { IsLook self.now.search.now self.now.number self.now.branch.now self.now.quiet self.now.recent.now }
         ensures { OnOk result (Improves self.now.search.now self.now.pick (IsOfSides self.now.branch.now self.now.number (OfRule rule number) part.now) best.old best.new) }
     {
         let form = Form::OfRule { rule, part: number };
@@ -148,7 +168,7 @@ impl<'a> Spot<'a> {
 
     /// Offers the steps that reach the goal.
     pub fn offer_goals(&self, alloc: Global, best: &mut Option<Found>) -> Result<(), AllocError>
-        requires { IsOpen self.now.search.now.slots self.now.number self.now.branch.now }
+        requires { IsLook self.now.search.now self.now.number self.now.branch.now self.now.quiet self.now.recent.now }
         ensures { OnOk result (Improves self.now.search.now self.now.pick (IsGoalStep self.now.number) best.old best.new) }
     {
         let count = counted(self.goal_parts().len())?;

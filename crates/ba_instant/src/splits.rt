@@ -1,19 +1,30 @@
 //! Splits by atoms of live mappings.
-ghost use Rattle.std.specs.Prelude.{◌≡◌, ◌⊎◌, IfOk, OnOk};
+ghost use Rattle.std.specs.Prelude.{◌≡◌, ◌↔◌, ◌⊎◌, IfOk, IsTrue, OnOk};
 ghost use Rattle.ba_facts.specs.Known.{seen};
 ghost use Rattle.ba_facts.specs.declared.term.Side.TheVariants.{One, Two};
 ghost use Rattle.ba_kernel.specs.Courses.{IsOpen};
+ghost use Rattle.ba_instant.specs.Looks.{AreEquations, IsLook};
 ghost use Rattle.ba_instant.specs.Offers.{Improves, IsSplitOfAtom, IsSplitOfConds, IsSplitOfPart, IsSplitOfParts, IsSplitOfRules, IsSplitOfSides, IsSplitOfViews, IsSplitStep};
 
 use crate::found::{Found, Spot};
 use ba_facts::{Side, Term, TermAtom, TermRef};
 use ba_kernel::Step;
-use ba_model::{Atom, Duplicate, Op, Part, Rule, View};
+use ba_model::{Atom, Duplicate, Op, Part, Rule, Same, View};
 use std::alloc::{AllocError, Global};
 
 impl<'a> Spot<'a> {
     /// Offers the splits.
     pub fn offer_splits(&self, alloc: Global, best: &mut Option<Found>) -> Result<(), AllocError>
+        requires { IsLook self.now.search.now self.now.number self.now.branch.now self.now.quiet self.now.recent.now }
+        ensures { OnOk result (Improves self.now.search.now self.now.pick (IsSplitStep self.now.number) best.old best.new) }
+    {
+        if self.is_timely(5, self.quiet, best) {
+            self.offer_all_splits(alloc, best)?;
+        }
+        Ok(())
+    }
+
+    fn offer_all_splits(&self, alloc: Global, best: &mut Option<Found>) -> Result<(), AllocError>
         requires { IsOpen self.now.search.now.slots self.now.number self.now.branch.now }
         ensures { OnOk result (Improves self.now.search.now self.now.pick (IsSplitStep self.now.number) best.old best.new) }
     {
@@ -30,6 +41,7 @@ impl<'a> Spot<'a> {
         views: &[View],
         best: &mut Option<Found>,
     ) -> Result<(), AllocError>
+        requires { IsOpen self.now.search.now.slots self.now.number self.now.branch.now }
         ensures { OnOk result (Improves self.now.search.now self.now.pick (IsSplitOfViews self.now.branch.now self.now.number views.now) best.old best.new) }
     {
         for view in views {
@@ -45,6 +57,7 @@ impl<'a> Spot<'a> {
         rules: &[Rule],
         best: &mut Option<Found>,
     ) -> Result<(), AllocError>
+        requires { IsOpen self.now.search.now.slots self.now.number self.now.branch.now }
         ensures { OnOk result (Improves self.now.search.now self.now.pick (IsSplitOfRules self.now.branch.now self.now.number rules.now) best.old best.new) }
     {
         for rule in rules {
@@ -60,6 +73,7 @@ impl<'a> Spot<'a> {
         parts: &[Part],
         best: &mut Option<Found>,
     ) -> Result<(), AllocError>
+        requires { IsOpen self.now.search.now.slots self.now.number self.now.branch.now }
         ensures { OnOk result (Improves self.now.search.now self.now.pick (IsSplitOfSides self.now.branch.now self.now.number parts.now) best.old best.new) }
     {
         self.offer_part_splits(alloc, parts, Side::One, best)?;
@@ -75,6 +89,7 @@ impl<'a> Spot<'a> {
         side: Side,
         best: &mut Option<Found>,
     ) -> Result<(), AllocError>
+        requires { IsOpen self.now.search.now.slots self.now.number self.now.branch.now }
         ensures { OnOk result (Improves self.now.search.now self.now.pick (IsSplitOfParts self.now.branch.now self.now.number side parts.now) best.old best.new) }
     {
         for part in parts {
@@ -83,7 +98,7 @@ impl<'a> Spot<'a> {
         Ok(())
     }
 
-    /// Offers the splits by atoms of the part, mapped to the side.
+    /// Offers the splits by atoms of the part, mapped to the side. None is by an `=`.
     fn offer_splits_of(
         &self,
         alloc: Global,
@@ -91,8 +106,12 @@ impl<'a> Spot<'a> {
         side: Side,
         best: &mut Option<Found>,
     ) -> Result<(), AllocError>
+        requires { IsOpen self.now.search.now.slots self.now.number self.now.branch.now }
         ensures { OnOk result (Improves self.now.search.now self.now.pick (IsSplitOfPart self.now.branch.now self.now.number side part.now) best.old best.new) }
     {
+        if are_equations(part) {
+            return Ok(());
+        }
         let found = self.branch.matches(alloc, part, side)?;
         for mapping in found.as_slice() {
             self.offer_atoms(alloc, mapping.facts.as_slice(), part.conds.as_slice(), best)?;
@@ -142,6 +161,14 @@ impl<'a> Spot<'a> {
             _ => Ok(()),
         }
     }
+}
+
+/// Whether each atom of the part is an `=`.
+fn are_equations(part: &Part) -> bool
+    ensures { IsTrue result ↔ AreEquations part.now.conds }
+{
+    let conds = part.conds.as_slice();
+    conds.iter().all(|atom| atom.op.same(&Op::Eq))
 }
 
 fn term_atom(

@@ -6,5 +6,5 @@ use Rattle.ba_instant.proofs.due.next_step.Given as goal
 abbrev pub invariant-loop-number : goal.invariant-loop-number
 invariant-loop-number l = record {
   news : HaveNewBelow l.search.problem l.search.slots l.number;
-  first : IsFirstBelow l.pick l.search.problem l.search.slots l.number l.first;
+  first : IsFirstBelow l.pick l.search l.number l.first;
 }

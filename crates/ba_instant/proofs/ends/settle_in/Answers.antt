@@ -1,12 +1,12 @@
 use Rattle.std.proofs.Common.{◌≡◌, ◌≤◌, ap, arith, length}
-use Rattle.ba_instant.proofs.NextLemmas.{may_saturate, may_spend, searches_start}
+use Rattle.ba_instant.proofs.NextLemmas.{may_saturate, may_spend, none_waits, searches_start}
 use Rattle.ba_instant.proofs.ends.settle_in.Goals as goal
 
 pub loop-taken-init : goal.loop-taken-init
 loop-taken-init c = record {
   problem = c.in_ok-search.ensures.problem;
   searches = searches_start c.args.pick c.in_ok-search.search c.args.problem c.in_ok-search.ensures.problem c.in_ok-search.ensures.steps c.in_ok-search.ensures.slots;
-  waiting = λ number b below other is. absurd (let no : ⊥ = omega (arith, below, c.none-waiting.ensures) in no);
+  waiting = none_waits c.in_ok-search.search.problem c.in_ok-search.search.slots c.none-waiting.result c.none-waiting.ensures.below c.none-waiting.ensures.quiet;
   count = ap length c.in_ok-search.ensures.steps;
 }
 

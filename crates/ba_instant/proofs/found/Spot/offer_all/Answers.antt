@@ -8,5 +8,5 @@ returns-in_ok-offer_telling c =
 
 pub returns-else-is_none : goal.returns-else-is_none
 returns-else-is_none c =
-    closing_all c.args.self.now.search.now c.args.self.now.number c.args.self.now.branch.now c.requires.open c.args.self.now.pick c.args.best.now c.offer_closing.new.best c.requires.none
+    closing_all c.args.self.now.search.now c.args.self.now.number c.args.self.now.branch.now c.requires.look.open_ c.args.self.now.pick c.args.best.now c.offer_closing.new.best c.requires.none
     (λ none. let t = c.is_none.ensures.1 none in cc) c.in_ok-offer_closing.ensures

@@ -11,10 +11,10 @@ pub loop-part-preserved : goal.loop-part-preserved
 loop-part-preserved c =
     let there : slice_get c.args.self.now.search.now.problem.goal.parts c.loop-part.part ≡ Some c.goal_part.result.now = c.goal_part.ensures in
     improves_next c.args.self.now.search.now c.args.self.now.pick (λ part. IsOfForm c.args.self.now.number (OfGoal part)) c.loop-part.part c.args.best.now c.loop-part.best c.offer.new.best c.loop-part.invariant
-    (goal_mapped c.args.self.now.search.now c.args.self.now.number c.args.self.now.branch.now c.requires c.args.self.now.pick c.loop-part.part c.goal_part.result.now c.loop-part.best c.offer.new.best there c.in_ok-offer.ensures)
+    (goal_mapped c.args.self.now.search.now c.args.self.now.number c.args.self.now.branch.now c.requires.open_ c.args.self.now.pick c.loop-part.part c.goal_part.result.now c.loop-part.best c.offer.new.best there c.in_ok-offer.ensures)
 
 pub returns : goal.returns
 returns c =
     let past : length c.args.self.now.search.now.problem.goal.parts ≤ c.loop-part.part = grind (arith, common_steps) in
     improves_end c.args.self.now.search.now c.args.self.now.pick (λ part. IsOfForm c.args.self.now.number (OfGoal part)) c.loop-part.part c.args.best.now c.loop-part.best c.loop-part.invariant
-    (λ part step more of new. goal_past c.args.self.now.search.now c.args.self.now.number c.args.self.now.branch.now c.requires part step (omega (arith, past, more)) of new)
+    (λ part step more of new. goal_past c.args.self.now.search.now c.args.self.now.number c.args.self.now.branch.now c.requires.open_ part step (omega (arith, past, more)) of new)

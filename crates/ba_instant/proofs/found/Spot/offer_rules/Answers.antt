@@ -1,17 +1,10 @@
-use Rattle.std.proofs.Common.{◌≤◌, arith, length}
-use Rattle.std.proofs.lemmas.Grind.{common_steps}
-use Rattle.ba_instant.proofs.MapLemmas.{rule_past}
-use Rattle.ba_instant.proofs.OfferLemmas.{improves_end, improves_next}
-use Rattle.ba_instant.specs.Offers.{IsOfRule}
+use Rattle.std.proofs.Common.{ap, inl, inr}
+use Rattle.ba_instant.proofs.LookLemmas.{telling_untimely}
+use Rattle.ba_instant.specs.Offers.{IsRuleStep}
+use Rattle.ba_instant.specs.Order.{step_rank}
 use Rattle.ba_instant.proofs.found.Spot.offer_rules.Goals as goal
 
-pub loop-rule-preserved : goal.loop-rule-preserved
-loop-rule-preserved c =
-    improves_next c.args.self.now.search.now c.args.self.now.pick (IsOfRule c.args.self.now.number) c.loop-rule.rule c.args.best.now c.loop-rule.best c.offer_rule.new.best c.loop-rule.invariant
-    c.in_ok-offer_rule.ensures
-
-pub returns : goal.returns
-returns c =
-    let past : length c.args.self.now.search.now.problem.policy.schema.rules ≤ c.loop-rule.rule = grind (arith, common_steps) in
-    improves_end c.args.self.now.search.now c.args.self.now.pick (IsOfRule c.args.self.now.number) c.loop-rule.rule c.args.best.now c.loop-rule.best c.loop-rule.invariant
-    (λ rule step more of new. rule_past c.args.self.now.search.now c.args.self.now.number c.args.self.now.branch.now c.requires rule step (omega (arith, past, more)) of new)
+pub returns-else-is_timely : goal.returns-else-is_timely
+returns-else-is_timely c =
+    telling_untimely c.args.self.now.search.now c.args.self.now.number c.args.self.now.quiet c.args.self.now.branch.now c.args.self.now.recent.now c.requires c.args.self.now.pick (IsRuleStep c.args.self.now.number) 3 c.args.best.now
+    (λ h. let t = c.is_timely.ensures.1 h in cc) (λ step h. (inl (inl (inr h)), ap step_rank ((h.1).1).1))

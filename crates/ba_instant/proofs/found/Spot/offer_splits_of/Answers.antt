@@ -1,6 +1,6 @@
 use Rattle.std.proofs.Common.{subst, sym}
 use Rattle.ba_facts.specs.Matches.{AreMatches}
-use Rattle.ba_instant.proofs.SplitLemmas.{at_all, at_more, split_part}
+use Rattle.ba_instant.proofs.SplitLemmas.{at_all, at_more, split_none, split_part}
 use Rattle.ba_instant.specs.Offers.{Improves, IsSplitOfConds}
 use Rattle.ba_instant.proofs.found.Spot.offer_splits_of.Goals as goal
 
@@ -11,6 +11,10 @@ loop-mapping-preserved c =
     (subst (λ facts. Improves c.args.self.now.search.now c.args.self.now.pick (IsSplitOfConds c.args.self.now.branch.now c.args.self.now.number facts c.args.part.now.conds) c.loop-mapping.best c.offer_atoms.new.best) c.as_slice.ensures
     (subst (λ conds. Improves c.args.self.now.search.now c.args.self.now.pick (IsSplitOfConds c.args.self.now.branch.now c.args.self.now.number c.as_slice.result.now conds) c.loop-mapping.best c.offer_atoms.new.best)
     c.as_slice-in-loop-mapping.ensures c.in_ok-offer_atoms.ensures))
+
+pub returns-then-are_equations : goal.returns-then-are_equations
+returns-then-are_equations c =
+    split_none c.args.self.now.search.now c.args.self.now.pick c.args.self.now.number c.args.self.now.branch.now c.requires c.args.side c.args.part.now c.args.best.now (c.are_equations.ensures.0 c.if-are_equations.true)
 
 pub returns : goal.returns
 returns c =

@@ -1,17 +1,10 @@
-use Rattle.std.proofs.Common.{◌≤◌, arith, length}
-use Rattle.std.proofs.lemmas.Grind.{common_steps}
-use Rattle.ba_instant.proofs.MapLemmas.{view_past}
-use Rattle.ba_instant.proofs.OfferLemmas.{improves_end, improves_next}
-use Rattle.ba_instant.specs.Offers.{IsOfView}
+use Rattle.std.proofs.Common.{ap, inl, inr}
+use Rattle.ba_instant.proofs.LookLemmas.{telling_untimely}
+use Rattle.ba_instant.specs.Offers.{IsViewStep}
+use Rattle.ba_instant.specs.Order.{step_rank}
 use Rattle.ba_instant.proofs.found.Spot.offer_views.Goals as goal
 
-pub loop-view-preserved : goal.loop-view-preserved
-loop-view-preserved c =
-    improves_next c.args.self.now.search.now c.args.self.now.pick (IsOfView c.args.self.now.number) c.loop-view.view c.args.best.now c.loop-view.best c.offer_view.new.best c.loop-view.invariant
-    c.in_ok-offer_view.ensures
-
-pub returns : goal.returns
-returns c =
-    let past : length c.args.self.now.search.now.problem.policy.views ≤ c.loop-view.view = grind (arith, common_steps) in
-    improves_end c.args.self.now.search.now c.args.self.now.pick (IsOfView c.args.self.now.number) c.loop-view.view c.args.best.now c.loop-view.best c.loop-view.invariant
-    (λ view step more of new. view_past c.args.self.now.search.now c.args.self.now.number c.args.self.now.branch.now c.requires view step (omega (arith, past, more)) of new)
+pub returns-else-is_timely : goal.returns-else-is_timely
+returns-else-is_timely c =
+    telling_untimely c.args.self.now.search.now c.args.self.now.number c.args.self.now.quiet c.args.self.now.branch.now c.args.self.now.recent.now c.requires c.args.self.now.pick (IsViewStep c.args.self.now.number) 4 c.args.best.now
+    (λ h. let t = c.is_timely.ensures.1 h in cc) (λ step h. (inl (inr h), ap step_rank ((h.1).1).1))

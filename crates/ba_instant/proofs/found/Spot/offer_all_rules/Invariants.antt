@@ -1,5 +1,5 @@
 use Rattle.ba_instant.specs.Offers.{Improves, IsOfRule, Upto}
-use Rattle.ba_instant.proofs.found.Spot.offer_rules.Given as goal
+use Rattle.ba_instant.proofs.found.Spot.offer_all_rules.Given as goal
 
 -- the rules so far were offered
 abbrev pub invariant-loop-rule : goal.invariant-loop-rule

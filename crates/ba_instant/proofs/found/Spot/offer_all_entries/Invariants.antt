@@ -1,7 +1,7 @@
 use Rattle.std.proofs.Common.{◌≡◌}
 use Rattle.ba_kernel.specs.declared.step.Step.TheVariants as steps
 use Rattle.ba_instant.specs.Offers.{Improves, Upto}
-use Rattle.ba_instant.proofs.found.Spot.offer_entries.Given as goal
+use Rattle.ba_instant.proofs.found.Spot.offer_all_entries.Given as goal
 
 -- the entries so far were offered
 abbrev pub invariant-loop-entry : goal.invariant-loop-entry

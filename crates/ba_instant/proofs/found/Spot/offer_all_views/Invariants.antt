@@ -1,5 +1,5 @@
 use Rattle.ba_instant.specs.Offers.{Improves, IsOfView, Upto}
-use Rattle.ba_instant.proofs.found.Spot.offer_views.Given as goal
+use Rattle.ba_instant.proofs.found.Spot.offer_all_views.Given as goal
 
 -- the views so far were offered
 abbrev pub invariant-loop-view : goal.invariant-loop-view

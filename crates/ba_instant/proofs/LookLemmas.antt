@@ -1,0 +1,140 @@
+-- What isn't new on a branch that is quiet up to a round.
+use Rattle.std.proofs.Common.{◌≡◌, ◌∙◌, ℕ, ◌+◌, ◌<◌, ◌≤◌, ◌⊎◌, inl, inr, List, [], ◌∷◌, refl, sym, ap, subst, arith}
+use Rattle.std.proofs.lemmas.Bool.{cases_lt}
+use Rattle.std.specs.List.{Any, Contains}
+use Rattle.std.specs.Prelude.{Option, Some, None, option_map, slice_get, unwrap_or}
+use Rattle.ba_facts.specs.Matches.{round_of}
+use Rattle.ba_facts.specs.declared.branch.Branch.{Branch}
+use Rattle.ba_facts.specs.declared.term.Fact.{Fact}
+use Rattle.ba_kernel.specs.Courses.{IsOpen, branch_of}
+use Rattle.ba_kernel.specs.Effects.{IsEntryRound, SharesLiteral}
+use Rattle.ba_kernel.specs.News.{IsNewOn, IsRound, IsRoundOfEntry}
+use Rattle.ba_kernel.specs.Tests.{Course, LinkPasses}
+use Rattle.ba_kernel.specs.declared.problem.Problem.{Problem}
+use Rattle.ba_kernel.specs.declared.problem.ProblemEntry.{ProblemEntry}
+use Rattle.ba_kernel.specs.declared.step.Step.{Step}
+use Rattle.ba_kernel.specs.declared.step.Step.TheVariants as steps
+use Rattle.ba_instant.proofs.ChaseLemmas.{new_on}
+use Rattle.ba_instant.proofs.DueLemmas.{round_on, telling_on}
+use Rattle.ba_instant.proofs.LateLemmas.{improves_untimely}
+use Rattle.ba_instant.proofs.OfferLemmas.{improves_as, improves_none}
+use Rattle.ba_instant.specs.Looks.{AreRecent, IsLook, IsTimely}
+use Rattle.ba_instant.specs.Offers.{Improves, IsEntryOf, IsFound, IsLinkOfFact, IsLinkStep, IsNewIn, IsRoundIn, IsTelling, fact_round}
+use Rattle.ba_instant.specs.Order.{step_rank}
+use Rattle.ba_instant.specs.Windows.{IsQuietUpto}
+use Rattle.ba_instant.specs.declared.found.Found.{Found}
+use Rattle.ba_instant.specs.declared.order.Pick.{Pick}
+
+-- ---- round 0
+
+entry_first : (p : Problem) (it : ProblemEntry) (round : ℕ) → IsEntryRound p it.row round → 0 < round
+entry_first p it round (inl h) = let e = h.1 in omega (arith, e)
+entry_first p it round (inr h) = let e = h.1 in omega (arith, e)
+
+module _ (p : Problem) (b : Branch) (n : ℕ) where
+  telling_first : (step : Step) (round : ℕ) → IsTelling n step → IsRound p b step round → 0 < round
+  telling_first step round (inl (inl (inl (inl (inl h))))) r =
+      let of : IsRoundOfEntry p h.0 round = subst (λ s. IsRound p b s round) h.1 r in
+      entry_first p of.it round of.round_is
+  telling_first step round (inl (inl (inl (inl (inr h))))) r =
+      let of : IsRound p b (steps.Link n (h.1).0 h.0) round = subst (λ s. IsRound p b s round) (h.1).1 r in
+      omega (arith, of)
+  telling_first step round (inl (inl (inl (inr h)))) r =
+      let of : IsRound p b (steps.Key n ((h.1).1).0 h.0 (h.1).0) round = subst (λ s. IsRound p b s round) ((h.1).1).1 r in
+      omega (arith, of)
+  telling_first step round (inl (inl (inr h))) r =
+      let of : IsRound p b (steps.Rule n h.0 (h.1).0 ((h.1).1).0) round = subst (λ s. IsRound p b s round) ((h.1).1).1 r in
+      omega (arith, of)
+  telling_first step round (inl (inr h)) r =
+      let of : IsRound p b (steps.View n h.0 (h.1).0 ((h.1).1).0) round = subst (λ s. IsRound p b s round) ((h.1).1).1 r in
+      omega (arith, of)
+  telling_first step round (inr h) r =
+      let of : IsRound p b (steps.Split n h.0) round = subst (λ s. IsRound p b s round) h.1 r in
+      let e = of.round_is in
+      omega (arith, e)
+
+  pub quiet_first : IsQuietUpto p b n 0
+  quiet_first = λ step round telling new is. telling_first step round telling is
+
+module _ (c : Course) (n quiet : ℕ) (b : Branch) (recent : List ℕ) (look : IsLook c n b quiet recent) where
+  -- ---- rounds of what is new
+
+  pub telling_late : (step : Step) (round : ℕ) → IsTelling n step → branch_of step ≡ n → IsNewIn c step → IsRound c.problem b step round → quiet < round
+  telling_late step round telling on new is = look.quiet_ step round telling (new_on c n b step look.open_ on new) is
+
+  pub telling_later : (step : Step) → IsTelling n step → branch_of step ≡ n → (round : ℕ) → IsNewIn c step → IsRoundIn c step round → quiet + 1 ≤ round
+  telling_later step telling on round new is =
+      let late = telling_late step round telling on new (round_on c n b look.open_ step round on is) in
+      omega (arith, late)
+
+  -- what tells something and is of the kind
+  pub telling_untimely : (pick : Pick) (P : Step → Type 0) (rank : ℕ) (best : Option Found) → (IsTimely pick n rank quiet best → ⊥) →
+      ((step : Step) → P step → IsTelling n step × (step_rank step ≡ rank)) → Improves c pick P best best
+  telling_untimely pick P rank best untimely tells =
+      improves_untimely c pick P n rank quiet best untimely
+      (λ it h.
+      let t = tells it.step h.of in
+      let on = telling_on c pick n it.step t.0 in
+      let late = telling_later it.step t.0 on it.round h.new_ h.round_is in
+      (on, t.1, omega (arith, late)))
+
+  -- ---- entries
+
+  entry_past_two : (entry : ℕ) (it : ProblemEntry) → slice_get c.problem.entries entry ≡ Some it → IsNewIn c (steps.Entry n entry) → 2 ≤ quiet → ⊥
+  entry_past_two entry it there new two =
+      let telling : IsTelling n (steps.Entry n entry) = inl (inl (inl (inl (inl (entry, refl))))) in
+      let unshared : SharesLiteral c.problem it.row → ⊥ =
+      λ shares.
+      let late = telling_late (steps.Entry n entry) 1 telling refl new (record { it = it; there = there; round_is = inl (shares, refl) }) in
+      omega (arith, late, two) in
+      let late = telling_late (steps.Entry n entry) 2 telling refl new (record { it = it; there = there; round_is = inr (unshared, refl) }) in
+      omega (arith, late, two)
+
+  pub entries_past : (pick : Pick) (old : Option Found) → 2 ≤ quiet → Improves c pick (IsEntryOf n) old old
+  entries_past pick old two =
+      improves_none c pick (IsEntryOf n) old
+      (λ step e new.
+      let at : IsNewIn c (steps.Entry n e.0) = subst (IsNewIn c) e.1 new in
+      let passes = (new_on c n b (steps.Entry n e.0) look.open_ refl at).passes in
+      entry_past_two e.0 passes.0 passes.1 at two)
+
+  pub entry_late : (entry round : ℕ) → IsNewIn c (steps.Entry n entry) → IsRoundIn c (steps.Entry n entry) round → quiet + 1 ≤ round
+  entry_late entry round new is = telling_later (steps.Entry n entry) (inl (inl (inl (inl (inl (entry, refl)))))) refl round new is
+
+  -- ---- recent facts
+
+  pub round_is : (fact : ℕ) (f : Fact) → slice_get b.facts fact ≡ Some f → fact_round b fact ≡ f.round
+  round_is fact f there = ap (λ found. unwrap_or (option_map (λ it. it.round) found) 0) there
+
+  pub recent_or : (fact : ℕ) (f : Fact) → slice_get b.facts fact ≡ Some f → Contains recent fact ⊎ (fact_round b fact < quiet)
+  recent_or fact f there = elim (cases_lt (fact_round b fact) quiet) [
+    | inl old ↦ inr old
+    | inr late ↦
+        let is = round_is fact f there in
+        inl (look.recent_ fact f there (omega (arith, late, is)))
+  ]
+
+  -- ---- links
+
+  link_recent : (fact link : ℕ) → IsNewIn c (steps.Link n link fact) → Contains recent fact
+  link_recent fact link new =
+      let passes : LinkPasses c.problem.policy.schema b link fact = (new_on c n b (steps.Link n link fact) look.open_ refl new).passes in
+      elim (recent_or fact passes.f passes.fact_is) [
+        | inl in_ ↦ in_
+        | inr old ↦
+            let late : quiet < 1 + round_of b (fact ∷ []) =
+            telling_late (steps.Link n link fact) (1 + round_of b (fact ∷ [])) (inl (inl (inl (inl (inr (fact, (link, refl))))))) refl new refl in
+            absurd (let no : ⊥ = omega (arith, late, old) in no)
+      ]
+
+  pub links_all : (pick : Pick) (old new : Option Found) → Improves c pick (λ step. Any (λ fact. IsLinkOfFact n fact step) recent) old new → Improves c pick (IsLinkStep n) old new
+  links_all pick old new h =
+      improves_as c pick (λ step. Any (λ fact. IsLinkOfFact n fact step) recent) (IsLinkStep n) old new (λ step e is. (e.1, e.4))
+      (λ step e is.
+      let in_ = link_recent e.0 (e.1).0 (subst (IsNewIn c) (e.1).1 is) in
+      (in_.0, e.0, in_.1, in_.2, e.1)) h
+
+pub link_on : (c : Course) (n : ℕ) (b : Branch) → IsOpen c.slots n b → (fact link round : ℕ) → IsRoundIn c (steps.Link n link fact) round → 1 + fact_round b fact ≤ round
+link_on c n b open_ fact link round is =
+    let at : IsRound c.problem b (steps.Link n link fact) round = round_on c n b open_ (steps.Link n link fact) round refl is in
+    omega (arith, at)

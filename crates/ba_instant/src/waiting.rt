@@ -1,0 +1,60 @@
+//! What is known of branches from the step before.
+ghost use Rattle.std.specs.Prelude.{◌≡◌, ◌↔◌, IsTrue, length};
+ghost use Rattle.ba_facts.specs.declared.branch.Branch.{Branch as ABranch};
+ghost use Rattle.ba_kernel.specs.Courses.{IsOpen, Slots, branch_of};
+ghost use Rattle.ba_kernel.specs.declared.problem.Problem.{Problem};
+ghost use Rattle.ba_instant.specs.Nexts.{AreWaiting, Waits};
+ghost use Rattle.ba_instant.specs.Windows.{IsQuietUpto};
+
+use ba_kernel::{Search, Step};
+
+/// The branches that wait: those of a number below the bound but one, of which each that is open has
+/// a new step. On the one that doesn't wait no step that tells it something is new whose round is at
+/// most `quiet`.
+#[derive(Clone, Copy)]
+pub struct Waiting {
+    pub below: u32,
+    pub but: u32,
+    pub quiet: u32,
+}
+
+impl Waiting {
+    /// None.
+    pub fn none() -> Waiting
+        ensures below { result.below ≡ 0 }
+        ensures quiet { result.quiet ≡ 0 }
+    {
+        Waiting {
+            below: 0,
+            but: 0,
+            quiet: 0,
+        }
+    }
+
+    /// All but that of the step.
+    pub fn beside(search: &Search, step: &Step) -> Waiting
+        ensures below { result.below ≡ length search.now.slots }
+        ensures but { result.but ≡ branch_of step.now }
+        ensures quiet { result.quiet ≡ 0 }
+    {
+        Waiting {
+            below: search.branches(),
+            but: step.branch(),
+            quiet: 0,
+        }
+    }
+
+    /// Whether the branch waits.
+    pub fn has(self, number: u32) -> bool
+        ensures { IsTrue result ↔ Waits self number }
+    {
+        number < self.below && number != self.but
+    }
+
+    /// Up to which round no step is new on the branch that tells it something.
+    pub fn quiet_of(self, number: u32) -> u32
+        ensures { (p : Problem) (slots : Slots) (b : ABranch) → AreWaiting p slots self → IsOpen slots number b → IsQuietUpto p b number result }
+    {
+        if number == self.but { self.quiet } else { 0 }
+    }
+}
