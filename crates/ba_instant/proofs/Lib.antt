@@ -10,6 +10,7 @@ mod LookLemmas
 mod PairLemmas
 mod TakeLemmas
 mod PickLemmas
+mod DistinctLemmas
 mod NextLemmas
 mod CarryLemmas
 mod GrowthLemmas

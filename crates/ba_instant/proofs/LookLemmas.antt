@@ -25,37 +25,6 @@ use Rattle.ba_instant.specs.Windows.{IsQuietUpto}
 use Rattle.ba_instant.specs.declared.found.Found.{Found}
 use Rattle.ba_instant.specs.declared.order.Pick.{Pick}
 
--- ---- round 0
-
-entry_first : (p : Problem) (it : ProblemEntry) (round : ℕ) → IsEntryRound p it.row round → 0 < round
-entry_first p it round (inl h) = let e = h.1 in omega (arith, e)
-entry_first p it round (inr h) = let e = h.1 in omega (arith, e)
-
-module _ (p : Problem) (b : Branch) (n : ℕ) where
-  telling_first : (step : Step) (round : ℕ) → IsTelling n step → IsRound p b step round → 0 < round
-  telling_first step round (inl (inl (inl (inl (inl h))))) r =
-      let of : IsRoundOfEntry p h.0 round = subst (λ s. IsRound p b s round) h.1 r in
-      entry_first p of.it round of.round_is
-  telling_first step round (inl (inl (inl (inl (inr h))))) r =
-      let of : IsRound p b (steps.Link n (h.1).0 h.0) round = subst (λ s. IsRound p b s round) (h.1).1 r in
-      omega (arith, of)
-  telling_first step round (inl (inl (inl (inr h)))) r =
-      let of : IsRound p b (steps.Key n ((h.1).1).0 h.0 (h.1).0) round = subst (λ s. IsRound p b s round) ((h.1).1).1 r in
-      omega (arith, of)
-  telling_first step round (inl (inl (inr h))) r =
-      let of : IsRound p b (steps.Rule n h.0 (h.1).0 ((h.1).1).0) round = subst (λ s. IsRound p b s round) ((h.1).1).1 r in
-      omega (arith, of)
-  telling_first step round (inl (inr h)) r =
-      let of : IsRound p b (steps.View n h.0 (h.1).0 ((h.1).1).0) round = subst (λ s. IsRound p b s round) ((h.1).1).1 r in
-      omega (arith, of)
-  telling_first step round (inr h) r =
-      let of : IsRound p b (steps.Split n h.0) round = subst (λ s. IsRound p b s round) h.1 r in
-      let e = of.round_is in
-      omega (arith, e)
-
-  pub quiet_first : IsQuietUpto p b n 0
-  quiet_first = λ step round telling new is. telling_first step round telling is
-
 module _ (c : Course) (n quiet : ℕ) (b : Branch) (recent : List ℕ) (look : IsLook c n b quiet recent) where
   -- ---- rounds of what is new
 

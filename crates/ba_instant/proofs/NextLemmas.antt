@@ -15,7 +15,7 @@ use Rattle.ba_model.specs.declared.failure.Failure.{Failure}
 use Rattle.ba_model.specs.declared.failure.Failure.TheVariants.{Fault}
 use Rattle.ba_kernel.proofs.NewLemmas.{all_at}
 use Rattle.ba_kernel.proofs.TestLemmas.{not_both}
-use Rattle.ba_kernel.specs.Courses.{AllClosed, IsOpen, IsStart, Slots, Takes, after, branch_of}
+use Rattle.ba_kernel.specs.Courses.{AllClosed, IsOpen, IsStart, ProblemFits, Runs, Slots, Takes, after, branch_of}
 use Rattle.ba_kernel.specs.News.{IsNewOn}
 use Rattle.ba_kernel.specs.Tests.{Course, IsErrorOf, IsRefusedAt, open_at}
 use Rattle.ba_kernel.specs.declared.problem.Problem.{Problem}
@@ -23,11 +23,13 @@ use Rattle.ba_kernel.specs.declared.step.Step.{Step}
 use Rattle.ba_kernel.specs.declared.step.StepFault.{StepFault}
 use Rattle.ba_instant.proofs.ChaseLemmas.{open_is}
 use Rattle.ba_instant.proofs.DueLemmas.{gt_false, new_in, not_greater, one_open}
+use Rattle.ba_instant.proofs.KeepLemmas.{quiet_step_keeps}
 use Rattle.ba_instant.proofs.OrderLemmas.{pick_total}
-use Rattle.ba_instant.specs.Dues.{DueList, Ends, HasNew, HaveNewBelow, IsSaturated, Searches}
-use Rattle.ba_instant.proofs.LookLemmas.{quiet_first}
-use Rattle.ba_instant.specs.Nexts.{AreWaiting, ComesLater, IsFirstBelow, IsLeafOf, IsLeastSaturated, IsNext, IsPickedBelow, IsTaken, Passes, SaturatedAt, Waits, first_step}
-use Rattle.ba_instant.specs.Offers.{IsDueIfAny, IsDueOn, first_by}
+use Rattle.ba_instant.proofs.QuietLemmas.{due_is_quiet, quiet_at_first}
+use Rattle.ba_instant.proofs.RoundLemmas.{round_once}
+use Rattle.ba_instant.specs.Dues.{DueList, Ends, HasNew, HaveNewBelow, IsDue, IsSaturated, Searches}
+use Rattle.ba_instant.specs.Nexts.{AreWaiting, ComesLater, IsFirstBelow, IsLeafOf, IsLeastSaturated, IsLeftQuiet, IsNext, IsPickedBelow, IsQuietAt, IsTaken, Passes, SaturatedAt, Waits, first_step}
+use Rattle.ba_instant.specs.Offers.{IsDueIfAny, IsDueOn, IsRoundAt, first_by}
 use Rattle.ba_instant.specs.Order.{atom_cmp, numbers_cmp, pick_cmp, step_atom, step_cmp, step_rank}
 use Rattle.ba_instant.specs.declared.due.Next.{Next}
 use Rattle.ba_instant.specs.declared.due.Next.TheVariants as nexts
@@ -190,6 +192,10 @@ module _ (pick : Pick) (c : Course) (n : ℕ) where
 
 -- ---- a step that is taken
 
+runs_of : (pick : Pick) (p : Problem) (taken : List Step) (slots : Slots) → Searches pick p taken slots → Runs p taken slots
+runs_of pick p taken slots (Searches.start h) = Runs.start h
+runs_of pick p taken slots (Searches.next {taken = before} {old = old} h each picked takes) = Runs.next (runs_of pick p before old h) takes
+
 elsewhere : {X : Type 0} (xs : List X) (n m : ℕ) (y : X) → (m ≡ n → ⊥) → slice_get (slice_set xs n y) m ≡ slice_get xs m
 elsewhere [] n m y other = refl
 elsewhere (z ∷ xs) zero zero y other = absurd (other refl)
@@ -226,17 +232,52 @@ module _ (pick : Pick) (c : Course) (found : Found) (it : IsTaken pick c found) 
       subst (λ p. Searches pick p new.steps new.slots) (sym problem_is)
       (subst (λ taken. Searches pick c.problem taken new.slots) (sym steps_are) (Searches.next before it.each it.picked takes))
 
-  -- all branches but that of the step are as before
-  pub waiting_after : (new : Course) (waiting : Waiting) → waiting.below ≡ length c.slots → waiting.but ≡ branch_of found.step → waiting.quiet ≡ 0 →
-      Takes c.problem c.slots found.step new.slots → new.problem ≡ c.problem → AreWaiting new.problem new.slots waiting
-  waiting_after new waiting below_is but_is quiet_is takes problem_is = record {
-    waits = λ number b below other is.
-        let less : number < length c.slots = omega (arith, below, below_is) in
-        let open_ : IsOpen c.slots number b =
-        was_open c.slots (branch_of found.step) number takes.cases b less (λ same. other (same ∙ sym but_is)) (subst (λ slots. IsOpen slots number b) takes.new_is is) in
-        subst (λ p. HasNew p number b) (sym problem_is) (it.each number b less open_);
-    quiet_ = λ b is. subst (IsQuietUpto new.problem b waiting.but) (sym quiet_is) (quiet_first new.problem b waiting.but);
-  }
+  -- ---- what is known of the branches after it
+
+  module _ (fits : ProblemFits c.problem) (searches : Searches pick c.problem c.steps c.slots) where
+    abbrev due : IsDue c.problem c.slots found.step
+    due = it.picked.due
+
+    due_round : found.round ≡ due.round
+    due_round =
+        round_once c.problem due.branch found.step found.round due.round
+        (subst (λ at. IsRoundAt c.problem at found.step found.round) (open_is c.slots (branch_of found.step) due.branch due.open_) it.round_is) due.round_is
+
+    -- the step's branch stays quiet up to the round before it
+    quiet_next : (new : Course) (bound : ℕ) (b : Branch) → Takes c.problem c.slots found.step new.slots → IsOpen new.slots (branch_of found.step) b →
+        IsQuietAt c.problem (open_at c.slots (branch_of found.step)) found.step → bound < found.round → IsQuietUpto c.problem b (branch_of found.step) bound
+    quiet_next new bound b takes to quiet before =
+        let less : bound < due.round = omega (arith, before, due_round) in
+        quiet_step_keeps c.problem c.steps found.step c.slots new.slots due.branch b due.round bound fits
+        (record {
+          runs = runs_of pick c.problem c.steps c.slots searches;
+          takes = takes;
+          from = due.open_;
+          to = to;
+          quiet = subst (λ at. IsQuietAt c.problem at found.step) (open_is c.slots (branch_of found.step) due.branch due.open_) quiet;
+          round_is = due.round_is;
+        }) (omega (arith, less)) (due_is_quiet c.problem c.slots found.step bound due less)
+
+    quiet_after : (new : Course) (bound : ℕ) (b : Branch) → Takes c.problem c.slots found.step new.slots → IsOpen new.slots (branch_of found.step) b → IsLeftQuiet c found bound →
+        IsQuietUpto c.problem b (branch_of found.step) bound
+    quiet_after new bound b takes to (inl none) = subst (IsQuietUpto c.problem b (branch_of found.step)) (sym none) (quiet_at_first c.problem b (branch_of found.step))
+    quiet_after new bound b takes to (inr left) = quiet_next new bound b takes to left.0 left.1
+
+    -- all other branches are as before
+    pub waiting_after : (new : Course) (waiting : Waiting) (bound : ℕ) → waiting.below ≡ length c.slots → waiting.but ≡ branch_of found.step → waiting.quiet ≡ bound →
+        IsLeftQuiet c found bound → Takes c.problem c.slots found.step new.slots → new.problem ≡ c.problem → AreWaiting new.problem new.slots waiting
+    waiting_after new waiting bound below_is but_is quiet_is left takes problem_is = record {
+      waits = λ number b below other is.
+          let less : number < length c.slots = omega (arith, below, below_is) in
+          let open_ : IsOpen c.slots number b =
+          was_open c.slots (branch_of found.step) number takes.cases b less (λ same. other (same ∙ sym but_is)) (subst (λ slots. IsOpen slots number b) takes.new_is is) in
+          subst (λ p. HasNew p number b) (sym problem_is) (it.each number b less open_);
+      quiet_ = λ b is.
+          let to : IsOpen new.slots (branch_of found.step) b = subst (λ m. IsOpen new.slots m b) but_is is in
+          subst (λ p. IsQuietUpto p b waiting.but waiting.quiet) (sym problem_is)
+          (subst (λ m. IsQuietUpto c.problem b m waiting.quiet) (sym but_is)
+          (subst (IsQuietUpto c.problem b (branch_of found.step)) (sym quiet_is) (quiet_after new bound b takes to left)));
+    }
 
   some_open : ¬ (AllClosed c.slots)
   some_open all =
@@ -279,7 +320,7 @@ if_ok_as P Q (Err e) to h = h
 pub none_waits : (p : Problem) (slots : Slots) (waiting : Waiting) → waiting.below ≡ 0 → waiting.quiet ≡ 0 → AreWaiting p slots waiting
 none_waits p slots waiting below quiet = record {
   waits = λ number b less other is. absurd (let no : ⊥ = omega (arith, less, below) in no);
-  quiet_ = λ b is. subst (IsQuietUpto p b waiting.but) (sym quiet) (quiet_first p b waiting.but);
+  quiet_ = λ b is. subst (IsQuietUpto p b waiting.but) (sym quiet) (quiet_at_first p b waiting.but);
 }
 
 -- on the one branch that doesn't wait as was told, and on any other up to 0
@@ -288,7 +329,7 @@ pub quiet_on : (waiting : Waiting) (number quiet : ℕ) (p : Problem) (slots : S
 quiet_on waiting number quiet p slots b (inl h) are is =
     subst (λ bound. IsQuietUpto p b number bound) (sym h.0)
     (subst (λ m. IsQuietUpto p b m waiting.quiet) (sym h.1) (are.quiet_ b (subst (λ m. IsOpen slots m b) h.1 is)))
-quiet_on waiting number quiet p slots b (inr none) are is = subst (λ bound. IsQuietUpto p b number bound) (sym none) (quiet_first p b number)
+quiet_on waiting number quiet p slots b (inr none) are is = subst (λ bound. IsQuietUpto p b number bound) (sym none) (quiet_at_first p b number)
 
 pub searches_start : (pick : Pick) (c : Course) (p : Problem) → c.problem ≡ p → c.steps ≡ [] → IsStart p c.slots → Searches pick c.problem c.steps c.slots
 searches_start pick c p problem_is none start =

@@ -1,5 +1,5 @@
 -- What a search does next.
-use Rattle.std.specs.Prelude.{◌≡◌, ◌≢◌, ℕ, ◌+◌, ◌<◌, Bool, false, true, Option, Some, None}
+use Rattle.std.specs.Prelude.{◌≡◌, ◌≢◌, ◌⊎◌, ℕ, ◌+◌, ◌<◌, Bool, false, true, Option, Some, None}
 use Rattle.std.specs.Ordering.{is_gt}
 use Rattle.std.specs.declared.cmp.Ordering.TheVariants.{Greater}
 use Rattle.ba_facts.specs.declared.branch.Branch.{Branch}
@@ -10,6 +10,7 @@ use Rattle.ba_kernel.specs.declared.step.Step.{Step}
 use Rattle.ba_instant.specs.Dues.{EachHasNew, HasNew, HaveNewBelow, IsDue, IsPicked, IsSaturated}
 use Rattle.ba_instant.specs.Offers.{IsRoundIn, first_by}
 use Rattle.ba_instant.specs.Order.{pick_cmp}
+use Rattle.ba_instant.specs.QuietSteps.{IsQuietStep}
 use Rattle.ba_instant.specs.Windows.{IsQuietUpto}
 use Rattle.ba_instant.specs.declared.due.Next.{Next}
 use Rattle.ba_instant.specs.declared.waiting.Waiting.{Waiting}
@@ -76,6 +77,15 @@ IsLooked pick c number false old new = Passes pick c number old new
 pub record AreWaiting (p : Problem) (slots : Slots) (waiting : Waiting) : Type 0 where
   pub waits : (number : ℕ) (branch : Branch) → number < waiting.below → number ≢ waiting.but → IsOpen slots number branch → HasNew p number branch
   pub quiet_ : (branch : Branch) → IsOpen slots waiting.but branch → IsQuietUpto p branch waiting.but waiting.quiet
+
+-- the step is quiet on its branch
+abbrev pub IsQuietAt : Problem → Option Branch → Step → Type 0
+IsQuietAt p None step = ⊥
+IsQuietAt p (Some b) step = IsQuietStep p b step
+
+-- nothing, or the step is quiet and the bound before its round
+abbrev pub IsLeftQuiet : Course → Found → ℕ → Type 0
+IsLeftQuiet c it bound = (bound ≡ 0) ⊎ (IsQuietAt c.problem (open_at c.slots (branch_of it.step)) it.step × (bound < it.round))
 
 -- its new steps aren't the next one: a step of a branch before it was found already
 abbrev pub ComesLater : Pick → Option Found → Type 0

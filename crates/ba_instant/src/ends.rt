@@ -12,6 +12,7 @@ use crate::copies::copy_steps;
 use crate::due::{Next, next_step};
 use crate::found::Found;
 use crate::order::Pick;
+use crate::quiet::quiet_after;
 use crate::waiting::Waiting;
 use ba_facts::Branch;
 use ba_kernel::{Problem, Proved, Search, Step};
@@ -79,7 +80,8 @@ fn settle_in(
     }
 }
 
-/// Takes the step, which is due. All branches but its own wait then.
+/// Takes the step, which is due. All branches but its own wait then, and that one may be quiet up to
+/// the round before.
 fn take(alloc: Global, search: &mut Search, pick: Pick, found: Found) -> Result<Waiting, AllocError>
     requires few { length search.old.steps < MAX_BUDGET }
     requires taken { IsTaken pick search.old found }
@@ -89,7 +91,8 @@ fn take(alloc: Global, search: &mut Search, pick: Pick, found: Found) -> Result<
     ensures problem { OnOk result (search.new.problem ≡ search.old.problem) }
     ensures steps { OnOk result (search.new.steps ≡ search.old.steps ++ found.step ∷ []) }
 {
-    let waiting = Waiting::beside(search, &found.step);
+    let quiet = quiet_after(search, &found);
+    let waiting = Waiting::beside(search, &found.step, quiet);
     match search.apply(alloc, found.step) {
         Ok(()) => Ok(waiting),
         Err(Failure::NoMemory) => Err(AllocError),

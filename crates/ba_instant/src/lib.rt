@@ -12,6 +12,7 @@ pub mod laws;
 mod mapped;
 mod order;
 mod parts;
+mod quiet;
 mod recent;
 mod splits;
 mod waiting;

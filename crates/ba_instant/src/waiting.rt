@@ -31,16 +31,16 @@ impl Waiting {
         }
     }
 
-    /// All but that of the step.
-    pub fn beside(search: &Search, step: &Step) -> Waiting
+    /// All but that of the step, which is quiet up to the round.
+    pub fn beside(search: &Search, step: &Step, quiet: u32) -> Waiting
         ensures below { result.below ≡ length search.now.slots }
         ensures but { result.but ≡ branch_of step.now }
-        ensures quiet { result.quiet ≡ 0 }
+        ensures quiet { result.quiet ≡ quiet }
     {
         Waiting {
             below: search.branches(),
             but: step.branch(),
-            quiet: 0,
+            quiet,
         }
     }
 
