@@ -1,6 +1,7 @@
 -- The steps of the loops that build cases.
 use Rattle.std.proofs.Common.{◌≡◌, ℕ, zero, suc, ◌+◌, ◌<◌, ◌≤◌, List, [], ◌∷◌, ◌++◌, length, get_or, take, map, refl, sym, ap, ap₂, ◌∙◌, subst, append_assoc, append-nil, add-one, arith}
 use Rattle.std.proofs.lemmas.List.{take_more, take_all, map-append}
+use Rattle.std.proofs.lemmas.List.Elements.{All-pop}
 use Rattle.std.specs.List.{All, AllZip, range_with_len, zip}
 use Rattle.std.specs.Option.{option_map}
 use Rattle.std.specs.Prelude.{Option, Some, option_and_then}
@@ -50,6 +51,18 @@ zip_more R xs i x ys zs y below at before here pushed =
 
 pub zip_all : {X Y : Type 0} (R : X → Y → Type 0) (xs : List X) (n : ℕ) (ys : List Y) → length xs ≤ n → AllZip R (take n xs) ys → AllZip R xs ys
 zip_all R xs n ys whole h = subst (λ q. AllZip R q ys) (take_all n xs whole) h
+
+-- all but the last, and the last
+pub front_all : {X : Type 0} (P : X → Type 0) (xs front : List X) (x : X) → xs ≡ front ++ x ∷ [] → All P xs → All P front
+front_all P xs front x is h = (All-pop P xs front (Some x) is h).0
+
+pub last_all : {X : Type 0} (P : X → Type 0) (xs front : List X) (x : X) → xs ≡ front ++ x ∷ [] → All P xs → P x
+last_all P xs front x is h = (All-pop P xs front (Some x) is h).1
+
+pub zip_last : {X Y : Type 0} (R : X → Y → Type 0) (xs front : List X) (x : X) (ys zs : List Y) (y : Y) → xs ≡ front ++ x ∷ [] → AllZip R front ys → R x y →
+    zs ≡ ys ++ y ∷ [] → AllZip R xs zs
+zip_last R xs front x ys zs y is before here pushed =
+    subst (λ q. AllZip R q zs) (sym is) (subst (AllZip R (front ++ x ∷ [])) (sym pushed) (zip_append R front (x ∷ []) ys (y ∷ []) before (here, tt)))
 
 numbers_push : (first i : ℕ) → range_with_len first (suc i) ≡ range_with_len first i ++ (first + i) ∷ []
 numbers_push first zero = let e : first ≡ first + 0 = omega arith in ap (λ n. n ∷ []) e

@@ -50,6 +50,11 @@ mapping_first b side [] facts h some = absurd (some refl)
 mapping_first b side (table ∷ from) [] h some = absurd h
 mapping_first b side (table ∷ from) (n ∷ facts) h some = (table, h.0)
 
+mapping_some : (b : Branch) (side : Side) (from facts : List ℕ) → IsMapping b side from facts → from ≢ [] → 0 < length facts
+mapping_some b side [] facts h some = absurd (some refl)
+mapping_some b side (table ∷ from) [] h some = absurd h
+mapping_some b side (table ∷ from) (n ∷ facts) h some = omega arith
+
 module _ (p : Problem) (b : Branch) (fits : ProblemFits p) (tidy : IsTidy p b) (rule part : ℕ) (facts : List ℕ) (it : Rule) (left : Part)
     (at_rule : slice_get p.policy.schema.rules rule ≡ Some it) (at_part : slice_get it.left.parts part ≡ Some left) (passes : RulePasses p b rule part facts) where
   rule_fits : RuleFits p.policy.schema it
@@ -69,6 +74,9 @@ module _ (p : Problem) (b : Branch) (fits : ProblemFits p) (tidy : IsTidy p b) (
 
   first_fact : (table : ℕ) × IsFactOf b passes.side table (get_or facts 0 0)
   first_fact = mapping_first b passes.side left.from facts rule_pass.mapping left_fits.some_table
+
+  pub rule_some : 0 < length facts
+  rule_some = mapping_some b passes.side left.from facts rule_pass.mapping left_fits.some_table
 
   pub rule_first : get_or facts 0 0 < length b.facts
   rule_first = slice_get_within b.facts (get_or facts 0 0) (first_fact.1).fact (first_fact.1).there
@@ -305,3 +313,8 @@ negation_there b copy atom it fits copied is =
     subst (λ (c : Branch). IsThere c.known it.left × IsThere c.known it.right) (sym copied)
     (subst (λ (a : TermAtom). IsThere b.known a.left × IsThere b.known a.right) (sym is)
     (turned b.known atom.op atom.left atom.right (kind_there b atom.left fits.kind fits.left_is) (kind_there b atom.right fits.kind fits.right_is)))
+
+pub split_there : (b : Branch) (atom it : TermAtom) → SplitFits b atom → it ≡ atom → IsThere b.known it.left × IsThere b.known it.right
+split_there b atom it fits is =
+    subst (λ (a : TermAtom). IsThere b.known a.left × IsThere b.known a.right) (sym is)
+    (kind_there b atom.left fits.kind fits.left_is, kind_there b atom.right fits.kind fits.right_is)

@@ -32,3 +32,4 @@ pub mod OneCase
 pub mod OneFault
 pub mod OneEnd
 pub mod ReplayLemmas
+pub mod SpareLemmas

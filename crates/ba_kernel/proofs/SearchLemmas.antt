@@ -22,7 +22,7 @@ put_after slots n x [] e = set_before slots [] n x None e ∙ append-nil (slice_
 put_after slots n x (b ∷ others) e = set_before slots (other_cases (b ∷ others)) n x (Some b) e
 
 -- a branch of the slots that the step leads on from
-record Led (p : Problem) (slots : Slots) (n : ℕ) (step : Step) (cases : List Branch) : Type 0 where
+pub record Led (p : Problem) (slots : Slots) (n : ℕ) (step : Step) (cases : List Branch) : Type 0 where
   pub branch : Branch
   pub open_ : IsOpen slots n branch
   pub leads : Leads p branch step cases
@@ -33,7 +33,7 @@ led_slot p slots n step cases None e h = elim h [ ]
 led_slot p slots n step cases (Some None) e h = elim h [ ]
 led_slot p slots n step cases (Some (Some b)) e h = record { branch = b; open_ = e; leads = h }
 
-led : (p : Problem) (slots : Slots) (n : ℕ) (step : Step) (cases : List Branch) → LeadsAt p (open_at slots n) step cases → Led p slots n step cases
+pub led : (p : Problem) (slots : Slots) (n : ℕ) (step : Step) (cases : List Branch) → LeadsAt p (open_at slots n) step cases → Led p slots n step cases
 led p slots n step cases h = led_slot p slots n step cases (slice_get slots n) refl h
 
 pub slots_after : (slots now others : Slots) (m n : ℕ) (cases : List Branch) (first : Option Branch) → m ≡ n → n < length slots → now ≡ slots ++ others →

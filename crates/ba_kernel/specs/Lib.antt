@@ -6,6 +6,7 @@ pub mod Soundness
 pub mod Tests
 pub mod Replays
 pub mod Tidy
+pub mod Spares
 pub mod News
 pub mod NewParts
 pub mod Asked

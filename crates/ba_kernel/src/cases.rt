@@ -1,7 +1,8 @@
 //! The cases that a step leads to.
-ghost use Rattle.std.specs.Prelude.{◌≡◌, [], IfOk};
+ghost use Rattle.std.specs.Prelude.{◌≡◌, [], IfOk, IsTrue, Some};
 ghost use Rattle.ba_kernel.specs.Courses.{ProblemFits};
 ghost use Rattle.ba_kernel.specs.Effects.{Leads};
+ghost use Rattle.ba_kernel.specs.Spares.{LeadsTo};
 ghost use Rattle.ba_kernel.specs.Tests.{IsTidy, Passes};
 
 pub mod build;
@@ -19,16 +20,18 @@ use std::alloc::{AllocError, Global};
 
 /// The cases that a step, which passes its tests, makes of a branch: they take its place. Facts,
 /// unknowns or rounds past the numbers of 32 bits are told as want of memory.
+///
+/// The last case, or the first of a split, is made of the branch itself, without a copy.
 pub fn cases_of(
     alloc: Global,
     problem: &Problem,
-    branch: &Branch,
+    branch: Branch,
     step: &Step,
 ) -> Result<Vec<Branch>, AllocError>
     requires fits { ProblemFits problem.now }
-    requires tidy { IsTidy problem.now branch.now }
-    requires passes { Passes problem.now branch.now step.now }
-    ensures { IfOk result (λ cases. Leads problem.now branch.now step.now cases.items) }
+    requires tidy { IsTidy problem.now branch }
+    requires passes { Passes problem.now branch step.now }
+    ensures { IfOk result (λ cases. Leads problem.now branch step.now cases.items) }
 {
     match step {
         Step::Entry { entry, .. } => entry_cases(alloc, problem, branch, *entry),
@@ -55,4 +58,31 @@ pub fn cases_of(
         Step::Absurd { .. } => Ok(Vec::new(alloc)),
         Step::Goal { .. } => Ok(Vec::new(alloc)),
     }
+}
+
+/// Whether the step leaves no case of any branch.
+pub fn closes(step: &Step) -> bool
+    ensures { (p : Problem) (b : Branch) →
+        IsTrue result → Passes p b step.now → Leads p b step.now [] }
+{
+    match step {
+        Step::Absurd { .. } => true,
+        Step::Goal { .. } => true,
+        _ => false,
+    }
+}
+
+/// The case that a step, which made one case of a branch, makes of it again.
+pub fn again(
+    alloc: Global,
+    problem: &Problem,
+    branch: Branch,
+    step: &Step,
+) -> Result<Option<Branch>, AllocError>
+    requires fits { ProblemFits problem.now }
+    requires one { (new : Branch) × LeadsTo problem.now branch step.now new }
+    ensures { IfOk result (λ it. (new : Branch) → LeadsTo problem.now branch step.now new → it ≡ Some new) }
+{
+    let mut cases = cases_of(alloc, problem, branch, step)?;
+    Ok(cases.pop())
 }

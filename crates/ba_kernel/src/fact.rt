@@ -1,8 +1,10 @@
 //! The facts of a branch by number.
-ghost use Rattle.std.specs.Prelude.{◌≡◌, ◌<◌, Some, length, slice_get};
+ghost use Rattle.std.specs.Prelude.{◌≡◌, ◌<◌, IfOk, Some, length, slice_get};
 ghost use Rattle.std.specs.Option.{option_copied};
 
 use ba_facts::{Branch, Fact};
+use ba_model::Duplicate;
+use std::alloc::{AllocError, Global};
 
 /// The fact of the number, which is there.
 pub fn fact_at(branch: &Branch, number: usize) -> &Fact
@@ -20,4 +22,12 @@ pub fn find_fact(branch: &Branch, number: usize) -> Option<&Fact>
         Some(fact) => Some(fact),
         None => None,
     }
+}
+
+/// A copy of the fact of the number, which is there.
+pub fn copy_fact(alloc: Global, branch: &Branch, number: usize) -> Result<Fact, AllocError>
+    requires { number < length branch.now.facts }
+    ensures { IfOk result (λ fact. slice_get branch.now.facts number ≡ Some fact) }
+{
+    fact_at(branch, number).copy(alloc)
 }

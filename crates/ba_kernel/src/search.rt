@@ -1,11 +1,12 @@
-ghost use Rattle.std.specs.Prelude.{◌≡◌, ◌≢◌, ◌∷◌, ◌++◌, ◌<◌, ◌^◌, ◌↔◌, [], length, map, IfOk, IfErr, IsOk, IsTrue, OnOk, OnErr};
+ghost use Rattle.std.specs.Prelude.{◌≡◌, ◌≢◌, ◌∷◌, ◌++◌, ◌<◌, ◌^◌, ◌↔◌, [], length, map, IfOk, IfErr, IsOk, IsTrue, OnOk, OnErr, Some, None, if◌then◌else◌, ◌==◌};
 ghost use Rattle.std.specs.Option.{option_copied};
 ghost use Rattle.ba_model.specs.declared.limits.TheConstants.{MAX_BUDGET};
 ghost use Rattle.ba_kernel.specs.Courses.{AllClosed, IsStart, ProblemFits, Takes, after, branch_of};
 ghost use Rattle.ba_kernel.specs.News.{IsNewAt, IsNewRound};
+ghost use Rattle.ba_kernel.specs.Spares.{IsLastOn, IsSpare};
 ghost use Rattle.ba_kernel.specs.Tests.{IsCourse, IsErrorOf, IsPassed, LeadsAt, first_case, open_at, other_cases};
 
-use crate::cases::cases_of;
+use crate::cases::{again, cases_of, closes};
 use crate::laws::runs_are_tidy;
 use crate::news::new_round;
 use crate::passes::tested;
@@ -17,6 +18,7 @@ use ba_facts::Branch;
 use ba_model::{Failure, List};
 use std::alloc::{AllocError, Global};
 use std::marker::Model;
+use std::mem;
 
 /// A derivation that is going on: a problem, the steps that were accepted, and the branches that are
 /// still open, by number.
@@ -29,16 +31,21 @@ pub struct Search {
     problem: Problem,
     steps: List<Step>,
     slots: Vec<Option<Branch>>,
+    /// The branch of the last step from before it, if the step made one case of it. The next step on
+    /// that branch is made of it, after the last one, so that nothing is copied.
+    before: Option<Branch>,
 }
 
 impl Model for Search {
+    ghost use Rattle.ba_kernel.specs.Spares.{IsSpare};
     ghost use Rattle.ba_kernel.specs.Tests.{Course, IsCourse};
 
     ghost Value = { Course };
 
     ghost view = { λ s. record { problem = s.problem; steps = s.steps; slots = s.slots.items } };
 
-    ghost invariant = { λ s. IsCourse (record { problem = s.problem; steps = s.steps; slots = s.slots.items }) };
+    ghost invariant = { λ s. IsCourse (record { problem = s.problem; steps = s.steps; slots = s.slots.items })
+        × IsSpare (record { problem = s.problem; steps = s.steps; slots = s.slots.items }) s.before };
 }
 
 impl Search {
@@ -57,6 +64,7 @@ impl Search {
             problem,
             steps: List::new(alloc),
             slots,
+            before: None,
         })
     }
 
@@ -74,24 +82,98 @@ impl Search {
         ensures fault { IfErr result (IsErrorOf self.old step) }
         ensures err { OnErr result (self.new ≡ self.old) }
     {
+        self.test(&step)?;
         let cases = self.cases(alloc, &step)?;
         self.put(alloc, step, cases)?;
         Ok(())
     }
 
-    // The cases that a step leads to, if it passes its tests on an open branch.
-    fn cases(&self, alloc: Global, step: &Step) -> Result<Vec<Branch>, Failure<StepFault>>
-        ensures ok { IfOk result (λ cases. LeadsAt self.now.problem (open_at self.now.slots (branch_of step.now)) step.now cases.items) }
+    // Whether a step passes its tests on an open branch.
+    fn test(&self, step: &Step) -> Result<(), Failure<StepFault>>
         ensures passed { IfOk result (λ _. IsPassed self.now step.now) }
         ensures err { IfErr result (IsErrorOf self.now step.now) }
     {
         runs_are_tidy();
         match self.branch(step.branch()) {
             Some(branch) => match tested(&self.problem, branch, step) {
-                Ok(()) => Ok(cases_of(alloc, &self.problem, branch, step)?),
+                Ok(()) => Ok(()),
                 Err(fault) => Err(Failure::Fault(fault)),
             },
             None => Err(Failure::Fault(StepFault::NoBranch)),
+        }
+    }
+
+    // The cases that a step leads to, which passes its tests.
+    fn cases(&mut self, alloc: Global, step: &Step) -> Result<Vec<Branch>, AllocError>
+        requires { IsPassed self.old step.now }
+        ensures ok { IfOk result (λ cases. LeadsAt self.old.problem (open_at self.old.slots (branch_of step.now)) step.now cases.items) }
+        ensures same { self.new ≡ self.old }
+    {
+        runs_are_tidy();
+        if closes(step) {
+            return Ok(Vec::new(alloc));
+        }
+        let branch = self.base(alloc, step.branch())?;
+        cases_of(alloc, &self.problem, branch, step)
+    }
+
+    // The branch of a number, which is open: as it was before the last step, brought up to it, or else
+    // a copy.
+    fn base(&mut self, alloc: Global, number: u32) -> Result<Branch, AllocError>
+        requires { (b : Branch) × (open_at self.old.slots number ≡ Some b) }
+        ensures branch { IfOk result (λ branch. open_at self.old.slots number ≡ Some branch) }
+        ensures same { self.new ≡ self.old }
+    {
+        if let Some(branch) = self.spare(alloc, number)? {
+            return Ok(branch);
+        }
+        match self.branch(number) {
+            Some(branch) => branch.copy(alloc),
+            None => unreachable!(),
+        }
+    }
+
+    // The branch of a number, if it is kept from before the last step.
+    fn spare(&mut self, alloc: Global, number: u32) -> Result<Option<Branch>, AllocError>
+        ensures spare { IfOk result (λ spare. (b : Branch) → spare ≡ Some b → open_at self.old.slots number ≡ Some b) }
+        ensures same { self.new ≡ self.old }
+    {
+        let before = self.before.take();
+        self.brought_up(alloc, number, before)
+    }
+
+    // What is kept from before the last step, brought up to it, if that was on the branch of the number.
+    fn brought_up(
+        &self,
+        alloc: Global,
+        number: u32,
+        before: Option<Branch>,
+    ) -> Result<Option<Branch>, AllocError>
+        requires { IsSpare self.now before }
+        ensures { IfOk result (λ spare. (b : Branch) → spare ≡ Some b → open_at self.now.slots number ≡ Some b) }
+    {
+        let Some(old) = before else {
+            return Ok(None);
+        };
+        let Some(step) = self.last_on(number) else {
+            return Ok(None);
+        };
+        again(alloc, &self.problem, old, step)
+    }
+
+    // The last step, if it was on the branch of the number.
+    fn last_on(&self, number: u32) -> Option<&Step>
+        ensures { IsLastOn self.now number (option_copied result) }
+    {
+        match self.steps.as_slice().last() {
+            Some(step) => {
+                if step.branch() == number {
+                    Some(step)
+                } else {
+                    None
+                }
+            }
+            None => None,
         }
     }
 
@@ -104,7 +186,11 @@ impl Search {
         ensures problem { OnOk result (self.new.problem ≡ self.old.problem) }
         ensures err { OnErr result (self.new ≡ self.old) }
     {
-        add_step(alloc, &mut self.slots, &mut self.steps, step, cases)
+        runs_are_tidy();
+        let count = cases.len();
+        let old = add_step(alloc, &mut self.slots, &mut self.steps, step, cases)?;
+        keep(&mut self.before, count, old);
+        Ok(())
     }
 
     // Whether no branch is open.
@@ -197,15 +283,17 @@ fn first_and_others(
     Ok((first, others))
 }
 
-// Puts the cases in the place of the step's branch, and adds the step. Without memory neither changes.
+// Puts the cases in the place of the step's branch, which it gives, and adds the step. Without memory
+// neither changes.
 fn add_step(
     alloc: Global,
     slots: &mut Vec<Option<Branch>>,
     steps: &mut List<Step>,
     step: Step,
     cases: Vec<Branch>,
-) -> Result<(), AllocError>
+) -> Result<Option<Branch>, AllocError>
     requires { branch_of step < length slots.old.items }
+    ensures old { IfOk result (λ old. old ≡ open_at slots.old.items (branch_of step)) }
     ensures slots { OnOk result (slots.new.items ≡ after slots.old.items (branch_of step) cases.items) }
     ensures steps { OnOk result (steps.new ≡ steps.old ++ step ∷ []) }
     ensures err { OnErr result ((slots.new.items ≡ slots.old.items) × (steps.new ≡ steps.old)) }
@@ -215,13 +303,17 @@ fn add_step(
     let (first, mut others) = first_and_others(alloc, cases)?;
     slots.append(&mut others)?;
     match steps.push(step) {
-        Ok(()) => {
-            slots[number] = first;
-            Ok(())
-        }
+        Ok(()) => Ok(mem::replace(&mut slots[number], first)),
         Err(error) => {
             slots.truncate(count);
             Err(error)
         }
     }
+}
+
+// Keeps what a branch was, if one case was made of it.
+fn keep(before: &mut Option<Branch>, cases: usize, old: Option<Branch>)
+    ensures { before.new ≡ if cases == 1 then old else None }
+{
+    *before = if cases == 1 { old } else { None };
 }

@@ -10,8 +10,33 @@ use ba_facts::{Branch, Side, Term, TermAtom, number_after};
 use ba_model::{Atom, Duplicate, Operand, Part};
 use std::alloc::{AllocError, Global};
 
-/// For each of the parts the case where it gives the row.
+/// For each of the parts the case where it gives the row. The last one is made of the branch itself,
+/// and the others of copies.
 pub fn part_cases(
+    alloc: Global,
+    problem: &Problem,
+    old: Branch,
+    side: Side,
+    round: u32,
+    row: &[Term],
+    parts: &[Part],
+) -> Result<Vec<Branch>, AllocError>
+    requires ready { IsReady old row.now }
+    requires fits { All (IsPartFor problem.now.policy.schema (length row.now)) parts.now }
+    ensures { IfOk result (λ cases. AllZip (IsCase problem.now.policy.schema old side round row.now) parts.now cases.items) }
+{
+    let Some((last, front)) = parts.split_last() else {
+        return Ok(Vec::new(alloc));
+    };
+    let mut cases = copied_cases(alloc, problem, &old, side, round, row, front)?;
+    let mut new = old;
+    add_part(alloc, problem, &mut new, side, round, last, row)?;
+    cases.push(new)?;
+    Ok(cases)
+}
+
+/// The same of copies alone.
+fn copied_cases(
     alloc: Global,
     problem: &Problem,
     old: &Branch,
@@ -33,7 +58,7 @@ pub fn part_cases(
 
 /// The branch where the part gives the row on the side: a fact for each of its tables, its atoms,
 /// and its head the same as the row. Facts past the numbers of 32 bits are told as want of memory.
-pub fn part_case(
+fn part_case(
     alloc: Global,
     problem: &Problem,
     old: &Branch,

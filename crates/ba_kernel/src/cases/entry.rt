@@ -18,18 +18,18 @@ use std::alloc::{AllocError, Global};
 pub fn entry_cases(
     alloc: Global,
     problem: &Problem,
-    branch: &Branch,
+    branch: Branch,
     entry: u64,
 ) -> Result<Vec<Branch>, AllocError>
     requires fits { ProblemFits problem.now }
-    requires tidy { IsTidy problem.now branch.now }
+    requires tidy { IsTidy problem.now branch }
     requires passes { EntryPasses problem.now entry }
-    ensures { IfOk result (λ cases. EntryLeads problem.now branch.now entry cases.items) }
+    ensures { IfOk result (λ cases. EntryLeads problem.now branch entry cases.items) }
 {
     let it = problem.entries.get(entry as usize);
     let operands = it.row.as_slice();
     let parts = it.parts();
-    let terms = operand_row(alloc, branch, &[], operands)?;
+    let terms = operand_row(alloc, &branch, &[], operands)?;
     let row = terms.as_slice();
     let round = entry_round(problem, operands);
     part_cases(alloc, problem, branch, Side::One, round, row, parts)
@@ -39,15 +39,15 @@ pub fn entry_cases(
 pub fn view_cases(
     alloc: Global,
     problem: &Problem,
-    branch: &Branch,
+    branch: Branch,
     view: u32,
     part: u32,
     facts: &[u32],
 ) -> Result<Vec<Branch>, AllocError>
     requires fits { ProblemFits problem.now }
-    requires tidy { IsTidy problem.now branch.now }
-    requires passes { ViewPasses problem.now branch.now view part facts.now }
-    ensures { IfOk result (λ cases. ViewLeads problem.now branch.now view part facts.now cases.items) }
+    requires tidy { IsTidy problem.now branch }
+    requires passes { ViewPasses problem.now branch view part facts.now }
+    ensures { IfOk result (λ cases. ViewLeads problem.now branch view part facts.now cases.items) }
 {
     let it = problem.view_at(view);
     let of = it.query.parts.get(part as usize);
@@ -60,41 +60,43 @@ pub fn view_cases(
 pub fn rule_cases(
     alloc: Global,
     problem: &Problem,
-    branch: &Branch,
+    branch: Branch,
     rule: u32,
     part: u32,
     facts: &[u32],
 ) -> Result<Vec<Branch>, AllocError>
     requires fits { ProblemFits problem.now }
-    requires tidy { IsTidy problem.now branch.now }
-    requires passes { RulePasses problem.now branch.now rule part facts.now }
-    ensures { IfOk result (λ cases. RuleLeads problem.now branch.now rule part facts.now cases.items) }
+    requires tidy { IsTidy problem.now branch }
+    requires passes { RulePasses problem.now branch rule part facts.now }
+    ensures { IfOk result (λ cases. RuleLeads problem.now branch rule part facts.now cases.items) }
 {
     let it = problem.rule_at(rule);
     let left = it.left.parts.get(part as usize);
     let parts = it.right.parts.as_slice();
-    let first = fact_at(branch, facts[0] as usize);
-    next_cases(alloc, problem, branch, first.side, left, facts, parts)
+    let number = facts[0] as usize;
+    let first = fact_at(&branch, number);
+    let side = first.side;
+    next_cases(alloc, problem, branch, side, left, facts, parts)
 }
 
 /// For each of the parts the case where it gives the row that the facts give, a round later.
 fn next_cases(
     alloc: Global,
     problem: &Problem,
-    branch: &Branch,
+    branch: Branch,
     side: Side,
     part: &Part,
     facts: &[u32],
     parts: &[Part],
 ) -> Result<Vec<Branch>, AllocError>
-    requires there { FactsAreThere branch.now }
-    requires terms { All (HasTerm (rows_at branch.now facts.now)) part.now.head }
+    requires there { FactsAreThere branch }
+    requires terms { All (HasTerm (rows_at branch facts.now)) part.now.head }
     requires fits { All (IsPartFor problem.now.policy.schema (length part.now.head)) parts.now }
-    ensures { IfOk result (λ cases. AreNext problem.now.policy.schema branch.now side part.now facts.now parts.now cases.items) }
+    ensures { IfOk result (λ cases. AreNext problem.now.policy.schema branch side part.now facts.now parts.now cases.items) }
 {
     let operands = part.head.as_slice();
-    let terms = operand_row(alloc, branch, facts, operands)?;
+    let terms = operand_row(alloc, &branch, facts, operands)?;
     let row = terms.as_slice();
-    let round = next_round(branch, facts)?;
+    let round = next_round(&branch, facts)?;
     part_cases(alloc, problem, branch, side, round, row, parts)
 }

@@ -7,7 +7,7 @@ ghost use Rattle.ba_kernel.specs.Tests.{IsTidy, KeyPasses, LinkPasses};
 ghost use Rattle.ba_kernel.specs.Tidy.{HasColumns, Learns, TermsAreThere, same_pair};
 
 use crate::cases::rounds::round_after;
-use crate::fact::fact_at;
+use crate::fact::{copy_fact, fact_at};
 use crate::problem::Problem;
 use ba_facts::{Branch, Term, TermAtom};
 use ba_model::{Duplicate, Op};
@@ -17,20 +17,20 @@ use std::alloc::{AllocError, Global};
 pub fn key_cases(
     alloc: Global,
     problem: &Problem,
-    branch: &Branch,
+    branch: Branch,
     key: u32,
     left: u32,
     right: u32,
 ) -> Result<Vec<Branch>, AllocError>
-    requires tidy { IsTidy problem.now branch.now }
-    requires passes { KeyPasses problem.now.policy.schema branch.now key left right }
-    ensures { IfOk result (λ cases. KeyLeads problem.now branch.now key left right cases.items) }
+    requires tidy { IsTidy problem.now branch }
+    requires passes { KeyPasses problem.now.policy.schema branch key left right }
+    ensures { IfOk result (λ cases. KeyLeads problem.now branch key left right cases.items) }
 {
-    let f = fact_at(branch, left as usize);
-    let g = fact_at(branch, right as usize);
+    let f = copy_fact(alloc, &branch, left as usize)?;
+    let g = copy_fact(alloc, &branch, right as usize)?;
     let terms = f.terms.as_slice();
     let others = g.terms.as_slice();
-    let mut new = branch.copy(alloc)?;
+    let mut new = branch;
     equate_rows(alloc, &mut new, terms, others)?;
     one_case(alloc, new)
 }
@@ -60,17 +60,17 @@ fn equate_rows(
 pub fn link_cases(
     alloc: Global,
     problem: &Problem,
-    branch: &Branch,
+    branch: Branch,
     link: u32,
     fact: u32,
 ) -> Result<Vec<Branch>, AllocError>
     requires fits { ProblemFits problem.now }
-    requires tidy { IsTidy problem.now branch.now }
-    requires passes { LinkPasses problem.now.policy.schema branch.now link fact }
-    ensures { IfOk result (λ cases. LinkLeads problem.now branch.now link fact cases.items) }
+    requires tidy { IsTidy problem.now branch }
+    requires passes { LinkPasses problem.now.policy.schema branch link fact }
+    ensures { IfOk result (λ cases. LinkLeads problem.now branch link fact cases.items) }
 {
-    let mut new = branch.copy(alloc)?;
-    add_target(alloc, problem, branch, &mut new, link, fact)?;
+    let mut new = branch;
+    add_target(alloc, problem, &mut new, link, fact)?;
     one_case(alloc, new)
 }
 
@@ -78,24 +78,23 @@ pub fn link_cases(
 fn add_target(
     alloc: Global,
     problem: &Problem,
-    branch: &Branch,
     new: &mut Branch,
     link: u32,
     fact: u32,
 ) -> Result<(), AllocError>
     requires fits { ProblemFits problem.now }
-    requires tidy { IsTidy problem.now branch.now }
-    requires passes { LinkPasses problem.now.policy.schema branch.now link fact }
-    requires same { new.old ≡ branch.now }
-    ensures { OnOk result (LinkLeads problem.now branch.now link fact (new.new ∷ [])) }
+    requires tidy { IsTidy problem.now new.old }
+    requires passes { LinkPasses problem.now.policy.schema new.old link fact }
+    ensures { OnOk result (LinkLeads problem.now new.old link fact (new.new ∷ [])) }
 {
-    let f = fact_at(branch, fact as usize);
+    let count = new.facts.len();
+    let f = copy_fact(alloc, new, fact as usize)?;
     let table = problem.table_at(f.table);
     let it = table.links.get(link as usize);
     let target = problem.columns(it.target);
     let round = round_after(f.round)?;
     new.add_fact(alloc, f.side, it.target, target, round)?;
-    let added = fact_at(new, branch.facts.len());
+    let added = fact_at(new, count);
     let terms = added.terms.copy(alloc)?;
     let left = f.terms.as_slice();
     let right = terms.as_slice();
@@ -140,16 +139,16 @@ fn one_case(alloc: Global, new: Branch) -> Result<Vec<Branch>, AllocError>
 /// The two cases of a split: the atom is true, or its negation is.
 pub fn split_cases(
     alloc: Global,
-    branch: &Branch,
+    branch: Branch,
     atom: &TermAtom,
 ) -> Result<Vec<Branch>, AllocError>
-    requires { SplitFits branch.now atom.now }
-    ensures { IfOk result (λ cases. SplitLeads branch.now atom.now cases.items) }
+    requires { SplitFits branch atom.now }
+    ensures { IfOk result (λ cases. SplitLeads branch atom.now cases.items) }
 {
-    let mut first = branch.copy(alloc)?;
-    first.assume(atom.copy(alloc)?)?;
     let mut second = branch.copy(alloc)?;
     second.assume(negation(alloc, atom)?)?;
+    let mut first = branch;
+    first.assume(atom.copy(alloc)?)?;
     let mut cases = Vec::new(alloc);
     cases.push(first)?;
     cases.push(second)?;

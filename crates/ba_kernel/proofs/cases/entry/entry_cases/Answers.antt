@@ -14,12 +14,12 @@ operand_row-requires c =
 
 pub part_cases-requires-clause-ready : goal.part_cases-requires-clause-ready
 part_cases-requires-clause-ready c =
-    ready_as c.args.branch.now [] c.as_slice-operands.result.now c.in_ok-terms.terms.items c.as_slice-row.result.now
-    (tidy_there c.args.problem.now c.args.branch.now c.requires.tidy) c.in_ok-terms.ensures c.as_slice-row.ensures.value
+    ready_as c.args.branch [] c.as_slice-operands.result.now c.in_ok-terms.terms.items c.as_slice-row.result.now
+    (tidy_there c.args.problem.now c.args.branch c.requires.tidy) c.in_ok-terms.ensures c.as_slice-row.ensures.value
 
 pub part_cases-requires-clause-fits : goal.part_cases-requires-clause-fits
 part_cases-requires-clause-fits c =
-    let gives = head_gives c.args.branch.now [] c.get-it.result.now.row c.as_slice-operands.result.now c.in_ok-terms.terms.items c.as_slice-row.result.now
+    let gives = head_gives c.args.branch [] c.get-it.result.now.row c.as_slice-operands.result.now c.in_ok-terms.terms.items c.as_slice-row.result.now
     c.as_slice-operands.ensures c.in_ok-terms.ensures c.as_slice-row.ensures.value in
     subst (All (IsPartFor c.args.problem.now.policy.schema (length c.as_slice-row.result.now))) (sym c.parts-parts.ensures)
     (entry_parts c.args.problem.now c.args.entry c.get-it.result.now c.requires.fits c.get-it.ensures c.as_slice-row.result.now gives)
@@ -27,7 +27,7 @@ part_cases-requires-clause-fits c =
 pub returns : goal.returns
 returns c =
     let p = c.args.problem.now in
-    let b = c.args.branch.now in
+    let b = c.args.branch in
     let row = c.as_slice-row.result.now in
     IfOk-weaker c.part_cases.result
     (λ cases. AllZip (IsCase p.policy.schema b One c.entry_round-round.result row) c.parts-parts.result.now cases.items)

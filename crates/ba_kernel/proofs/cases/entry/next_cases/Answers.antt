@@ -7,18 +7,18 @@ use Rattle.ba_kernel.proofs.cases.entry.next_cases.Goals as goal
 
 pub part_cases-requires-clause-ready : goal.part_cases-requires-clause-ready
 part_cases-requires-clause-ready c =
-    ready_as c.args.branch.now c.args.facts.now c.as_slice-operands.result.now c.in_ok-terms.terms.items c.as_slice-row.result.now c.requires.there
+    ready_as c.args.branch c.args.facts.now c.as_slice-operands.result.now c.in_ok-terms.terms.items c.as_slice-row.result.now c.requires.there
     c.in_ok-terms.ensures c.as_slice-row.ensures.value
 
 pub part_cases-requires-clause-fits : goal.part_cases-requires-clause-fits
 part_cases-requires-clause-fits c =
-    fits_row c.args.branch.now c.args.facts.now c.args.part.now.head c.as_slice-operands.result.now c.in_ok-terms.terms.items c.as_slice-row.result.now
+    fits_row c.args.branch c.args.facts.now c.args.part.now.head c.as_slice-operands.result.now c.in_ok-terms.terms.items c.as_slice-row.result.now
     c.as_slice-operands.ensures c.in_ok-terms.ensures c.as_slice-row.ensures.value c.args.problem.now.policy.schema c.args.parts.now c.requires.fits
 
 pub returns : goal.returns
 returns c =
     let s = c.args.problem.now.policy.schema in
-    let b = c.args.branch.now in
+    let b = c.args.branch in
     let row = c.as_slice-row.result.now in
     let gives = head_gives b c.args.facts.now c.args.part.now.head c.as_slice-operands.result.now c.in_ok-terms.terms.items row
     c.as_slice-operands.ensures c.in_ok-terms.ensures c.as_slice-row.ensures.value in
