@@ -6,8 +6,10 @@ ghost use Rattle.ba_model.specs.SchemaFaults.{columns_of};
 ghost use Rattle.ba_model.specs.declared.query.Operand.TheVariants.{Val};
 ghost use Rattle.ba_kernel.specs.Asked.{QuestionFits};
 ghost use Rattle.ba_kernel.specs.Courses.{ProblemFits};
+ghost use Rattle.ba_kernel.specs.Effects.{IsEntryRound};
 ghost use Rattle.ba_kernel.specs.Problems.{entries_of, param_is, problem_of};
 
+use crate::cases::rounds::entry_round;
 use ba_comply::{Trace, TraceEntry};
 use ba_facts::number_of;
 use ba_model::{
@@ -51,6 +53,14 @@ impl Problem {
         ensures fits { QuestionFits policy.now ctx.now trace.now query.now → IfOk result ProblemFits }
     {
         of_question(alloc, policy, ctx, trace, query)
+    }
+
+    /// The round of a step by an entry of the problem: 1 where its row has a literal of the goal,
+    /// else 2.
+    pub fn entry_round(&self, entry: &ProblemEntry) -> u32
+        ensures { IsEntryRound self.now entry.now.row result }
+    {
+        entry_round(self, entry.row.as_slice())
     }
 
     /// The parameters of the policy.
