@@ -1,12 +1,9 @@
 -- What follows for the judgement of a query, and for its reply.
-use Rattle.std.proofs.Common.{◌≡◌, ◌∙◌, refl, sym, subst, ℕ, ◌≤◌, List, [], ◌∷◌, ◌++◌, length, append-nil}
+use Rattle.std.proofs.Common.{◌≡◌, refl, sym, subst, ℕ, ◌≤◌, List, [], ◌∷◌, ◌++◌, length}
 use Rattle.std.proofs.lemmas.List.Elements.{All-append, All-cons, All-contains_itself, All-head, All-nil, All-tail, All-weaker}
 use Rattle.std.specs.List.{All, Contains}
-use Rattle.std.specs.Prelude.{IfSome, MatchOption, Option, None, Some}
 use Rattle.ba_comply.specs.Comply.{AnswerEverywhere, Records}
 use Rattle.ba_comply.specs.declared.trace.TraceEntry.{TraceEntry}
-use Rattle.ba_direct.specs.Cover.{AlwaysStrong, Covered, IsCover}
-use Rattle.ba_direct.specs.declared.covers.Cover.{Cover as Covering}
 use Rattle.ba_facts.specs.Shown.{Absurd}
 use Rattle.ba_facts.specs.declared.branch.Branch.{Branch}
 use Rattle.ba_instant.specs.Dues.{Ends, EndsProved, EndsSaturated, Searches}
@@ -16,20 +13,18 @@ use Rattle.ba_instant.specs.declared.ends.Settled.TheVariants as settled
 use Rattle.ba_instant.specs.declared.order.Pick.{Pick}
 use Rattle.ba_instant.specs.declared.order.Pick.TheVariants.{First}
 use Rattle.ba_kernel.specs.Asked.{AnswersAreRecords, QuestionFits, QuestionIsProblem, RecordFits}
-use Rattle.ba_kernel.specs.Courses.{RuleFits, Runs, Slots}
+use Rattle.ba_kernel.specs.Courses.{Runs, Slots}
 use Rattle.ba_kernel.specs.Problems.{ProblemIsQuestion, StrongAll}
 use Rattle.ba_kernel.specs.Tests.{IsTidy, Proof, RunsAreTidy}
 use Rattle.ba_kernel.specs.declared.problem.Problem.{Problem}
 use Rattle.ba_kernel.specs.declared.step.Step.{Step}
 use Rattle.ba_kernel.specs.declared.step.Step.TheVariants as steps
 use Rattle.ba_model.specs.Conform.{Conforms}
-use Rattle.ba_model.specs.Fit.{ContextFits, IsQuery, PolicyFits, kinds_of}
+use Rattle.ba_model.specs.Fit.{ContextFits, IsQuery, kinds_of}
 use Rattle.ba_model.specs.Meaning.{InAnswer, IsAnswer}
-use Rattle.ba_model.specs.SchemaFaults.{AreTables}
 use Rattle.ba_model.specs.declared.policy.Context.{Context}
 use Rattle.ba_model.specs.declared.policy.Policy.{Policy}
 use Rattle.ba_model.specs.declared.query.Query.{Query}
-use Rattle.ba_model.specs.declared.schema.Schema.{Schema}
 use Rattle.ba_model.specs.declared.value.RowSet.{RowSet}
 use Rattle.ba_model.specs.declared.value.Value.{Value}
 use Rattle.ba_refute.specs.Images.{FactIsGiven, IsGiven, TellsTried}
@@ -38,15 +33,14 @@ use Rattle.ba_refute.specs.declared.clause.Counterexample.{Counterexample}
 use Rattle.ba_refute.specs.declared.tried.Tried.{Tried}
 use Rattle.ba_refute.specs.declared.tried.Tried.TheVariants as tried
 use Rattle.ba_session.proofs.GivenLemmas.{IsFixedOn, all_given, facts_given, open_fixed}
-use Rattle.ba_session.specs.Asking.{IsAsker, IsGround, IsReason, IsReleased, Reads, Replies, Uncovered, answer_in, question}
-use Rattle.ba_session.specs.Judging.{Decides, IsAllowed, IsDenied, IsLeft, IsRefused, IsTold, Judges, Stands}
+use Rattle.ba_session.specs.Asking.{IsAsker, IsReason, Uncovered, answer_in, question}
+use Rattle.ba_session.specs.Judging.{Decides, IsAllowed, IsLeft, IsTold, Judges, Stands}
 use Rattle.ba_session.specs.declared.judge.Judgement.{Judgement}
-use Rattle.ba_session.specs.declared.judge.Judgement.TheVariants.{Allow, Block}
+use Rattle.ba_session.specs.declared.judge.Judgement.TheVariants.{Allow}
 use Rattle.ba_session.specs.declared.reply.By.{By}
 use Rattle.ba_session.specs.declared.reply.By.TheVariants as by
 use Rattle.ba_session.specs.declared.reply.Reply.{Reply}
 use Rattle.ba_session.specs.declared.reply.Reply.TheVariants.{Answer, Blocked, Unread, NoMemory}
-use Rattle.ba_session.specs.declared.reply.Why.{Why}
 use Rattle.ba_session.specs.declared.reply.Why.TheVariants as why
 use Rattle.ba_session.specs.declared.request.Request.{Request}
 
@@ -110,13 +104,6 @@ module _ (policy : Policy) (asker : Request) (budget : ℕ) (query : Query) (pro
   pub left_at : (leaf : Leaf) → end ≡ settled.Saturated leaf → IsLeft (question policy asker query) leaf.branch
   left_at leaf e = left_of (question policy asker query) budget leaf (saturated_at leaf e)
 
-  pub stuck_at : (leaf : Leaf) → end ≡ settled.Saturated leaf → (it : Why) → Uncovered policy asker query →
-      ((n : ℕ) → EndsSaturated First (question policy asker query) n leaf → IsReason policy asker n query it) → IsDenied policy asker budget query it
-  stuck_at leaf e it uncovered reason = record { uncovered = uncovered; reason = reason budget (saturated_at leaf e) }
-
-  pub spent_at : (taken : List Step) → end ≡ settled.Spent taken → Uncovered policy asker query → IsDenied policy asker budget query (why.Spent taken)
-  spent_at taken e uncovered = record { uncovered = uncovered; reason = subst (Ends First (question policy asker query) budget) e ends_at }
-
   pub proved_at : (proof : Proof) → end ≡ settled.Proved proof → Uncovered policy asker query → ProblemIsQuestion →
       QuestionFits policy asker.context asker.trace query → (taken : List Step) → taken ≡ proof.steps → StrongAll proof.problem → IsAllowed policy asker budget query (by.Proof taken)
   proved_at proof e uncovered law fits taken same strong =
@@ -133,29 +120,6 @@ module _ (policy : Policy) (asker : Request) (budget : ℕ) (query : Query) (pro
           },
         );
         strong = law policy asker.context asker.trace query fits.context (subst StrongAll it.problem_is strong);
-      }
-
--- ---- covers
-
-module _ (policy : Policy) (asker : Request) (query : Query) (p : Policy) (q : Query) (same : p ≡ policy) (same_query : q ≡ query) (found : Option Covering)
-    (exact : MatchOption found (Covered p asker.context q → ⊥) (IsCover p asker.context q)) where
-  exact_at : MatchOption found (Covered policy asker.context query → ⊥) (IsCover policy asker.context query)
-  exact_at =
-      subst (λ z. MatchOption found (Covered policy asker.context z → ⊥) (IsCover policy asker.context z)) same_query
-      (subst (λ z. MatchOption found (Covered z asker.context q → ⊥) (IsCover z asker.context q)) same exact)
-
-  pub not_covered : found ≡ None → Uncovered policy asker query
-  not_covered e = subst (λ z. MatchOption z (Covered policy asker.context query → ⊥) (IsCover policy asker.context query)) e exact_at
-
-  pub covered_at : (budget : ℕ) (cover : Covering) → found ≡ Some cover → IfSome found (λ x. AlwaysStrong p asker.context q) →
-      QuestionFits policy asker.context asker.trace query → IsAllowed policy asker budget query (by.Cover cover)
-  covered_at budget cover e strong fits =
-      let always : AlwaysStrong p asker.context q = subst (λ z. IfSome z (λ x. AlwaysStrong p asker.context q)) e strong in
-      let here : AlwaysStrong policy asker.context query =
-      subst (λ z. AlwaysStrong policy asker.context z) same_query (subst (λ z. AlwaysStrong z asker.context q) same always) in
-      record {
-        ground = subst (λ z. MatchOption z (Covered policy asker.context query → ⊥) (IsCover policy asker.context query)) e exact_at;
-        strong = here.after fits.policy_fits fits.context asker.trace;
       }
 
 -- ---- a request and its tables
@@ -202,43 +166,6 @@ told everywhere policy tables asker budget query judgement ground q found rows s
       };
     }
 
-pub refused : (policy : Policy) (asker : Request) (budget : ℕ) (query : Query) (judgement : Judgement) (reason : Why) →
-    Judges policy asker budget query judgement → judgement ≡ Block reason → IsRefused policy asker budget query query reason
-refused policy asker budget query judgement reason judges e = record { same = refl; denied = subst (Judges policy asker budget query) e judges }
-
-pub stands_on : (policy : Policy) (schema : Schema) (tables rows : RowSet) (asker : Request) → PolicyFits policy → AreTables policy.schema.tables →
-    All (RuleFits policy.schema) policy.schema.rules → schema ≡ policy.schema → rows ≡ tables → Conforms schema rows → IsAsker policy tables asker → Stands policy rows asker
-stands_on policy schema tables rows asker fits are rules same rows_are conforms is = record {
-  policy_fits = fits;
-  schema_tables = are;
-  rules = rules;
-  conforms = subst (λ z. Conforms z rows) same conforms;
-  is_asker = subst (λ z. IsAsker policy z asker) (sym rows_are) is;
-}
-
--- ---- replies
-
--- with the text
-replied_at : (policy : Policy) (tables : RowSet) (asker : Request) (budget : ℕ) (text : List ℕ) (query : Query) (reply : Reply) → Reads policy text query →
-    Decides policy tables asker budget query reply → Replies policy tables asker budget text reply
-replied_at policy tables asker budget text query (Answer other rows ground) reads h = record {
-  reads = subst (Reads policy text) (sym h.same) reads;
-  ground = subst (λ z. IsGround policy asker budget z ground) (sym h.same) h.ground;
-  released = subst (λ z. IsReleased policy tables asker z rows) (sym h.same) h.released;
-}
-replied_at policy tables asker budget text query (Blocked other reason) reads h = record {
-  reads = subst (Reads policy text) (sym h.same) reads;
-  uncovered = subst (Uncovered policy asker) (sym h.same) h.denied.uncovered;
-  reason = subst (λ z. IsReason policy asker budget z reason) (sym h.same) h.denied.reason;
-}
-replied_at policy tables asker budget text query (Unread fault) reads h = absurd h
-replied_at policy tables asker budget text query NoMemory reads h = absurd h
-
-pub replied : (policy : Policy) (tables rows : RowSet) (asker : Request) (budget : ℕ) (text : List ℕ) (p : Policy) (query : Query) (reply : Reply) → rows ≡ tables → p ≡ policy →
-    Reads p text query → Decides policy rows asker budget query reply → Replies policy tables asker budget text reply
-replied policy tables rows asker budget text p query reply same same_policy reads h =
-    replied_at policy tables asker budget text query reply (subst (λ z. Reads z text query) same_policy reads) (subst (λ z. Decides policy z asker budget query reply) same h)
-
 -- ---- the request after a reply
 
 module _ (policy : Policy) (tables : RowSet) (old new : Request) (is : IsAsker policy tables old) (same : new.context ≡ old.context) where
@@ -254,9 +181,6 @@ module _ (policy : Policy) (tables : RowSet) (old new : Request) (is : IsAsker p
 
   asks_same : new.trace ≡ old.trace ++ [] → IsAsker policy tables new
   asks_same e = asks_more [] e (All-nil (λ entry. IsQuery policy.schema (kinds_of policy.params) [] entry.query)) (All-nil (λ entry. IsAnswer entry.query old.context tables entry.rows))
-
-  pub asks_still : new.trace ≡ old.trace → IsAsker policy tables new
-  asks_still e = asks_same (e ∙ sym (append-nil old.trace))
 
   asks_at : (budget : ℕ) (query : Query) (reply : Reply) → IsQuery policy.schema (kinds_of policy.params) [] query →
       Decides policy tables old budget query reply → new.trace ≡ old.trace ++ answer_in reply → IsAsker policy tables new
