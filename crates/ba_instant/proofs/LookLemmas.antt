@@ -18,6 +18,7 @@ use Rattle.ba_instant.proofs.ChaseLemmas.{new_on}
 use Rattle.ba_instant.proofs.DueLemmas.{round_on, telling_on}
 use Rattle.ba_instant.proofs.LateLemmas.{improves_untimely}
 use Rattle.ba_instant.proofs.OfferLemmas.{improves_as, improves_none}
+use Rattle.ba_instant.proofs.RoundLemmas.{round_once}
 use Rattle.ba_instant.specs.Looks.{AreRecent, IsLook, IsTimely}
 use Rattle.ba_instant.specs.Offers.{Improves, IsEntryOf, IsFound, IsLinkOfFact, IsLinkStep, IsNewIn, IsRoundIn, IsTelling, fact_round}
 use Rattle.ba_instant.specs.Order.{step_rank}
@@ -67,8 +68,18 @@ module _ (c : Course) (n quiet : ℕ) (b : Branch) (recent : List ℕ) (look : I
       let passes = (new_on c n b (steps.Entry n e.0) look.open_ refl at).passes in
       entry_past_two e.0 passes.0 passes.1 at two)
 
-  pub entry_late : (entry round : ℕ) → IsNewIn c (steps.Entry n entry) → IsRoundIn c (steps.Entry n entry) round → quiet + 1 ≤ round
-  entry_late entry round new is = telling_later (steps.Entry n entry) (inl (inl (inl (inl (inl (entry, refl)))))) refl round new is
+  -- a round that isn't past the quiet ones
+  pub entry_past : (pick : Pick) (entry round : ℕ) (old : Option Found) → IsRoundOfEntry c.problem entry round → round ≤ quiet → Improves c pick (λ step. step ≡ steps.Entry n entry) old old
+  entry_past pick entry round old is past =
+      improves_none c pick (λ step. step ≡ steps.Entry n entry) old
+      (λ step same new.
+      let late = telling_late (steps.Entry n entry) round (inl (inl (inl (inl (inl (entry, refl)))))) refl (subst (IsNewIn c) same new) is in
+      omega (arith, late, past))
+
+  pub entry_round_is : (entry round other : ℕ) → IsRoundOfEntry c.problem entry round → IsRoundIn c (steps.Entry n entry) other → round ≡ other
+  entry_round_is entry round other is h =
+      let at : IsRound c.problem b (steps.Entry n entry) other = round_on c n b look.open_ (steps.Entry n entry) other refl h in
+      round_once c.problem b (steps.Entry n entry) round other is at
 
   -- ---- recent facts
 

@@ -1,6 +1,8 @@
 //! Entries and links.
 ghost use Rattle.std.specs.Prelude.{◌≡◌, ◌<◌, IfOk, OnOk, length};
 ghost use Rattle.ba_kernel.specs.Courses.{IsOpen};
+ghost use Rattle.ba_kernel.specs.News.{IsRoundOfEntry};
+ghost use Rattle.ba_kernel.specs.declared.step.Step.TheVariants.{Entry};
 ghost use Rattle.ba_instant.specs.Looks.{IsLook};
 ghost use Rattle.ba_instant.specs.Offers.{Improves, IsEntryOf, IsLinkOfFact, IsLinkStep, links_at};
 
@@ -24,14 +26,34 @@ impl<'a> Spot<'a> {
         requires { IsLook self.now.search.now self.now.number self.now.branch.now self.now.quiet self.now.recent.now }
         ensures { Improves self.now.search.now self.now.pick (IsEntryOf self.now.number) best.old best.new }
     {
-        let least = u64::from(self.quiet) + 1;
         for entry in 0..self.search.problem().entries.len() {
-            let step = Step::Entry {
-                branch: self.number,
-                entry: entry as u64,
-            };
-            self.offer_late(least, step, best);
+            self.offer_entry(entry as u64, best);
         }
+    }
+
+    /// Offers the step by the entry.
+    fn offer_entry(&self, entry: u64, best: &mut Option<Found>)
+        requires look { IsLook self.now.search.now self.now.number self.now.branch.now self.now.quiet self.now.recent.now }
+        requires there { entry < length self.now.search.now.problem.entries }
+        ensures { Improves self.now.search.now self.now.pick (λ it. it ≡ Entry self.now.number entry) best.old best.new }
+    {
+        let round = self.entry_round(entry);
+        if round <= self.quiet {
+            return;
+        }
+        let step = Step::Entry {
+            branch: self.number,
+            entry,
+        };
+        self.offer_late(u64::from(round), step, best);
+    }
+
+    fn entry_round(&self, entry: u64) -> u32
+        requires { entry < length self.now.search.now.problem.entries }
+        ensures { IsRoundOfEntry self.now.search.now.problem entry result }
+    {
+        let problem = self.search.problem();
+        problem.entry_round(problem.entries.get(entry as usize))
     }
 
     /// Offers the steps by links of recent facts.

@@ -1,5 +1,7 @@
 //! Keys of two facts, of which one is recent.
 ghost use Rattle.std.specs.Prelude.{◌≡◌, ◌↔◌, All, Any, IfOk, IsTrue, OnOk, length};
+ghost use Rattle.ba_facts.specs.Known.{seen};
+ghost use Rattle.ba_facts.specs.Shown.{IsEqual};
 ghost use Rattle.ba_kernel.specs.Courses.{IsOpen};
 ghost use Rattle.ba_kernel.specs.Effects.{AreEqualAt};
 ghost use Rattle.ba_instant.specs.Looks.{AreEqualBy, IsKeyInTurn, IsLook, IsTimelyKey, IsTurn, ShareKey};
@@ -7,9 +9,9 @@ ghost use Rattle.ba_instant.specs.Offers.{Improves, IsKeyOfPair, IsKeyStep, OfAn
 
 use crate::found::{Found, Spot, counted};
 use crate::recent::fact_round;
-use ba_facts::Fact;
+use ba_facts::{Fact, Knowledge, TermRef};
 use ba_kernel::Step;
-use ba_model::{List, Op};
+use ba_model::List;
 use std::alloc::AllocError;
 
 impl<'a> Spot<'a> {
@@ -132,7 +134,7 @@ impl<'a> Spot<'a> {
         ensures { IsTrue result ↔ AreEqualAt self.now.branch.now f.now.terms g.now.terms column }
     {
         match (f.terms.find(column as usize), g.terms.find(column as usize)) {
-            (Some(a), Some(b)) => self.branch.known.shows(Op::Eq, a.by_ref(), b.by_ref()),
+            (Some(a), Some(b)) => are_equal(&self.branch.known, a.by_ref(), b.by_ref()),
             _ => false,
         }
     }
@@ -150,4 +152,11 @@ impl<'a> Spot<'a> {
             None => Ok(0),
         }
     }
+}
+
+/// Whether `=` is shown of the two. Most pairs aren't the same, so that this is tested first.
+fn are_equal(known: &Knowledge, a: TermRef<'_>, b: TermRef<'_>) -> bool
+    ensures { IsTrue result ↔ IsEqual known.now (seen a.entry) (seen b.entry) }
+{
+    known.same(a, b) && known.shown_not_null(a) && known.shown_not_null(b)
 }

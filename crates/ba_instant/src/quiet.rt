@@ -39,7 +39,8 @@ fn round_before(round: u64) -> u32
     round.saturating_sub(1).min(0xffff_ffff) as u32
 }
 
-/// Whether the step surely leaves what its branch was quiet up to.
+/// Whether the step is sure to leave its branch as quiet as it was: a link adds a row whose unknowns
+/// stand for nothing else, and so does a view that shows what was told as it is.
 fn is_quiet_step(problem: &Problem, branch: &Branch, step: &Step) -> bool
     ensures { IsTrue result → IsQuietStep problem.now branch.now step.now }
 {
@@ -51,7 +52,12 @@ fn is_quiet_step(problem: &Problem, branch: &Branch, step: &Step) -> bool
             facts,
             ..
         } => is_quiet_view(problem, branch, *view, *part, facts.as_slice()),
-        _ => false,
+        Step::Key { .. } => false,
+        Step::Split { .. } => false,
+        Step::Entry { .. } => false,
+        Step::Rule { .. } => false,
+        Step::Absurd { .. } => false,
+        Step::Goal { .. } => false,
     }
 }
 

@@ -2,19 +2,13 @@ use Rattle.std.proofs.Common.{◌≡◌, ◌≤◌, arith, length}
 use Rattle.std.proofs.lemmas.Grind.{common_steps}
 use Rattle.ba_kernel.specs.declared.step.Step.TheVariants as steps
 use Rattle.ba_instant.proofs.ChaseLemmas.{entry_past}
-use Rattle.ba_instant.proofs.LookLemmas.{entry_late}
 use Rattle.ba_instant.proofs.OfferLemmas.{improves_end, improves_next}
 use Rattle.ba_instant.proofs.found.Spot.offer_all_entries.Goals as goal
 
 pub loop-entry-preserved : goal.loop-entry-preserved
 loop-entry-preserved c =
-    improves_next c.args.self.now.search.now c.args.self.now.pick (λ entry step. step ≡ steps.Entry c.args.self.now.number entry) c.loop-entry.entry c.args.best.now c.loop-entry.best c.offer_late.new.best c.loop-entry.invariant
-    c.offer_late.ensures
-
-pub offer_late-requires : goal.offer_late-requires
-offer_late-requires c = λ round new is.
-    let late = entry_late c.args.self.now.search.now c.args.self.now.number c.args.self.now.quiet c.args.self.now.branch.now c.args.self.now.recent.now c.requires c.loop-entry.entry round new is in
-    omega (arith, late, c.from-least.ensures)
+    improves_next c.args.self.now.search.now c.args.self.now.pick (λ entry step. step ≡ steps.Entry c.args.self.now.number entry) c.loop-entry.entry c.args.best.now c.loop-entry.best c.offer_entry.new.best c.loop-entry.invariant
+    c.offer_entry.ensures
 
 pub returns : goal.returns
 returns c =
