@@ -17,7 +17,7 @@ use Rattle.ba_kernel.specs.declared.step.Step.TheVariants as steps
 use Rattle.ba_instant.proofs.ChaseLemmas.{new_on, open_is}
 use Rattle.ba_instant.proofs.OfferLemmas.{improves_as, improves_both}
 use Rattle.ba_instant.specs.Dues.{IsDue}
-use Rattle.ba_instant.specs.Offers.{Improves, IsClosing, IsDueIfAny, IsDueOn, IsEntryOf, IsFound, IsGoalStep, IsKeyStep, IsLinkStep, IsNewIn, IsOn, IsRoundAt, IsRoundIn, IsRuleStep, IsSomeFound, IsSplitStep, IsTelling, IsViewStep, Reaches, found_cmp}
+use Rattle.ba_instant.specs.Offers.{Improves, IsClosing, IsDueIfAny, IsDueOn, IsEntryOf, IsFound, IsGoalStep, IsKeyStep, IsLinkStep, IsNewIn, IsOn, IsRoundAt, IsRoundIn, IsRuleStep, IsSomeFound, IsSplitStep, IsTelling, IsViewStep, found_cmp}
 use Rattle.ba_instant.specs.Order.{pick_cmp}
 use Rattle.ba_instant.specs.declared.found.Found.{Found}
 use Rattle.ba_instant.specs.declared.order.Pick.{Pick}

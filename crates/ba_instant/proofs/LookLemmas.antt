@@ -1,16 +1,15 @@
 -- What isn't new on a branch that is quiet up to a round.
-use Rattle.std.proofs.Common.{◌≡◌, ◌∙◌, ℕ, ◌+◌, ◌<◌, ◌≤◌, ◌⊎◌, inl, inr, List, [], ◌∷◌, refl, sym, ap, subst, arith}
+use Rattle.std.proofs.Common.{◌≡◌, ℕ, ◌+◌, ◌<◌, ◌≤◌, ◌⊎◌, inl, inr, List, [], ◌∷◌, refl, ap, subst, arith}
 use Rattle.std.proofs.lemmas.Bool.{cases_lt}
 use Rattle.std.specs.List.{Any, Contains}
-use Rattle.std.specs.Prelude.{Option, Some, None, option_map, slice_get, unwrap_or}
+use Rattle.std.specs.Prelude.{Option, Some, option_map, slice_get, unwrap_or}
 use Rattle.ba_facts.specs.Matches.{round_of}
 use Rattle.ba_facts.specs.declared.branch.Branch.{Branch}
 use Rattle.ba_facts.specs.declared.term.Fact.{Fact}
 use Rattle.ba_kernel.specs.Courses.{IsOpen, branch_of}
-use Rattle.ba_kernel.specs.Effects.{IsEntryRound, SharesLiteral}
-use Rattle.ba_kernel.specs.News.{IsNewOn, IsRound, IsRoundOfEntry}
+use Rattle.ba_kernel.specs.Effects.{SharesLiteral}
+use Rattle.ba_kernel.specs.News.{IsRound, IsRoundOfEntry}
 use Rattle.ba_kernel.specs.Tests.{Course, LinkPasses}
-use Rattle.ba_kernel.specs.declared.problem.Problem.{Problem}
 use Rattle.ba_kernel.specs.declared.problem.ProblemEntry.{ProblemEntry}
 use Rattle.ba_kernel.specs.declared.step.Step.{Step}
 use Rattle.ba_kernel.specs.declared.step.Step.TheVariants as steps
@@ -19,10 +18,9 @@ use Rattle.ba_instant.proofs.DueLemmas.{round_on, telling_on}
 use Rattle.ba_instant.proofs.LateLemmas.{improves_untimely}
 use Rattle.ba_instant.proofs.OfferLemmas.{improves_as, improves_none}
 use Rattle.ba_instant.proofs.RoundLemmas.{round_once}
-use Rattle.ba_instant.specs.Looks.{AreRecent, IsLook, IsTimely}
-use Rattle.ba_instant.specs.Offers.{Improves, IsEntryOf, IsFound, IsLinkOfFact, IsLinkStep, IsNewIn, IsRoundIn, IsTelling, fact_round}
+use Rattle.ba_instant.specs.Looks.{IsLook, IsTimely}
+use Rattle.ba_instant.specs.Offers.{Improves, IsEntryOf, IsLinkOfFact, IsLinkStep, IsNewIn, IsRoundIn, IsTelling, fact_round}
 use Rattle.ba_instant.specs.Order.{step_rank}
-use Rattle.ba_instant.specs.Windows.{IsQuietUpto}
 use Rattle.ba_instant.specs.declared.found.Found.{Found}
 use Rattle.ba_instant.specs.declared.order.Pick.{Pick}
 

@@ -3,16 +3,16 @@ use Rattle.std.proofs.Common.{◌≡◌, ◌∙◌, ℕ, ◌+◌, ◌<◌, ◌�
 use Rattle.std.proofs.lemmas.Bool.{cases_lt}
 use Rattle.std.proofs.lemmas.Option.{get_or_from_slice_get, slice_get-get_or, slice_get_within}
 use Rattle.std.specs.List.{All, Any, Contains}
-use Rattle.std.specs.Prelude.{◌≢◌, Option, Some, None, max, slice_get}
+use Rattle.std.specs.Prelude.{Option, Some, None, max, slice_get}
 use Rattle.ba_model.specs.declared.schema.Schema.{Schema}
 use Rattle.ba_facts.specs.Known.{Known, OneClass}
 use Rattle.ba_facts.specs.Matches.{round_of}
-use Rattle.ba_facts.specs.Shown.{IsEqual, TheSame}
+use Rattle.ba_facts.specs.Shown.{TheSame}
 use Rattle.ba_facts.specs.declared.branch.Branch.{Branch}
 use Rattle.ba_facts.specs.declared.term.Fact.{Fact}
 use Rattle.ba_facts.specs.declared.term.Term.{Term}
 use Rattle.ba_kernel.specs.Courses.{IsOpen, branch_of}
-use Rattle.ba_kernel.specs.Effects.{AreEqualAt, ArePair, IsKeyOf}
+use Rattle.ba_kernel.specs.Effects.{AreEqualAt}
 use Rattle.ba_kernel.specs.News.{IsRound}
 use Rattle.ba_kernel.specs.Tests.{Course, KeyPasses}
 use Rattle.ba_kernel.specs.declared.step.Step.{Step}
@@ -22,8 +22,8 @@ use Rattle.ba_instant.proofs.DueLemmas.{round_on}
 use Rattle.ba_instant.proofs.LateLemmas.{improves_behind, untimely_reaches, untimely_some}
 use Rattle.ba_instant.proofs.LookLemmas.{recent_or, telling_late}
 use Rattle.ba_instant.proofs.OfferLemmas.{improves_as, improves_both, improves_end, improves_next}
-use Rattle.ba_instant.specs.Looks.{AreEqualBy, IsKeyInTurn, IsKeyOfTwo, IsLook, IsTimely, IsTimelyKey, IsTurn, ShareKey}
-use Rattle.ba_instant.specs.Offers.{Improves, IsFound, IsKeyOfPair, IsKeyStep, IsNewIn, OfAny, Reaches, Upto, fact_round}
+use Rattle.ba_instant.specs.Looks.{AreEqualBy, IsKeyInTurn, IsKeyOfTwo, IsLook, IsTimelyKey, IsTurn, ShareKey}
+use Rattle.ba_instant.specs.Offers.{Improves, IsFound, IsKeyOfPair, IsKeyStep, IsNewIn, OfAny, Upto, fact_round}
 use Rattle.ba_instant.specs.Order.{step_rank}
 use Rattle.ba_instant.specs.declared.found.Found.{Found}
 use Rattle.ba_instant.specs.declared.order.Pick.{Pick}

@@ -1,7 +1,7 @@
 -- The facts that are chosen for a part's tables: none that can't lead to what is new and comes before what was found.
 use Rattle.std.proofs.Common.{◌≡◌, ◌∙◌, ℕ, ◌+◌, ◌<◌, ◌≤◌, inl, inr, List, [], ◌∷◌, ◌++◌, refl, sym, ap, subst, arith, append_assoc}
-use Rattle.std.specs.List.{Any, Contains}
-use Rattle.std.specs.Prelude.{◌≢◌, Option, Some, None, max}
+use Rattle.std.specs.List.{Any}
+use Rattle.std.specs.Prelude.{◌≢◌, Option, None, max}
 use Rattle.ba_model.specs.declared.query.Part.{Part}
 use Rattle.ba_facts.proofs.SearchingLemmas.{completes_last}
 use Rattle.ba_facts.specs.Matches.{IsFactOf, round_of}
@@ -18,7 +18,7 @@ use Rattle.ba_instant.proofs.LateLemmas.{improves_behind, untimely_reaches, unti
 use Rattle.ba_instant.proofs.LookLemmas.{recent_or, telling_late}
 use Rattle.ba_instant.proofs.MapLemmas.{By, From, by_from, from_by}
 use Rattle.ba_instant.proofs.OfferLemmas.{improves_as, improves_next}
-use Rattle.ba_instant.specs.Looks.{AreOld, IsLook, IsTimely, IsTimelyOf, TellsOf, least_round}
+use Rattle.ba_instant.specs.Looks.{AreOld, IsLook, IsTimelyOf, TellsOf, least_round}
 use Rattle.ba_instant.specs.Offers.{Improves, IsFound, IsNewIn, IsRoundIn, IsTelling, OfAny, Reaches, Upto, fact_round, step_of}
 use Rattle.ba_instant.specs.Order.{step_rank}
 use Rattle.ba_instant.specs.declared.found.Found.{Found}

@@ -11,7 +11,7 @@ use Rattle.ba_kernel.specs.Courses.{IsOpen, branch_of}
 use Rattle.ba_kernel.specs.Effects.{AreEqualAt}
 use Rattle.ba_kernel.specs.Tests.{Course, KeyPasses}
 use Rattle.ba_kernel.specs.declared.step.Step.{Step}
-use Rattle.ba_instant.specs.Offers.{IsKeyOfPair, OfAny, fact_round}
+use Rattle.ba_instant.specs.Offers.{IsKeyOfPair, fact_round}
 use Rattle.ba_instant.specs.Order.{step_rank}
 use Rattle.ba_instant.specs.Windows.{IsQuietUpto}
 use Rattle.ba_instant.specs.declared.found.Found.{Found}

@@ -1,4 +1,4 @@
-use Rattle.std.proofs.Common.{◌≡◌, arith}
+use Rattle.std.proofs.Common.{arith}
 use Rattle.ba_instant.proofs.LookLemmas.{entry_past, entry_round_is}
 use Rattle.ba_instant.proofs.found.Spot.offer_entry.Goals as goal
 

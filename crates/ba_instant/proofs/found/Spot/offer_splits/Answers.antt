@@ -1,4 +1,4 @@
-use Rattle.std.proofs.Common.{ap, inl, inr}
+use Rattle.std.proofs.Common.{ap, inr}
 use Rattle.ba_instant.proofs.LookLemmas.{telling_untimely}
 use Rattle.ba_instant.specs.Offers.{IsSplitStep}
 use Rattle.ba_instant.specs.Order.{step_rank}

@@ -1,4 +1,4 @@
-use Rattle.std.proofs.Common.{inl, inr, refl}
+use Rattle.std.proofs.Common.{inl, refl}
 use Rattle.ba_instant.proofs.NextLemmas.{quiet_on}
 use Rattle.ba_instant.proofs.waiting.Waiting.quiet_of.Goals as goal
 
