@@ -1,0 +1,129 @@
+-- The steps of the machine, by cases over its events.
+use Rattle.std.specs.Prelude.{◌≡◌, ◌≢◌, ℕ, ◌≤◌, ◌<◌, List, [], ◌∷◌, ◌++◌, Some, None, IsSome, length, slice_get}
+use Rattle.ba_core.specs.State.{ChangesOnly, State, opened_at}
+use Rattle.ba_core.specs.declared.event.Asked.{Asked}
+use Rattle.ba_core.specs.declared.event.Asked.TheVariants.{Answer, Blocked}
+use Rattle.ba_core.specs.declared.event.CoreFault.{CoreFault}
+use Rattle.ba_core.specs.declared.event.CoreFault.TheVariants.{Taken, NoRequest, NoVersion, Unfit}
+use Rattle.ba_core.specs.declared.event.CoreReply.{CoreReply}
+use Rattle.ba_core.specs.declared.event.CoreReply.TheVariants as replies
+use Rattle.ba_core.specs.declared.event.Event.{Event}
+use Rattle.ba_core.specs.declared.event.Event.TheVariants as events
+use Rattle.ba_core.specs.declared.event.Ground.{Ground}
+use Rattle.ba_core.specs.declared.event.Ground.TheVariants.{Cover, Proof, Refuse}
+use Rattle.ba_core.specs.declared.opened.Opened.{Opened}
+use Rattle.ba_direct.specs.Cover.{Covered, IsCover}
+use Rattle.ba_kernel.specs.Problems.{problem_of}
+use Rattle.ba_model.specs.Meaning.{IsAnswer}
+use Rattle.ba_model.specs.declared.policy.Context.{Context}
+use Rattle.ba_model.specs.declared.policy.Policy.{Policy}
+use Rattle.ba_model.specs.declared.query.Query.{Query}
+use Rattle.ba_model.specs.declared.value.Value.{Value}
+use Rattle.ba_tables.specs.TableSet.{TableSet}
+
+-- ---- grounds
+
+-- The ground is one for the request's query: a cover of it, a proof of just this question after just this trace, or a refusal
+-- where the query isn't covered.
+abbrev pub Fits : Policy → Opened → Query → Ground → Type 0
+Fits policy asker query (Cover cover) = IsCover policy asker.context query cover
+Fits policy asker query (Proof proof) = proof.problem ≡ problem_of policy asker.context asker.trace query
+Fits policy asker query Refuse = Covered policy asker.context query → ⊥
+
+-- ---- events that aren't refused
+
+-- the tables become the last version, and its number is told
+pub record IsPublished (old : State) (tables : TableSet) (n : ℕ) (new : State) : Type 0 where
+  pub number : n ≡ length old.versions
+  pub state : new ≡ record old { versions = old.versions ++ tables ∷ [] }
+
+-- the request wasn't open; it is open on the version, and has asked nothing
+pub record IsBegun (old : State) (k : ℕ) (context : Context) (version : ℕ) (new : State) : Type 0 where
+  pub free : opened_at old k ≡ None
+  pub there : version < length old.versions
+  pub opens : ChangesOnly old new k (Some (record { context = context; version = version; trace = [] }))
+  pub rest : new ≡ record old { requests = new.requests }
+
+-- the rows are the query's answer in the tables of the request's version, and the ground allows to tell them
+pub record IsReleased (old : State) (k : ℕ) (query : Query) (ground : Ground) (rows : List (List Value)) : Type 0 where
+  pub asker : Opened
+  pub is_open : opened_at old k ≡ Some asker
+  pub fits : Fits old.policy asker query ground
+  pub no_refusal : ground ≢ Refuse
+  pub tables : TableSet
+  pub pinned : slice_get old.versions asker.version ≡ Some tables
+  pub answer : IsAnswer query asker.context tables.rows rows
+
+-- the query and its rows join the request's trace, and no other's, and the log
+pub record IsRecorded (old : State) (k : ℕ) (query : Query) (rows : List (List Value)) (new : State) : Type 0 where
+  pub asker : Opened
+  pub is_open : opened_at old k ≡ Some asker
+  pub trace : ChangesOnly old new k (Some (record asker { trace = asker.trace ++ record { query = query; rows = rows } ∷ [] }))
+  pub log : new.log ≡ old.log ++ record { request = k; query = query; rows = rows } ∷ []
+  pub rest : new ≡ record old { requests = new.requests; log = new.log }
+
+pub record IsAnswered (old : State) (k : ℕ) (query : Query) (ground : Ground) (rows : List (List Value)) (new : State) : Type 0 where
+  pub released : IsReleased old k query ground rows
+  pub recorded : IsRecorded old k query rows new
+
+-- the request's query isn't covered, and is refused
+pub record IsBlocked (old : State) (k : ℕ) (query : Query) (ground : Ground) : Type 0 where
+  pub asker : Opened
+  pub is_open : opened_at old k ≡ Some asker
+  pub fits : Fits old.policy asker query ground
+  pub refusal : ground ≡ Refuse
+
+-- the request, which was open, is closed
+pub record IsEnded (old : State) (k : ℕ) (new : State) : Type 0 where
+  pub was_open : IsSome (opened_at old k)
+  pub closes : ChangesOnly old new k None
+  pub rest : new ≡ record old { requests = new.requests }
+
+-- ---- refusals, in order
+
+-- the ground isn't one for the request's query
+pub record IsUnfit (old : State) (k : ℕ) (query : Query) (ground : Ground) : Type 0 where
+  pub asker : Opened
+  pub is_open : opened_at old k ≡ Some asker
+  pub unfit : Fits old.policy asker query ground → ⊥
+
+abbrev pub RefusesBegin : State → ℕ → ℕ → CoreFault → Type 0
+RefusesBegin old k version Taken = IsSome (opened_at old k)
+RefusesBegin old k version NoVersion = (opened_at old k ≡ None) × (length old.versions ≤ version)
+RefusesBegin old k version NoRequest = ⊥
+RefusesBegin old k version Unfit = ⊥
+
+abbrev pub RefusesAsk : State → ℕ → Query → Ground → CoreFault → Type 0
+RefusesAsk old k query ground NoRequest = opened_at old k ≡ None
+RefusesAsk old k query ground Unfit = IsUnfit old k query ground
+RefusesAsk old k query ground Taken = ⊥
+RefusesAsk old k query ground NoVersion = ⊥
+
+abbrev pub RefusesEnd : State → ℕ → CoreFault → Type 0
+RefusesEnd old k NoRequest = opened_at old k ≡ None
+RefusesEnd old k Taken = ⊥
+RefusesEnd old k NoVersion = ⊥
+RefusesEnd old k Unfit = ⊥
+
+-- what is refused; a publication never is
+abbrev pub Refuses : State → Event → CoreFault → Type 0
+Refuses old (events.Publish tables) fault = ⊥
+Refuses old (events.Begin k context version) fault = RefusesBegin old k version fault
+Refuses old (events.Ask k query ground) fault = RefusesAsk old k query ground fault
+Refuses old (events.End k) fault = RefusesEnd old k fault
+
+-- ---- steps
+
+-- what a question that isn't refused is replied to with; a block changes nothing
+abbrev pub Asks : State → ℕ → Query → Ground → Asked → State → Type 0
+Asks old k query ground (Answer rows) new = IsAnswered old k query ground rows new
+Asks old k query ground Blocked new = IsBlocked old k query ground × (new ≡ old)
+
+-- the event takes the old state to the new one, with this reply; a refusal changes nothing
+abbrev pub Steps : State → Event → CoreReply → State → Type 0
+Steps old event (replies.Refused fault) new = Refuses old event fault × (new ≡ old)
+Steps old (events.Publish tables) (replies.Number n) new = IsPublished old tables n new
+Steps old (events.Begin k context version) replies.Begun new = IsBegun old k context version new
+Steps old (events.Ask k query ground) (replies.Asked asked) new = Asks old k query ground asked new
+Steps old (events.End k) replies.Ended new = IsEnded old k new
+Steps old event reply new = ⊥

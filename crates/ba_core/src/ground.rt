@@ -1,0 +1,107 @@
+//! Whether a ground is one for a question.
+ghost use Rattle.std.specs.Prelude.{◌≡◌, ◌↔◌, IfOk, IsTrue};
+ghost use Rattle.ba_core.specs.Grounds.{Supports};
+ghost use Rattle.ba_core.specs.Steps.{Fits};
+ghost use Rattle.ba_direct.specs.Cover.{Covered};
+ghost use Rattle.ba_kernel.specs.Problems.{problem_of};
+ghost use Rattle.ba_model.specs.Fit.{ContextFits, PolicyFits, kinds_of};
+
+use crate::event::Ground;
+use crate::opened::Opened;
+use ba_direct::laws::{cover_covers, covered_is_strong};
+use ba_direct::{cover, is_cover};
+use ba_kernel::laws::problem_is_question;
+use ba_kernel::{Problem, ProblemEntry, Proved};
+use ba_model::{Policy, Query, Same, Shared};
+use std::alloc::{AllocError, Global};
+
+/// Whether the ground is one for the request's query. If it is, and isn't a refusal, the query is strongly compliant.
+pub(crate) fn fits(
+    alloc: Global,
+    policy: &Shared<Policy>,
+    asker: &Opened,
+    query: &Shared<Query>,
+    ground: &Ground,
+) -> Result<bool, AllocError>
+    requires policy { PolicyFits policy.now }
+    requires context { ContextFits (kinds_of policy.now.params) asker.now.context }
+    ensures exact { IfOk result (λ fit. IsTrue fit ↔ Fits policy.now asker.now query.now ground.now) }
+    ensures strong { IfOk result (λ fit.
+        IsTrue fit → Supports policy.now asker.now query.now ground.now) }
+{
+    match ground {
+        Ground::Cover(found) => {
+            cover_covers();
+            covered_is_strong();
+            Ok(is_cover(policy, &asker.context, query, found))
+        }
+        Ground::Proof(proved) => {
+            problem_is_question();
+            proves(alloc, policy, asker, query, proved)
+        }
+        Ground::Refuse => is_uncovered(alloc, policy, asker, query),
+    }
+}
+
+/// Whether no views cover the query.
+fn is_uncovered(
+    alloc: Global,
+    policy: &Policy,
+    asker: &Opened,
+    query: &Query,
+) -> Result<bool, AllocError>
+    ensures { IfOk result (λ it.
+        IsTrue it ↔ (Covered policy.now asker.now.context query.now → ⊥)) }
+{
+    cover_covers();
+    let found = cover(alloc, policy, &asker.context, query)?;
+    match found {
+        Some(_) => Ok(false),
+        None => Ok(true),
+    }
+}
+
+/// Whether the proof is of the problem of just this question.
+fn proves(
+    alloc: Global,
+    policy: &Shared<Policy>,
+    asker: &Opened,
+    query: &Shared<Query>,
+    proved: &Proved,
+) -> Result<bool, AllocError>
+    ensures { IfOk result (λ it. IsTrue it ↔ (proved.now.problem
+        ≡ problem_of policy.now asker.now.context asker.now.trace query.now)) }
+{
+    let question = Problem::of(alloc, policy, &asker.context, &asker.trace, query)?;
+    Ok(same_problem(proved.problem(), &question))
+}
+
+fn same_problem(one: &Problem, other: &Problem) -> bool
+    ensures { IsTrue result ↔ (one.now ≡ other.now) }
+{
+    one.policy.same(&other.policy)
+        && one.vars.same(&other.vars)
+        && one.assumed.same(&other.assumed)
+        && same_entries(one.entries.as_slice(), other.entries.as_slice())
+        && one.goal.same(&other.goal)
+}
+
+fn same_entries(one: &[ProblemEntry], other: &[ProblemEntry]) -> bool
+    ensures { IsTrue result ↔ (one.now ≡ other.now) }
+{
+    if one.len() != other.len() {
+        return false;
+    }
+    for i in 0..one.len() {
+        if !same_entry(&one[i], &other[i]) {
+            return false;
+        }
+    }
+    true
+}
+
+fn same_entry(one: &ProblemEntry, other: &ProblemEntry) -> bool
+    ensures { IsTrue result ↔ (one.now ≡ other.now) }
+{
+    one.query.same(&other.query) && one.row.same(&other.row)
+}
