@@ -33,8 +33,8 @@ pub record IsAnswerIn (s : State) (asker : Opened) (query : Query) (rows : List 
 
 -- what is told of a question, before it is recorded
 abbrev pub Decides : State → ℕ → Query → Ground → Asked → Type 0
-Decides old k query ground (Answer rows) = IsReleased old k query ground rows
-Decides old k query ground Blocked = IsBlocked old k query ground
+Decides old k query why (Answer rows) = IsReleased old k query why rows
+Decides old k query why Blocked = IsBlocked old k query why
 
 -- what is told of it is recorded: the rows of an answer, and nothing of a block
 abbrev pub Keeps : State → ℕ → Query → Asked → State → Type 0

@@ -39,7 +39,7 @@ TellsCompliantly old k query Blocked = ⊤
 
 -- what is told by a reply: rows by an answer alone
 abbrev pub RepliesCompliantly : State → Event → CoreReply → Type 0
-RepliesCompliantly old (events.Ask k query ground) (replies.Asked asked) = TellsCompliantly old k query asked
+RepliesCompliantly old (events.Ask k query why) (replies.Asked asked) = TellsCompliantly old k query asked
 RepliesCompliantly old event reply = ⊤
 
 -- ---- runs
@@ -60,5 +60,5 @@ pub data Runs (first : State) : List Event → List CoreReply → State → Type
 abbrev pub EventFits : Policy → Event → Type 0
 EventFits policy (events.Publish tables) = tables.schema ≡ policy.schema
 EventFits policy (events.Begin k context version) = ContextFits (kinds_of policy.params) context
-EventFits policy (events.Ask k query ground) = ⊤
+EventFits policy (events.Ask k query why) = ⊤
 EventFits policy (events.End k) = ⊤

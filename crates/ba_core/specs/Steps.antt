@@ -45,11 +45,11 @@ pub record IsBegun (old : State) (k : ℕ) (context : Context) (version : ℕ) (
   pub rest : new ≡ record old { requests = new.requests }
 
 -- the rows are the query's answer in the tables of the request's version, and the ground allows to tell them
-pub record IsReleased (old : State) (k : ℕ) (query : Query) (ground : Ground) (rows : List (List Value)) : Type 0 where
+pub record IsReleased (old : State) (k : ℕ) (query : Query) (why : Ground) (rows : List (List Value)) : Type 0 where
   pub asker : Opened
   pub is_open : opened_at old k ≡ Some asker
-  pub fits : Fits old.policy asker query ground
-  pub no_refusal : ground ≢ Refuse
+  pub fits : Fits old.policy asker query why
+  pub no_refusal : why ≢ Refuse
   pub tables : TableSet
   pub pinned : slice_get old.versions asker.version ≡ Some tables
   pub answer : IsAnswer query asker.context tables.rows rows
@@ -62,16 +62,16 @@ pub record IsRecorded (old : State) (k : ℕ) (query : Query) (rows : List (List
   pub log : new.log ≡ old.log ++ record { request = k; query = query; rows = rows } ∷ []
   pub rest : new ≡ record old { requests = new.requests; log = new.log }
 
-pub record IsAnswered (old : State) (k : ℕ) (query : Query) (ground : Ground) (rows : List (List Value)) (new : State) : Type 0 where
-  pub released : IsReleased old k query ground rows
+pub record IsAnswered (old : State) (k : ℕ) (query : Query) (why : Ground) (rows : List (List Value)) (new : State) : Type 0 where
+  pub released : IsReleased old k query why rows
   pub recorded : IsRecorded old k query rows new
 
 -- the request's query isn't covered, and is refused
-pub record IsBlocked (old : State) (k : ℕ) (query : Query) (ground : Ground) : Type 0 where
+pub record IsBlocked (old : State) (k : ℕ) (query : Query) (why : Ground) : Type 0 where
   pub asker : Opened
   pub is_open : opened_at old k ≡ Some asker
-  pub fits : Fits old.policy asker query ground
-  pub refusal : ground ≡ Refuse
+  pub fits : Fits old.policy asker query why
+  pub refusal : why ≡ Refuse
 
 -- the request, which was open, is closed
 pub record IsEnded (old : State) (k : ℕ) (new : State) : Type 0 where
@@ -82,10 +82,10 @@ pub record IsEnded (old : State) (k : ℕ) (new : State) : Type 0 where
 -- ---- refusals, in order
 
 -- the ground isn't one for the request's query
-pub record IsUnfit (old : State) (k : ℕ) (query : Query) (ground : Ground) : Type 0 where
+pub record IsUnfit (old : State) (k : ℕ) (query : Query) (why : Ground) : Type 0 where
   pub asker : Opened
   pub is_open : opened_at old k ≡ Some asker
-  pub unfit : Fits old.policy asker query ground → ⊥
+  pub unfit : Fits old.policy asker query why → ⊥
 
 abbrev pub RefusesBegin : State → ℕ → ℕ → CoreFault → Type 0
 RefusesBegin old k version Taken = IsSome (opened_at old k)
@@ -94,10 +94,10 @@ RefusesBegin old k version NoRequest = ⊥
 RefusesBegin old k version Unfit = ⊥
 
 abbrev pub RefusesAsk : State → ℕ → Query → Ground → CoreFault → Type 0
-RefusesAsk old k query ground NoRequest = opened_at old k ≡ None
-RefusesAsk old k query ground Unfit = IsUnfit old k query ground
-RefusesAsk old k query ground Taken = ⊥
-RefusesAsk old k query ground NoVersion = ⊥
+RefusesAsk old k query why NoRequest = opened_at old k ≡ None
+RefusesAsk old k query why Unfit = IsUnfit old k query why
+RefusesAsk old k query why Taken = ⊥
+RefusesAsk old k query why NoVersion = ⊥
 
 abbrev pub RefusesEnd : State → ℕ → CoreFault → Type 0
 RefusesEnd old k NoRequest = opened_at old k ≡ None
@@ -109,21 +109,21 @@ RefusesEnd old k Unfit = ⊥
 abbrev pub Refuses : State → Event → CoreFault → Type 0
 Refuses old (events.Publish tables) fault = ⊥
 Refuses old (events.Begin k context version) fault = RefusesBegin old k version fault
-Refuses old (events.Ask k query ground) fault = RefusesAsk old k query ground fault
+Refuses old (events.Ask k query why) fault = RefusesAsk old k query why fault
 Refuses old (events.End k) fault = RefusesEnd old k fault
 
 -- ---- steps
 
 -- what a question that isn't refused is replied to with; a block changes nothing
 abbrev pub Asks : State → ℕ → Query → Ground → Asked → State → Type 0
-Asks old k query ground (Answer rows) new = IsAnswered old k query ground rows new
-Asks old k query ground Blocked new = IsBlocked old k query ground × (new ≡ old)
+Asks old k query why (Answer rows) new = IsAnswered old k query why rows new
+Asks old k query why Blocked new = IsBlocked old k query why × (new ≡ old)
 
 -- the event takes the old state to the new one, with this reply; a refusal changes nothing
 abbrev pub Steps : State → Event → CoreReply → State → Type 0
 Steps old event (replies.Refused fault) new = Refuses old event fault × (new ≡ old)
 Steps old (events.Publish tables) (replies.Number n) new = IsPublished old tables n new
 Steps old (events.Begin k context version) replies.Begun new = IsBegun old k context version new
-Steps old (events.Ask k query ground) (replies.Asked asked) new = Asks old k query ground asked new
+Steps old (events.Ask k query why) (replies.Asked asked) new = Asks old k query why asked new
 Steps old (events.End k) replies.Ended new = IsEnded old k new
 Steps old event reply new = ⊥

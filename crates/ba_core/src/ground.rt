@@ -21,15 +21,15 @@ pub(crate) fn fits(
     policy: &Shared<Policy>,
     asker: &Opened,
     query: &Shared<Query>,
-    ground: &Ground,
+    why: &Ground,
 ) -> Result<bool, AllocError>
     requires policy { PolicyFits policy.now }
     requires context { ContextFits (kinds_of policy.now.params) asker.now.context }
-    ensures exact { IfOk result (λ fit. IsTrue fit ↔ Fits policy.now asker.now query.now ground.now) }
+    ensures exact { IfOk result (λ fit. IsTrue fit ↔ Fits policy.now asker.now query.now why.now) }
     ensures strong { IfOk result (λ fit.
-        IsTrue fit → Supports policy.now asker.now query.now ground.now) }
+        IsTrue fit → Supports policy.now asker.now query.now why.now) }
 {
-    match ground {
+    match why {
         Ground::Cover(found) => {
             cover_covers();
             covered_is_strong();

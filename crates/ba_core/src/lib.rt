@@ -10,9 +10,9 @@ mod ground;
 mod machine;
 mod opened;
 mod requests;
-mod run;
+mod running;
 
 pub use event::{Asked, CoreFault, CoreReply, Event, Ground};
 pub use machine::Core;
 pub use opened::{Answered, Opened};
-pub use run::run;
+pub use running::run;

@@ -148,18 +148,18 @@ impl Core {
         &mut self,
         k: u32,
         query: Shared<Query>,
-        ground: Ground,
+        why: Ground,
     ) -> Result<Asked, Failure<CoreFault>>
         ensures step { IfOk result (λ asked. Steps self.old
-            (Event.Ask k query ground) (CoreReply.Asked asked) self.new) }
+            (Event.Ask k query why) (CoreReply.Asked asked) self.new) }
         ensures refused { IfErr result (λ e. OfFault e (λ fault. Steps self.old
-            (Event.Ask k query ground) (CoreReply.Refused fault) self.new)) }
+            (Event.Ask k query why) (CoreReply.Refused fault) self.new)) }
         ensures err { OnErr result (self.new ≡ self.old) }
 
         // An answer complies with the policy after what the request was told before.
         ensures compliant { IfOk result (TellsCompliantly self.old k query) }
     {
-        let asked = self.decide(k, &query, &ground)?;
+        let asked = self.decide(k, &query, &why)?;
         self.record(k, query, &asked)?;
         Ok(asked)
     }
@@ -191,7 +191,7 @@ impl Core {
                 Ok(()) => Ok(CoreReply::Begun),
                 Err(failure) => refused(failure),
             },
-            Event::Ask(k, query, ground) => match self.ask(k, query, ground) {
+            Event::Ask(k, query, why) => match self.ask(k, query, why) {
                 Ok(asked) => Ok(CoreReply::Asked(asked)),
                 Err(failure) => refused(failure),
             },
@@ -207,20 +207,20 @@ impl Core {
         &self,
         k: u32,
         query: &Shared<Query>,
-        ground: &Ground,
+        why: &Ground,
     ) -> Result<Asked, Failure<CoreFault>>
-        ensures decides { IfOk result (Decides self.now k query.now ground.now) }
+        ensures decides { IfOk result (Decides self.now k query.now why.now) }
         ensures compliant { IfOk result (TellsCompliantly self.now k query.now) }
-        ensures refused { IfErr result (λ e. OfFault e (RefusesAsk self.now k query.now ground.now)) }
+        ensures refused { IfErr result (λ e. OfFault e (RefusesAsk self.now k query.now why.now)) }
     {
         let Some(asker) = self.requests.get(&k) else {
             return Err(Failure::Fault(CoreFault::NoRequest));
         };
-        let fit = fits(self.alloc, &self.policy, asker, query, ground)?;
+        let fit = fits(self.alloc, &self.policy, asker, query, why)?;
         if !fit {
             return Err(Failure::Fault(CoreFault::Unfit));
         }
-        match ground {
+        match why {
             Ground::Cover(_) | Ground::Proof(_) => {
                 strong_complies();
                 let rows = self.rows_of(asker, query)?;
