@@ -1,1 +1,4 @@
+pub mod AskLemmas
 pub mod RequestLemmas
+pub mod RunLemmas
+pub mod StateLemmas

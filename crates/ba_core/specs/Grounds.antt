@@ -1,7 +1,7 @@
 -- What the test of a ground gives, and what the machine decides before it changes.
 use Rattle.std.specs.Prelude.{◌≡◌, ℕ, List, Some, slice_get, ⊤}
 use Rattle.ba_comply.specs.Comply.{Strong}
-use Rattle.ba_core.specs.State.{State}
+use Rattle.ba_core.specs.State.{IsVersion, State}
 use Rattle.ba_core.specs.Steps.{IsBlocked, IsRecorded, IsReleased}
 use Rattle.ba_core.specs.declared.event.Asked.{Asked}
 use Rattle.ba_core.specs.declared.event.Asked.TheVariants.{Answer, Blocked}
@@ -25,9 +25,10 @@ Supports policy asker query (Cover cover) = Strong policy asker.context asker.tr
 Supports policy asker query (Proof proof) = Strong policy asker.context asker.trace query
 Supports policy asker query Refuse = ⊤
 
--- the rows are the query's answer in the tables of the request's version
+-- the rows are the query's answer in the tables of the request's version, which conform
 pub record IsAnswerIn (s : State) (asker : Opened) (query : Query) (rows : List (List Value)) : Type 0 where
   pub tables : TableSet
+  pub version : IsVersion s.policy tables
   pub pinned : slice_get s.versions asker.version ≡ Some tables
   pub answer : IsAnswer query asker.context tables.rows rows
 

@@ -1,5 +1,6 @@
 //! Whether a ground is one for a question.
 ghost use Rattle.std.specs.Prelude.{◌≡◌, ◌↔◌, IfOk, IsTrue};
+ghost use Rattle.ba_comply.specs.Comply.{Strong};
 ghost use Rattle.ba_core.specs.Grounds.{Supports};
 ghost use Rattle.ba_core.specs.Steps.{Fits};
 ghost use Rattle.ba_direct.specs.Cover.{Covered};
@@ -36,10 +37,13 @@ pub(crate) fn fits(
             Ok(is_cover(policy, &asker.context, query, found))
         }
         Ground::Proof(proved) => {
-            problem_is_question();
-            proves(alloc, policy, asker, query, proved)
+            let fit = proves(alloc, policy, asker, query, proved)?;
+            Ok(fit)
         }
-        Ground::Refuse => is_uncovered(alloc, policy, asker, query),
+        Ground::Refuse => {
+            let fit = is_uncovered(alloc, policy, asker, query)?;
+            Ok(fit)
+        }
     }
 }
 
@@ -61,7 +65,7 @@ fn is_uncovered(
     }
 }
 
-/// Whether the proof is of the problem of just this question.
+/// Whether the proof is of the problem of just this question. If it is, the query is strongly compliant.
 fn proves(
     alloc: Global,
     policy: &Shared<Policy>,
@@ -69,9 +73,13 @@ fn proves(
     query: &Shared<Query>,
     proved: &Proved,
 ) -> Result<bool, AllocError>
-    ensures { IfOk result (λ it. IsTrue it ↔ (proved.now.problem
+    requires { ContextFits (kinds_of policy.now.params) asker.now.context }
+    ensures exact { IfOk result (λ it. IsTrue it ↔ (proved.now.problem
         ≡ problem_of policy.now asker.now.context asker.now.trace query.now)) }
+    ensures strong { IfOk result (λ it.
+        IsTrue it → Strong policy.now asker.now.context asker.now.trace query.now) }
 {
+    problem_is_question();
     let question = Problem::of(alloc, policy, &asker.context, &asker.trace, query)?;
     Ok(same_problem(proved.problem(), &question))
 }

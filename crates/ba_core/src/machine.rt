@@ -1,12 +1,13 @@
 //! The machine.
-ghost use Rattle.std.specs.Prelude.{◌≡◌, IfErr, IfOk, IfSome, OnErr, OnOk};
+ghost use Rattle.std.specs.Prelude.{◌≡◌, ◌↔◌, IfErr, IfOk, IfSome, IsTrue, OnErr, OnOk, Some, slice_get};
 ghost use Rattle.std.specs.Option.{option_copied};
 ghost use Rattle.ba_core.specs.Grounds.{Decides, IsAnswerIn, IsRefusal, Keeps};
 ghost use Rattle.ba_core.specs.Runs.{EventFits, IsStep, TellsCompliantly};
-ghost use Rattle.ba_core.specs.State.{IsAsker, IsFirst, opened_at};
+ghost use Rattle.ba_core.specs.State.{IsAsker, IsFirst, IsVersion, opened_at};
 ghost use Rattle.ba_core.specs.Steps.{RefusesAsk, Steps};
 ghost use Rattle.ba_core.specs.declared.event.CoreReply.{CoreReply};
 ghost use Rattle.ba_core.specs.declared.event.Event.{Event};
+ghost use Rattle.ba_core.specs.declared.event.Ground.{Ground};
 ghost use Rattle.ba_model.specs.Fit.{ContextFits, PolicyFits, kinds_of};
 ghost use Rattle.ba_model.specs.Readings.{OfFault};
 
@@ -74,6 +75,14 @@ impl Core {
             requests: BTreeMap::new(alloc),
             log: Vec::new(alloc),
         })
+    }
+
+    /// The policy, whose views are checked.
+    pub fn policy(&self) -> &Shared<Policy>
+        ensures is { result.now ≡ self.now.policy }
+        ensures fits { PolicyFits result.now }
+    {
+        &self.policy
     }
 
     /// The open request of the number, if there is one.
@@ -213,21 +222,19 @@ impl Core {
         ensures compliant { IfOk result (TellsCompliantly self.now k query.now) }
         ensures refused { IfErr result (λ e. OfFault e (RefusesAsk self.now k query.now why.now)) }
     {
-        let Some(asker) = self.requests.get(&k) else {
+        let Some(asker) = self.request(k) else {
             return Err(Failure::Fault(CoreFault::NoRequest));
         };
-        let fit = fits(self.alloc, &self.policy, asker, query, why)?;
+        let fit = fits(self.alloc, self.policy(), asker, query, why)?;
         if !fit {
             return Err(Failure::Fault(CoreFault::Unfit));
         }
-        match why {
-            Ground::Cover(_) | Ground::Proof(_) => {
-                strong_complies();
-                let rows = self.rows_of(asker, query)?;
-                Ok(Asked::Answer(rows))
-            }
-            Ground::Refuse => Ok(Asked::Blocked),
+        if is_refusal(why) {
+            return Ok(Asked::Blocked);
         }
+        strong_complies();
+        let rows = self.rows_of(asker, query)?;
+        Ok(Asked::Answer(rows))
     }
 
     /// The query's rows in the tables of the request's version.
@@ -235,9 +242,18 @@ impl Core {
         requires { IsAsker self.now.policy self.now.versions asker.now }
         ensures { IfOk result (IsAnswerIn self.now asker.now query.now) }
     {
-        let tables = &self.versions[asker.version as usize];
+        let tables = self.tables_of(asker);
         let rows = answer(self.alloc, tables.rows(), &asker.context, query)?;
         Shared::new(self.alloc, rows)
+    }
+
+    /// The tables of the request's version.
+    fn tables_of(&self, asker: &Opened) -> &Tables
+        requires { IsAsker self.now.policy self.now.versions asker.now }
+        ensures pinned { slice_get self.now.versions asker.now.version ≡ Some result.now }
+        ensures version { IsVersion self.now.policy result.now }
+    {
+        &self.versions[asker.version as usize]
     }
 
     /// Records what is told of the question: the rows of an answer join the request's trace and the log.
@@ -257,6 +273,15 @@ impl Core {
             ),
             Asked::Blocked => Ok(()),
         }
+    }
+}
+
+fn is_refusal(why: &Ground) -> bool
+    ensures { IsTrue result ↔ (why.now ≡ Ground.Refuse) }
+{
+    match why {
+        Ground::Refuse => true,
+        Ground::Cover(_) | Ground::Proof(_) => false,
     }
 }
 
