@@ -1,5 +1,6 @@
 -- Runs go on.
-use Rattle.std.proofs.Common.{◌≡◌, ◌∙◌, ℕ, List, [], ◌∷◌, ◌++◌, ap, refl}
+use Rattle.std.proofs.Common.{◌≡◌, ◌∙◌, List, [], ◌∷◌, ◌++◌, ap, refl, subst, sym}
+use Rattle.std.proofs.lemmas.List.Elements.{All-head, All-tail}
 use Rattle.std.specs.Prelude.{All}
 use Rattle.ba_core.specs.Runs.{EventFits, IsStep, Runs, start, next}
 use Rattle.ba_core.specs.State.{State}
@@ -34,3 +35,23 @@ policy_stays old new (events.End k) replies.Ended h = ap (λ (s : State). s.poli
 pub policy_of_run : (first : State) {es : List Event} {rs : List CoreReply} {last : State} → Runs first es rs last → last.policy ≡ first.policy
 policy_of_run first start = refl
 policy_of_run first (next {event = event} {reply = reply} {old = old} {new = new} runs step) = policy_stays old new event reply step.step ∙ policy_of_run first runs
+
+-- what holds of all holds of the one in between
+in_between : {X : Type 0} (P : X → Type 0) (xs zs : List X) (y : X) → All P (xs ++ y ∷ zs) → P y
+in_between P [] zs y all = All-head P y zs all
+in_between P (x ∷ xs) zs y all = in_between P xs zs y (All-tail P x (xs ++ y ∷ zs) all)
+
+-- the next event of those that are left fits the machine as it stands
+pub fits_next : (first last : State) (es given rest : List Event) (rs : List CoreReply) (event : Event) → Runs first given rs last → All (EventFits first.policy) es
+    → es ≡ given ++ event ∷ rest → EventFits last.policy event
+fits_next first last es given rest rs event runs all is =
+    subst (λ p. EventFits p event) (sym (policy_of_run first runs)) (in_between (EventFits first.policy) given rest event (subst (All (EventFits first.policy)) is all))
+
+-- one more step
+pub goes_on : (first old new : State) (es : List Event) (rs more : List CoreReply) (event : Event) (reply : CoreReply) → Runs first es rs old → IsStep old event reply new
+    → more ≡ rs ++ reply ∷ [] → Runs first (es ++ event ∷ []) more new
+goes_on first old new es rs more event reply runs step is = subst (λ xs. Runs first (es ++ event ∷ []) xs new) (sym is) (next runs step)
+
+-- before the first step
+pub at_start : (first : State) (rs : List CoreReply) → rs ≡ [] → Runs first [] rs first
+at_start first rs is = subst (λ xs. Runs first [] xs first) (sym is) start

@@ -1,8 +1,8 @@
 -- What the machine keeps stands after each change.
-use Rattle.std.proofs.Common.{◌≡◌, ◌≢◌, ◌∙◌, ℕ, ◌<◌, ◌≤◌, Bool, true, false, List, [], ◌∷◌, ◌++◌, Option, Some, None, Result, Ok, Err, length, refl, sym, subst, ap, eqb, inl, inr, arith}
+use Rattle.std.proofs.Common.{◌≡◌, ◌≢◌, ◌∙◌, ℕ, ◌<◌, ◌≤◌, true, false, List, [], ◌∷◌, ◌++◌, Option, Some, Result, Ok, Err, length, sym, subst, ap, eqb, inl, inr, arith}
 use Rattle.std.proofs.lemmas.Bool.Decides.{eqb_tells}
 use Rattle.std.proofs.lemmas.List.Elements.{All-nil, All-push}
-use Rattle.std.proofs.lemmas.Option.{slice_get-get_or, slice_get_cases}
+use Rattle.std.proofs.lemmas.Option.{slice_get_cases}
 use Rattle.std.specs.BTreeMap.{is_at}
 use Rattle.std.specs.Map.{lookup}
 use Rattle.std.specs.Ordering.{nat_cmp}
@@ -12,7 +12,7 @@ use Rattle.std.specs.Prelude.{All, slice_get, ◌⊎◌}
 use Rattle.ba_comply.specs.Comply.{Records}
 use Rattle.ba_comply.specs.declared.trace.TraceEntry.{TraceEntry}
 use Rattle.ba_core.specs.Runs.{IsCompliant}
-use Rattle.ba_core.specs.State.{ChangesOnly, IsAsker, IsState, IsVersion, State, opened_at}
+use Rattle.ba_core.specs.State.{IsAsker, IsState, IsVersion}
 use Rattle.ba_core.specs.declared.opened.Answered.{Answered}
 use Rattle.ba_core.specs.declared.opened.Opened.{Opened}
 use Rattle.ba_facts.proofs.Elements.{get_append_old}

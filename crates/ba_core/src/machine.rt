@@ -15,8 +15,8 @@ use crate::event::{Asked, CoreFault, CoreReply, Event, Ground};
 use crate::ground::fits;
 use crate::opened::{Answered, Opened};
 use crate::requests::{close, keep, put};
-use ba_comply::laws::strong_complies;
 use ba_comply::Trace;
+use ba_comply::laws::strong_complies;
 use ba_eval::answer;
 use ba_facts::number_of;
 use ba_model::{Context, Failure, List, Policy, Query, Row, Shared};
@@ -44,17 +44,17 @@ impl Model for Core {
     ghost Value = { State };
 
     ghost view = { λ it. record {
-        policy = it.policy;
-        versions = it.versions.items;
-        requests = it.requests.entries;
-        log = it.log.items
+      policy = it.policy;
+      versions = it.versions.items;
+      requests = it.requests.entries;
+      log = it.log.items;
     } };
 
     ghost invariant = { λ it. IsState (record {
-        policy = it.policy;
-        versions = it.versions.items;
-        requests = it.requests.entries;
-        log = it.log.items
+      policy = it.policy;
+      versions = it.versions.items;
+      requests = it.requests.entries;
+      log = it.log.items;
     }) };
 }
 

@@ -36,11 +36,7 @@ pub(crate) fn close(requests: &mut BTreeMap<u32, Opened>, k: u32) -> Option<Open
 }
 
 /// Adds the entry to the trace of the request, if it is open. After an error, which is want of memory, nothing has changed.
-fn tell(
-    requests: &mut BTreeMap<u32, Opened>,
-    k: u32,
-    entry: TraceEntry,
-) -> Result<(), AllocError>
+fn tell(requests: &mut BTreeMap<u32, Opened>, k: u32, entry: TraceEntry) -> Result<(), AllocError>
     ensures here { OnOk result ((asker : Opened) → get nat_cmp requests.old k ≡ Some asker →
         get nat_cmp requests.new k ≡ Some (record asker { trace = asker.trace ++ entry ∷ [] })) }
     ensures others { OnOk result ((j : ℕ) →
@@ -68,7 +64,8 @@ pub(crate) fn keep(
 ) -> Result<(), AllocError>
     ensures here { OnOk result ((asker : Opened) → get nat_cmp requests.old k ≡ Some asker →
         get nat_cmp requests.new k ≡ Some (record asker {
-            trace = asker.trace ++ record { query = query; rows = rows.now } ∷ [] })) }
+          trace = asker.trace ++ record { query = query; rows = rows.now } ∷ [];
+        })) }
     ensures others { OnOk result ((j : ℕ) →
         j ≢ k → get nat_cmp requests.new j ≡ get nat_cmp requests.old j) }
     ensures log { OnOk result (log.new.items

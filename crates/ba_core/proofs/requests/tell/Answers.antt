@@ -10,6 +10,6 @@ returns-in_err-push-in-Some-clause-err c =
     let written : Opened = record found { trace = c.push.new.self } in
     after_error c.from_residual.result
     (unwritten c.args.requests.now (c.get_mut.follows.lender written) c.args.k found written
-      (sym c.get_mut.ensures.value ∙ ap option_copied_mut c.in-Some.is)
-      (ap (λ t. let it : Opened = record found { trace = t } in it) c.in_err-push-in-Some.ensures.err)
-      (c.get_mut.follows.holds written).0)
+    (sym c.get_mut.ensures.value ∙ ap option_copied_mut c.in-Some.is)
+    (ap (λ t. let it : Opened = record found { trace = t } in it) c.in_err-push-in-Some.ensures.err)
+    (c.get_mut.follows.holds written).0)
