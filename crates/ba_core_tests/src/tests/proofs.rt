@@ -1,0 +1,147 @@
+//! Questions that are answered by proof.
+ghost use Rattle.std.specs.Prelude.{◌≡◌, [], All};
+ghost use Rattle.ba_kernel.specs.Asked.{QuestionFits, RecordFits};
+ghost use Rattle.ba_model.specs.Fit.{ContextFits, IsQuery, PolicyFits, kinds_of};
+ghost use Rattle.ba_model.specs.SchemaFaults.{AreTables};
+
+use super::given::{Handle, USERS, machine, policy, query, tables, user, values};
+use ba_comply::{Trace, TraceEntry};
+use ba_core::{Asked, Core, Ground};
+use ba_direct::cover;
+use ba_eval::answer;
+use ba_instant::{Settled, settle};
+use ba_kernel::Problem;
+use ba_kernel::laws::{answers_are_records, question_is_problem};
+use ba_model::{Context, Duplicate, Failure, Policy, Query, Shared};
+use ba_tables::Tables;
+
+const OWN: &str = "SELECT * FROM Attendances WHERE UId = 2 AND EId = 5";
+const TITLE: &str = "SELECT Title FROM Events WHERE EId = 5";
+
+/// Adds the query and its rows in the tables.
+fn add(
+    rt: &impl Handle,
+    policy: &Policy,
+    tables: &Tables,
+    context: &Context,
+    trace: &mut Trace,
+    query: &Shared<Query>,
+)
+    requires schema { tables.now.schema ≡ policy.now.schema }
+    requires context { ContextFits (kinds_of policy.now.params) context.now }
+    requires query { IsQuery policy.now.schema (kinds_of policy.now.params) [] query.now }
+    requires trace { All (RecordFits policy.now) trace.old }
+    ensures { All (RecordFits policy.now) trace.new }
+{
+    answers_are_records();
+    let rows = answer(rt.alloc(), tables.rows(), context, query).expect(rt, "memory");
+    let rows = Shared::new(rt.alloc(), rows).expect(rt, "memory");
+    let query = query.copy(rt.alloc()).expect(rt, "memory");
+    trace.push(TraceEntry { query, rows }).expect(rt, "memory");
+}
+
+/// The proof of the question after the trace.
+fn proof(
+    rt: &impl Handle,
+    policy: &Shared<Policy>,
+    context: &Context,
+    trace: &Trace,
+    query: &Shared<Query>,
+) -> Ground
+    requires { QuestionFits policy.now context.now trace.now query.now }
+{
+    question_is_problem();
+    let problem = Problem::of(rt.alloc(), policy, context, trace, query).expect(rt, "memory");
+    let settled = settle(rt.alloc(), problem, 100).expect(rt, "memory");
+    match settled {
+        Settled::Proved(proved) => Ground::Proof(proved),
+        Settled::Saturated(_) | Settled::Spent(_) => panic!(rt; "no proof"),
+    }
+}
+
+/// Opens request 0 of user 2, and asks the own attendance.
+fn open(rt: &impl Handle, core: &mut Core, own: &Shared<Query>) {
+    let context = user(rt, core.policy(), 2);
+    let found = cover(rt.alloc(), core.policy(), &context, own).expect(rt, "memory");
+    let why = match found {
+        Some(cover) => Ground::Cover(cover),
+        None => Ground::Refuse,
+    };
+    assert!(rt; core.begin(0, context, 0).is_ok(), "begun");
+    assert!(rt; asked(rt, core, own, why).as_str() == " 2 5 100", "the attendance");
+}
+
+/// What becomes of a question of request 0.
+fn asked(rt: &impl Handle, core: &mut Core, query: &Shared<Query>, why: Ground) -> String {
+    let query = query.copy(rt.alloc()).expect(rt, "memory");
+    match core.ask(0, query, why) {
+        Ok(Asked::Answer(rows)) => values(rt, &rows),
+        Ok(Asked::Blocked) => format!(in rt.alloc(); "blocked").expect(rt, "memory"),
+        Err(Failure::Fault(fault)) => format!(in rt.alloc(); "{fault:?}").expect(rt, "memory"),
+        Err(Failure::NoMemory) => panic!(rt; "memory"),
+    }
+}
+
+/// How many answers request 0 was told, if it is open.
+fn told(core: &Core) -> u64 {
+    match core.request(0) {
+        Some(asker) => asker.trace.len(),
+        None => 0,
+    }
+}
+
+/// Proofs of the event's title: after the own attendance, and after the title too.
+fn titles(
+    rt: &impl Handle,
+    policy: &Shared<Policy>,
+    own: &Shared<Query>,
+    title: &Shared<Query>,
+) -> (Ground, Ground)
+    requires policy { PolicyFits policy.now }
+    requires tables { AreTables policy.now.schema.tables }
+    requires rules { policy.now.schema.rules ≡ [] }
+    requires own { IsQuery policy.now.schema (kinds_of policy.now.params) [] own.now }
+    requires title { IsQuery policy.now.schema (kinds_of policy.now.params) [] title.now }
+{
+    let tables = tables(rt, policy, USERS);
+    let context = user(rt, policy, 2);
+    let mut trace = Trace::new(rt.alloc());
+    add(rt, policy, &tables, &context, &mut trace, own);
+    let first = proof(rt, policy, &context, &trace, title);
+    add(rt, policy, &tables, &context, &mut trace, title);
+    let second = proof(rt, policy, &context, &trace, title);
+    (first, second)
+}
+
+/// The title is told once it is proved, and once more by a proof after what was told meanwhile.
+#[test]
+fn asked_once_more(rt: HostRuntime) {
+    let policy = policy(&rt);
+    let own = query(&rt, &policy, OWN);
+    let title = query(&rt, &policy, TITLE);
+    let (first, second) = titles(&rt, &policy, &own, &title);
+    let mut core = machine(&rt, &policy);
+    open(&rt, &mut core, &own);
+    assert!(rt; asked(&rt, &mut core, &title, first).as_str() == " plan", "the title");
+    assert!(rt; asked(&rt, &mut core, &title, second).as_str() == " plan", "once more");
+    assert!(rt; told(&core) == 3, "three entries");
+    assert!(rt; core.log().len() == 3, "three answers");
+}
+
+/// A request that begins again knows nothing of what the one before it was told: the proof isn't one for it.
+#[test]
+fn end_and_begin_again(rt: HostRuntime) {
+    let policy = policy(&rt);
+    let own = query(&rt, &policy, OWN);
+    let title = query(&rt, &policy, TITLE);
+    let (first, second) = titles(&rt, &policy, &own, &title);
+    let mut core = machine(&rt, &policy);
+    open(&rt, &mut core, &own);
+    assert!(rt; asked(&rt, &mut core, &title, second).as_str() == "Unfit", "another trace");
+    assert!(rt; core.end(0).is_ok(), "ended");
+    let context = user(&rt, core.policy(), 2);
+    assert!(rt; core.begin(0, context, 0).is_ok(), "begun again");
+    assert!(rt; asked(&rt, &mut core, &title, first).as_str() == "Unfit", "no attendance");
+    assert!(rt; asked(&rt, &mut core, &title, Ground::Refuse).as_str() == "blocked", "refused");
+    assert!(rt; told(&core) == 0, "nothing was told");
+}
