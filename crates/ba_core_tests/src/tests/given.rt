@@ -2,16 +2,17 @@
 ghost use Rattle.std.specs.Prelude.{◌≡◌, []};
 ghost use Rattle.ba_model.specs.Fit.{ContextFits, IsQuery, PolicyFits, kinds_of};
 ghost use Rattle.ba_model.specs.SchemaFaults.{AreTables};
-ghost use Rattle.ba_tables.specs.TableSet.{RowsFit};
 
 use ba_core::Core;
 use ba_model::{
-    Context, Duplicate, Kind, List, Policy, Query, Row, RowSet, Same, Schema, Shared, Value,
+    Context, Duplicate, Failure, Kind, List, Policy, Query, Row, RowSet, Same, Schema, Shared,
+    Value,
 };
 use ba_policy::read_policy;
 use ba_sql_ddl::read_schema;
 use ba_sql_query::read_query;
-use ba_tables::{Tables, read_table};
+use ba_tables::{Tables, TablesFault, read_table};
+use std::alloc::Global;
 use std::process::Abort;
 
 /// What a test has: memory, and an end of the process where there is none.
@@ -55,20 +56,29 @@ fn file(rt: &impl Handle, header: &str, records: &str) -> String {
     text
 }
 
-fn rows(rt: &impl Handle, schema: &Schema, users: &str) -> RowSet
-    ensures { RowsFit schema.now result }
+fn checked(
+    alloc: Global,
+    schema: &Shared<Schema>,
+    users: &[u8],
+    events: &[u8],
+    attendances: &[u8],
+) -> Result<Tables, Failure<TablesFault>>
+    requires { schema.now.rules ≡ [] }
 {
-    assert!(rt; schema.tables.len() == 3, "three tables");
-    let text = file(rt, "UId,Name", users);
-    let users = read_table(rt.alloc(), schema, 0, text.as_bytes()).expect(rt, "users");
-    let text = file(rt, "EId,Title,Duration", "5,plan,30 6,party,60");
-    let events = read_table(rt.alloc(), schema, 1, text.as_bytes()).expect(rt, "events");
-    let text = file(rt, "UId,EId,At", "2,5,100 1,6,200");
-    let attendances = read_table(rt.alloc(), schema, 2, text.as_bytes()).expect(rt, "attendances");
-    let tables = vec![in rt.alloc(); users, events, attendances].expect(rt, "memory");
-    RowSet {
-        tables: List::from_vec(tables),
+    if schema.tables.len() != 3 {
+        return Err(Failure::NoMemory);
     }
+    let Ok(first) = read_table(alloc, schema, 0, users) else {
+        return Err(Failure::NoMemory);
+    };
+    let Ok(second) = read_table(alloc, schema, 1, events) else {
+        return Err(Failure::NoMemory);
+    };
+    let Ok(third) = read_table(alloc, schema, 2, attendances) else {
+        return Err(Failure::NoMemory);
+    };
+    let tables = List::from_vec(vec![in alloc; first, second, third]?);
+    Tables::check(alloc, schema, RowSet { tables })
 }
 
 /// Tables with these users.
@@ -76,8 +86,17 @@ pub fn tables(rt: &impl Handle, policy: &Policy, users: &str) -> Tables
     requires { policy.now.schema.rules ≡ [] }
     ensures { result.schema ≡ policy.now.schema }
 {
-    let rows = rows(rt, &policy.schema, users);
-    let tables = Tables::check(rt.alloc(), &policy.schema, rows).expect(rt, "tables");
+    let users = file(rt, "UId,Name", users);
+    let events = file(rt, "EId,Title,Duration", "5,plan,30 6,party,60");
+    let attendances = file(rt, "UId,EId,At", "2,5,100 1,6,200");
+    let tables = checked(
+        rt.alloc(),
+        &policy.schema,
+        users.as_bytes(),
+        events.as_bytes(),
+        attendances.as_bytes(),
+    );
+    let tables = tables.expect(rt, "tables");
     assert!(rt; tables.schema().same(&policy.schema), "the schema");
     tables
 }

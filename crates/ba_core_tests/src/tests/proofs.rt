@@ -1,5 +1,5 @@
 //! Questions that are answered by proof.
-ghost use Rattle.std.specs.Prelude.{◌≡◌, [], All};
+ghost use Rattle.std.specs.Prelude.{◌≡◌, [], All, IfOk, OnOk};
 ghost use Rattle.ba_kernel.specs.Asked.{QuestionFits, RecordFits};
 ghost use Rattle.ba_model.specs.Fit.{ContextFits, IsQuery, PolicyFits, kinds_of};
 ghost use Rattle.ba_model.specs.SchemaFaults.{AreTables};
@@ -14,30 +14,49 @@ use ba_kernel::Problem;
 use ba_kernel::laws::{answers_are_records, question_is_problem};
 use ba_model::{Context, Duplicate, Failure, Policy, Query, Shared};
 use ba_tables::Tables;
+use std::alloc::{AllocError, Global};
 
 const OWN: &str = "SELECT * FROM Attendances WHERE UId = 2 AND EId = 5";
+
 const TITLE: &str = "SELECT Title FROM Events WHERE EId = 5";
+
+/// The query and its rows in the tables.
+fn entry(
+    alloc: Global,
+    policy: &Policy,
+    tables: &Tables,
+    context: &Context,
+    query: &Shared<Query>,
+) -> Result<TraceEntry, AllocError>
+    requires schema { tables.now.schema ≡ policy.now.schema }
+    requires context { ContextFits (kinds_of policy.now.params) context.now }
+    requires query { IsQuery policy.now.schema (kinds_of policy.now.params) [] query.now }
+    ensures { IfOk result (RecordFits policy.now) }
+{
+    answers_are_records();
+    let found = answer(alloc, tables.rows(), context, query)?;
+    let rows = Shared::new(alloc, found)?;
+    let query = query.copy(alloc)?;
+    Ok(TraceEntry { query, rows })
+}
 
 /// Adds the query and its rows in the tables.
 fn add(
-    rt: &impl Handle,
+    alloc: Global,
     policy: &Policy,
     tables: &Tables,
     context: &Context,
     trace: &mut Trace,
     query: &Shared<Query>,
-)
+) -> Result<(), AllocError>
     requires schema { tables.now.schema ≡ policy.now.schema }
     requires context { ContextFits (kinds_of policy.now.params) context.now }
     requires query { IsQuery policy.now.schema (kinds_of policy.now.params) [] query.now }
     requires trace { All (RecordFits policy.now) trace.old }
-    ensures { All (RecordFits policy.now) trace.new }
+    ensures { OnOk result (All (RecordFits policy.now) trace.new) }
 {
-    answers_are_records();
-    let rows = answer(rt.alloc(), tables.rows(), context, query).expect(rt, "memory");
-    let rows = Shared::new(rt.alloc(), rows).expect(rt, "memory");
-    let query = query.copy(rt.alloc()).expect(rt, "memory");
-    trace.push(TraceEntry { query, rows }).expect(rt, "memory");
+    let entry = entry(alloc, policy, tables, context, query)?;
+    trace.push(entry)
 }
 
 /// The proof of the question after the trace.
@@ -68,7 +87,10 @@ fn open(rt: &impl Handle, core: &mut Core, own: &Shared<Query>) {
         None => Ground::Refuse,
     };
     assert!(rt; core.begin(0, context, 0).is_ok(), "begun");
-    assert!(rt; asked(rt, core, own, why).as_str() == " 2 5 100", "the attendance");
+    assert!(rt;
+        asked(rt, core, own, why).as_str() == " 2 5 100",
+        "the attendance"
+    );
 }
 
 /// What becomes of a question of request 0.
@@ -103,12 +125,17 @@ fn titles(
     requires own { IsQuery policy.now.schema (kinds_of policy.now.params) [] own.now }
     requires title { IsQuery policy.now.schema (kinds_of policy.now.params) [] title.now }
 {
+    let alloc = rt.alloc();
     let tables = tables(rt, policy, USERS);
     let context = user(rt, policy, 2);
-    let mut trace = Trace::new(rt.alloc());
-    add(rt, policy, &tables, &context, &mut trace, own);
+    let mut trace = Trace::new(alloc);
+    if add(alloc, policy, &tables, &context, &mut trace, own).is_err() {
+        panic!(rt; "memory");
+    }
     let first = proof(rt, policy, &context, &trace, title);
-    add(rt, policy, &tables, &context, &mut trace, title);
+    if add(alloc, policy, &tables, &context, &mut trace, title).is_err() {
+        panic!(rt; "memory");
+    }
     let second = proof(rt, policy, &context, &trace, title);
     (first, second)
 }
@@ -122,8 +149,14 @@ fn asked_once_more(rt: HostRuntime) {
     let (first, second) = titles(&rt, &policy, &own, &title);
     let mut core = machine(&rt, &policy);
     open(&rt, &mut core, &own);
-    assert!(rt; asked(&rt, &mut core, &title, first).as_str() == " plan", "the title");
-    assert!(rt; asked(&rt, &mut core, &title, second).as_str() == " plan", "once more");
+    assert!(rt;
+        asked(&rt, &mut core, &title, first).as_str() == " plan",
+        "the title"
+    );
+    assert!(rt;
+        asked(&rt, &mut core, &title, second).as_str() == " plan",
+        "once more"
+    );
     assert!(rt; told(&core) == 3, "three entries");
     assert!(rt; core.log().len() == 3, "three answers");
 }
@@ -137,11 +170,20 @@ fn end_and_begin_again(rt: HostRuntime) {
     let (first, second) = titles(&rt, &policy, &own, &title);
     let mut core = machine(&rt, &policy);
     open(&rt, &mut core, &own);
-    assert!(rt; asked(&rt, &mut core, &title, second).as_str() == "Unfit", "another trace");
+    assert!(rt;
+        asked(&rt, &mut core, &title, second).as_str() == "Unfit",
+        "another trace"
+    );
     assert!(rt; core.end(0).is_ok(), "ended");
     let context = user(&rt, core.policy(), 2);
     assert!(rt; core.begin(0, context, 0).is_ok(), "begun again");
-    assert!(rt; asked(&rt, &mut core, &title, first).as_str() == "Unfit", "no attendance");
-    assert!(rt; asked(&rt, &mut core, &title, Ground::Refuse).as_str() == "blocked", "refused");
+    assert!(rt;
+        asked(&rt, &mut core, &title, first).as_str() == "Unfit",
+        "no attendance"
+    );
+    assert!(rt;
+        asked(&rt, &mut core, &title, Ground::Refuse).as_str() == "blocked",
+        "refused"
+    );
     assert!(rt; told(&core) == 0, "nothing was told");
 }
