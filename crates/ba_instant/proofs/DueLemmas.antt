@@ -109,7 +109,7 @@ module _ (c : Course) (n : ℕ) (b : Branch) (open_ : IsOpen c.slots n b) where
   new_in step on new =
       subst (λ m. IsNewAt c.problem (open_at c.slots m) step) (sym on) (subst (λ at. IsNewAt c.problem at step) (sym (open_is c.slots n b open_)) new)
 
-  round_in : (step : Step) (round : ℕ) → branch_of step ≡ n → IsRound c.problem b step round → IsRoundIn c step round
+  pub round_in : (step : Step) (round : ℕ) → branch_of step ≡ n → IsRound c.problem b step round → IsRoundIn c step round
   round_in step round on h =
       subst (λ m. IsRoundAt c.problem (open_at c.slots m) step round) (sym on)
       (subst (λ at. IsRoundAt c.problem at step round) (sym (open_is c.slots n b open_)) h)

@@ -4,8 +4,10 @@ use Rattle.std.proofs.Math.Nat.{eq-or-lt_of_le}
 use Rattle.std.proofs.lemmas.Bool.{cases_lt}
 use Rattle.std.specs.Cmp.{nat_cmp_is, upto}
 use Rattle.std.specs.Option.{option_cmp}
-use Rattle.std.specs.Ordering.{is_gt, nat_cmp, ordering_then}
-use Rattle.std.specs.declared.cmp.Ordering.TheVariants.{Less, Equal}
+use Rattle.std.specs.Bool.{◌==◌, IsTrue}
+use Rattle.std.specs.Ordering.{is_gt, nat_cmp, ordering_index, ordering_then}
+use Rattle.std.specs.declared.cmp.Ordering.{Ordering}
+use Rattle.std.specs.declared.cmp.Ordering.TheVariants.{Less, Equal, Greater}
 use Rattle.std.specs.Prelude.{◌≢◌, Option, Some, None}
 use Rattle.ba_kernel.specs.Courses.{branch_of}
 use Rattle.ba_kernel.specs.Tests.{Course}
@@ -23,6 +25,11 @@ use Rattle.ba_instant.specs.declared.order.Pick.TheVariants.{First, Last}
 not_true : (b : Bool) → (b ≡ true → ⊥) → b ≡ false
 not_true true wrong = absurd (wrong refl)
 not_true false wrong = refl
+
+pub compared : (o is : Ordering) (told : Bool) → told ≡ (ordering_index o == 2) → o ≡ is → IsTrue told → is ≡ Greater
+compared Less is told e same true_ = absurd (let wrong : false ≡ true = subst IsTrue e true_ in cc)
+compared Equal is told e same true_ = absurd (let wrong : false ≡ true = subst IsTrue e true_ in cc)
+compared Greater is told e same true_ = sym same
 
 -- ---- by kind
 

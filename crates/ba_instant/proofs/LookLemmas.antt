@@ -1,30 +1,33 @@
 -- What isn't new on a branch that is quiet up to a round.
-use Rattle.std.proofs.Common.{◌≡◌, ℕ, ◌+◌, ◌<◌, ◌≤◌, ◌⊎◌, inl, inr, List, [], ◌∷◌, refl, ap, subst, arith}
+use Rattle.std.proofs.Common.{◌≡◌, ℕ, ◌+◌, ◌<◌, ◌≤◌, ◌⊎◌, inl, inr, List, [], ◌∷◌, refl, sym, ap, subst, arith}
 use Rattle.std.proofs.lemmas.Bool.{cases_lt}
 use Rattle.std.specs.List.{Any, Contains}
 use Rattle.std.specs.Prelude.{Option, Some, option_map, slice_get, unwrap_or}
 use Rattle.ba_facts.specs.Matches.{round_of}
 use Rattle.ba_facts.specs.declared.branch.Branch.{Branch}
 use Rattle.ba_facts.specs.declared.term.Fact.{Fact}
-use Rattle.ba_kernel.specs.Courses.{IsOpen, branch_of}
+use Rattle.ba_kernel.specs.Courses.{branch_of}
 use Rattle.ba_kernel.specs.Effects.{SharesLiteral}
 use Rattle.ba_kernel.specs.News.{IsRound, IsRoundOfEntry}
-use Rattle.ba_kernel.specs.Tests.{Course, LinkPasses}
+use Rattle.ba_kernel.specs.Tests.{Course, LinkPasses, open_at}
 use Rattle.ba_kernel.specs.declared.problem.ProblemEntry.{ProblemEntry}
 use Rattle.ba_kernel.specs.declared.step.Step.{Step}
 use Rattle.ba_kernel.specs.declared.step.Step.TheVariants as steps
 use Rattle.ba_instant.proofs.ChaseLemmas.{new_on}
-use Rattle.ba_instant.proofs.DueLemmas.{round_on, telling_on}
+use Rattle.ba_instant.proofs.DueLemmas.{round_in, round_on, telling_on}
 use Rattle.ba_instant.proofs.LateLemmas.{improves_untimely}
 use Rattle.ba_instant.proofs.OfferLemmas.{improves_as, improves_none}
-use Rattle.ba_instant.proofs.RoundLemmas.{round_once}
-use Rattle.ba_instant.specs.Looks.{IsLook, IsTimely}
+use Rattle.ba_instant.proofs.RoundLemmas.{round_at_once}
+use Rattle.ba_instant.specs.Looks.{IsLook, IsPassed, IsTimely}
 use Rattle.ba_instant.specs.Offers.{Improves, IsEntryOf, IsLinkOfFact, IsLinkStep, IsNewIn, IsRoundIn, IsTelling, fact_round}
 use Rattle.ba_instant.specs.Order.{step_rank}
 use Rattle.ba_instant.specs.declared.found.Found.{Found}
 use Rattle.ba_instant.specs.declared.order.Pick.{Pick}
 
-module _ (c : Course) (n quiet : ℕ) (b : Branch) (recent : List ℕ) (look : IsLook c n b quiet recent) where
+pub round_least : (c : Course) (step : Step) (round other : ℕ) → IsRoundIn c step round → IsRoundIn c step other → round ≤ other
+round_least c step round other is its = let same = round_at_once c.problem (open_at c.slots (branch_of step)) step round other is its in omega (arith, same)
+
+module _ {picked : Pick} (c : Course) (n quiet : ℕ) (b : Branch) (recent : List ℕ) (look : IsLook picked c n b quiet recent) where
   -- ---- rounds of what is new
 
   pub telling_late : (step : Step) (round : ℕ) → IsTelling n step → branch_of step ≡ n → IsNewIn c step → IsRound c.problem b step round → quiet < round
@@ -34,6 +37,18 @@ module _ (c : Course) (n quiet : ℕ) (b : Branch) (recent : List ℕ) (look : I
   telling_later step telling on round new is =
       let late = telling_late step round telling on new (round_on c n b look.open_ step round on is) in
       omega (arith, late)
+
+  -- what is passed isn't new
+  pub passed_old : (step : Step) (round : ℕ) → IsTelling n step → branch_of step ≡ n → IsPassed picked c quiet round step → IsRound c.problem b step round → IsNewIn c step → ⊥
+  passed_old step round telling on passed is new =
+      look.earlier passed.last passed.is step round telling (new_on c n b step look.open_ on new) is passed.early passed.after
+
+  pub passed_over : (step : Step) (round : ℕ) (old : Option Found) → IsTelling n step → IsPassed picked c quiet round step → IsRoundIn c step round →
+      Improves c picked (λ it. it ≡ step) old old
+  passed_over step round old telling passed is =
+      let on = telling_on c picked n step telling in
+      improves_none c picked (λ it. it ≡ step) old
+      (λ it same new. passed_old step round telling on passed (round_on c n b look.open_ step round on is) (subst (IsNewIn c) same new))
 
   -- what tells something and is of the kind
   pub telling_untimely : (pick : Pick) (P : Step → Type 0) (rank : ℕ) (best : Option Found) → (IsTimely pick n rank quiet best → ⊥) →
@@ -74,10 +89,11 @@ module _ (c : Course) (n quiet : ℕ) (b : Branch) (recent : List ℕ) (look : I
       let late = telling_late (steps.Entry n entry) round (inl (inl (inl (inl (inl (entry, refl)))))) refl (subst (IsNewIn c) same new) is in
       omega (arith, late, past))
 
-  pub entry_round_is : (entry round other : ℕ) → IsRoundOfEntry c.problem entry round → IsRoundIn c (steps.Entry n entry) other → round ≡ other
-  entry_round_is entry round other is h =
-      let at : IsRound c.problem b (steps.Entry n entry) other = round_on c n b look.open_ (steps.Entry n entry) other refl h in
-      round_once c.problem b (steps.Entry n entry) round other is at
+  pub entry_in : (entry round its : ℕ) → IsRoundOfEntry c.problem entry round → its ≡ round → IsRoundIn c (steps.Entry n entry) its
+  entry_in entry round its is same = subst (IsRoundIn c (steps.Entry n entry)) (sym same) (round_in c n b look.open_ (steps.Entry n entry) round refl is)
+
+  pub link_in : (fact link round : ℕ) → round ≡ 1 + fact_round b fact → IsRoundIn c (steps.Link n link fact) round
+  link_in fact link round is = round_in c n b look.open_ (steps.Link n link fact) round refl (let at : round ≡ 1 + round_of b (fact ∷ []) = omega (arith, is) in at)
 
   -- ---- recent facts
 
@@ -111,8 +127,3 @@ module _ (c : Course) (n quiet : ℕ) (b : Branch) (recent : List ℕ) (look : I
       (λ step e is.
       let in_ = link_recent e.0 (e.1).0 (subst (IsNewIn c) (e.1).1 is) in
       (in_.0, e.0, in_.1, in_.2, e.1)) h
-
-pub link_on : (c : Course) (n : ℕ) (b : Branch) → IsOpen c.slots n b → (fact link round : ℕ) → IsRoundIn c (steps.Link n link fact) round → 1 + fact_round b fact ≤ round
-link_on c n b open_ fact link round is =
-    let at : IsRound c.problem b (steps.Link n link fact) round = round_on c n b open_ (steps.Link n link fact) round refl is in
-    omega (arith, at)

@@ -1,7 +1,7 @@
 -- What a search does next, and how it ends.
-use Rattle.std.proofs.Common.{◌≡◌, ◌∙◌, ℕ, zero, suc, ◌+◌, ◌<◌, ◌≤◌, ◌⊎◌, Bool, true, false, inl, inr, [], ◌∷◌, ◌++◌, get_or, length, map, refl, sym, ap, subst, arith, List}
-use Rattle.std.proofs.lemmas.Option.{slice_get-get_or, slice_get_within}
-use Rattle.std.proofs.lemmas.List.{length-set}
+use Rattle.std.proofs.Common.{◌≡◌, ◌∙◌, ℕ, zero, suc, ◌+◌, ◌-◌, ◌<◌, ◌≤◌, Bool, true, false, inl, inr, [], ◌∷◌, ◌++◌, get_or, length, map, refl, sym, ap, subst, arith, List}
+use Rattle.std.proofs.lemmas.Option.{same_Some, slice_get-get_or, slice_get_within}
+use Rattle.std.proofs.lemmas.List.{length-set, length_push}
 use Rattle.std.specs.Cmp.{nat_cmp_is, upto}
 use Rattle.std.specs.Option.{option_cmp}
 use Rattle.std.specs.Ordering.{is_gt, nat_cmp, ordering_reverse, ordering_then}
@@ -22,8 +22,8 @@ use Rattle.ba_kernel.specs.declared.problem.Problem.{Problem}
 use Rattle.ba_kernel.specs.declared.step.Step.{Step}
 use Rattle.ba_kernel.specs.declared.step.StepFault.{StepFault}
 use Rattle.ba_instant.proofs.ChaseLemmas.{open_is}
-use Rattle.ba_instant.proofs.DueLemmas.{gt_false, new_in, not_greater, one_open}
-use Rattle.ba_instant.proofs.KeepLemmas.{quiet_step_keeps}
+use Rattle.ba_instant.proofs.DueLemmas.{gt_false, new_in, not_greater, one_open, telling_on}
+use Rattle.ba_instant.proofs.KeepLemmas.{new_after_quiet_step, quiet_step_keeps}
 use Rattle.ba_instant.proofs.OrderLemmas.{pick_total}
 use Rattle.ba_instant.proofs.QuietLemmas.{due_is_quiet, quiet_at_first}
 use Rattle.ba_instant.proofs.RoundLemmas.{round_once}
@@ -33,7 +33,7 @@ use Rattle.ba_instant.specs.Offers.{IsDueIfAny, IsDueOn, IsRoundAt, first_by}
 use Rattle.ba_instant.specs.Order.{atom_cmp, numbers_cmp, pick_cmp, step_atom, step_cmp, step_rank}
 use Rattle.ba_instant.specs.declared.due.Next.{Next}
 use Rattle.ba_instant.specs.declared.due.Next.TheVariants as nexts
-use Rattle.ba_instant.specs.Windows.{IsQuietUpto}
+use Rattle.ba_instant.specs.Windows.{EarlierAreOld, IsLast, IsQuietUpto, NoneIsBefore}
 use Rattle.ba_instant.specs.declared.waiting.Waiting.{Waiting}
 use Rattle.ba_instant.specs.declared.found.Found.{Found}
 use Rattle.ba_instant.specs.declared.ends.Settled.{Settled}
@@ -105,7 +105,7 @@ module _ (pick : Pick) (c : Course) (n : ℕ) where
       more Last (Some it) later h = absurd later
       more Last None later h = absurd later
 
-  pub passes_waiting : (waiting : Waiting) (first : Option Found) → ComesLater pick first → Waits waiting n → AreWaiting c.problem c.slots waiting → Passes pick c n first first
+  pub passes_waiting : (waiting : Waiting) (first : Option Found) → ComesLater pick first → Waits waiting n → AreWaiting pick c waiting → Passes pick c n first first
   passes_waiting waiting first later waits are = passes_later first later (λ b is. are.waits n b waits.0 waits.1 is)
 
   -- it has a due step
@@ -208,6 +208,16 @@ in_front [] ys m below = absurd (let no : ⊥ = omega (arith, below) in no)
 in_front (x ∷ xs) ys zero below = refl
 in_front (x ∷ xs) ys (suc m) below = in_front xs ys m (omega (arith, below))
 
+last_back : (xs : List Step) (x : Step) → slice_get (xs ++ x ∷ []) (length xs) ≡ Some x
+last_back [] x = refl
+last_back (y ∷ xs) x = last_back xs x
+
+last_is : (xs : List Step) (x last : Step) (all : List Step) → all ≡ xs ++ x ∷ [] → slice_get all (length all - 1) ≡ Some last → x ≡ last
+last_is xs x last all are is =
+    let count : length all ≡ length xs + 1 = ap length are ∙ length_push xs x in
+    let at : length all - 1 ≡ length xs = omega (arith, count) in
+    same_Some x last (sym (last_back xs x) ∙ (ap (λ ys. slice_get ys (length xs)) (sym are) ∙ (ap (slice_get all) (sym at) ∙ is)))
+
 -- a branch of another number was open before
 was_open : (slots : Slots) (n m : ℕ) (cases : List Branch) (b : Branch) → m < length slots → (m ≡ n → ⊥) → IsOpen (after slots n cases) m b → IsOpen slots m b
 was_open slots n m [] b below other e = sym (elsewhere slots n m None other) ∙ e
@@ -263,10 +273,46 @@ module _ (pick : Pick) (c : Course) (found : Found) (it : IsTaken pick c found) 
     quiet_after new bound b takes to (inl none) = subst (IsQuietUpto c.problem b (branch_of found.step)) (sym none) (quiet_at_first c.problem b (branch_of found.step))
     quiet_after new bound b takes to (inr left) = quiet_next new bound b takes to left.0 left.1
 
+    -- what is new of its round was due before it, and isn't picked before it
+    none_before : (new : Course) (bound : ℕ) (b : Branch) → Takes c.problem c.slots found.step new.slots → IsOpen new.slots (branch_of found.step) b →
+        IsQuietAt c.problem (open_at c.slots (branch_of found.step)) found.step → bound < found.round → NoneIsBefore pick c.problem b (branch_of found.step) (bound + 1) found.step
+    none_before new bound b takes to quiet before other round telling is_new round_is low =
+        let on = telling_on c pick (branch_of found.step) other telling in
+        let early : round ≤ due.round = omega (arith, before, due_round, low) in
+        let was =
+        new_after_quiet_step c.problem c.steps found.step c.slots new.slots due.branch b due.round other round fits
+        (record {
+          runs = runs_of pick c.problem c.steps c.slots searches;
+          takes = takes;
+          from = due.open_;
+          to = to;
+          quiet = subst (λ at. IsQuietAt c.problem at found.step) (open_is c.slots (branch_of found.step) due.branch due.open_) quiet;
+          round_is = due.round_is;
+        }) telling is_new round_is early in
+        it.picked.first other
+        (record {
+          branch = due.branch;
+          open_ = subst (λ m. IsOpen c.slots m due.branch) (sym on) due.open_;
+          new_ = was.0;
+          round = round;
+          round_is = was.1;
+          least = λ another its same another_new its_is.
+              let least = due.least another its (same ∙ on) another_new its_is in
+              omega (arith, early, least);
+        })
+
+    earlier_after : (new : Course) (bound : ℕ) (b : Branch) → Takes c.problem c.slots found.step new.slots → IsOpen new.slots (branch_of found.step) b → IsLeftQuiet c found bound →
+        (last : Step) → (0 < bound) × (slice_get new.steps (length new.steps - 1) ≡ Some last) → new.steps ≡ c.steps ++ found.step ∷ [] →
+        NoneIsBefore pick c.problem b (branch_of found.step) (bound + 1) last
+    earlier_after new bound b takes to (inl none) last is steps_are = let some = is.0 in absurd (let no : ⊥ = omega (arith, none, some) in no)
+    earlier_after new bound b takes to (inr left) last is steps_are =
+        subst (NoneIsBefore pick c.problem b (branch_of found.step) (bound + 1)) (last_is c.steps found.step last new.steps steps_are is.1)
+        (none_before new bound b takes to left.0 left.1)
+
     -- all other branches are as before
     pub waiting_after : (new : Course) (waiting : Waiting) (bound : ℕ) → waiting.below ≡ length c.slots → waiting.but ≡ branch_of found.step → waiting.quiet ≡ bound →
-        IsLeftQuiet c found bound → Takes c.problem c.slots found.step new.slots → new.problem ≡ c.problem → AreWaiting new.problem new.slots waiting
-    waiting_after new waiting bound below_is but_is quiet_is left takes problem_is = record {
+        IsLeftQuiet c found bound → Takes c.problem c.slots found.step new.slots → new.problem ≡ c.problem → new.steps ≡ c.steps ++ found.step ∷ [] → AreWaiting pick new waiting
+    waiting_after new waiting bound below_is but_is quiet_is left takes problem_is steps_are = record {
       waits = λ number b below other is.
           let less : number < length c.slots = omega (arith, below, below_is) in
           let open_ : IsOpen c.slots number b =
@@ -277,6 +323,12 @@ module _ (pick : Pick) (c : Course) (found : Found) (it : IsTaken pick c found) 
           subst (λ p. IsQuietUpto p b waiting.but waiting.quiet) (sym problem_is)
           (subst (λ m. IsQuietUpto c.problem b m waiting.quiet) (sym but_is)
           (subst (IsQuietUpto c.problem b (branch_of found.step)) (sym quiet_is) (quiet_after new bound b takes to left)));
+      earlier = λ b is last is_last.
+          let to : IsOpen new.slots (branch_of found.step) b = subst (λ m. IsOpen new.slots m b) but_is is in
+          let at : IsLast new bound last = subst (λ q. IsLast new q last) quiet_is is_last in
+          subst (λ p. NoneIsBefore pick p b waiting.but (waiting.quiet + 1) last) (sym problem_is)
+          (subst (λ m. NoneIsBefore pick c.problem b m (waiting.quiet + 1) last) (sym but_is)
+          (subst (λ q. NoneIsBefore pick c.problem b (branch_of found.step) (q + 1) last) (sym quiet_is) (earlier_after new bound b takes to left last at steps_are)));
     }
 
   some_open : ¬ (AllClosed c.slots)
@@ -317,19 +369,34 @@ if_ok_as : (P Q : Settled → Type 0) (r : Result Settled AllocError) → ((it :
 if_ok_as P Q (Ok it) to h = to it h
 if_ok_as P Q (Err e) to h = h
 
-pub none_waits : (p : Problem) (slots : Slots) (waiting : Waiting) → waiting.below ≡ 0 → waiting.quiet ≡ 0 → AreWaiting p slots waiting
-none_waits p slots waiting below quiet = record {
+-- nothing is told of what comes before
+none_quiet : (pick : Pick) (c : Course) (b : Branch) (number quiet : ℕ) → quiet ≡ 0 → EarlierAreOld pick c b number quiet
+none_quiet pick c b number quiet none last is = let some = is.0 in absurd (let no : ⊥ = omega (arith, none, some) in no)
+
+pub none_waits : (pick : Pick) (c : Course) (waiting : Waiting) → waiting.below ≡ 0 → waiting.quiet ≡ 0 → AreWaiting pick c waiting
+none_waits pick c waiting below quiet = record {
   waits = λ number b less other is. absurd (let no : ⊥ = omega (arith, less, below) in no);
-  quiet_ = λ b is. subst (IsQuietUpto p b waiting.but) (sym quiet) (quiet_at_first p b waiting.but);
+  quiet_ = λ b is. subst (IsQuietUpto c.problem b waiting.but) (sym quiet) (quiet_at_first c.problem b waiting.but);
+  earlier = λ b is. none_quiet pick c b waiting.but waiting.quiet quiet;
 }
 
--- on the one branch that doesn't wait as was told, and on any other up to 0
-pub quiet_on : (waiting : Waiting) (number quiet : ℕ) (p : Problem) (slots : Slots) (b : Branch) → (quiet ≡ waiting.quiet) × (number ≡ waiting.but) ⊎ (quiet ≡ 0) →
-    AreWaiting p slots waiting → IsOpen slots number b → IsQuietUpto p b number quiet
-quiet_on waiting number quiet p slots b (inl h) are is =
-    subst (λ bound. IsQuietUpto p b number bound) (sym h.0)
-    (subst (λ m. IsQuietUpto p b m waiting.quiet) (sym h.1) (are.quiet_ b (subst (λ m. IsOpen slots m b) h.1 is)))
-quiet_on waiting number quiet p slots b (inr none) are is = subst (λ bound. IsQuietUpto p b number bound) (sym none) (quiet_at_first p b number)
+-- on the one branch that doesn't wait as was told
+pub quiet_on : (waiting : Waiting) (number : ℕ) (pick : Pick) (c : Course) (b : Branch) → number ≡ waiting.but → AreWaiting pick c waiting → IsOpen c.slots number b →
+    IsQuietUpto c.problem b number waiting.quiet
+quiet_on waiting number pick c b on are is =
+    subst (λ m. IsQuietUpto c.problem b m waiting.quiet) (sym on) (are.quiet_ b (subst (λ m. IsOpen c.slots m b) on is))
+
+pub earlier_on : (waiting : Waiting) (number : ℕ) (pick : Pick) (c : Course) (b : Branch) → number ≡ waiting.but → AreWaiting pick c waiting → IsOpen c.slots number b →
+    EarlierAreOld pick c b number waiting.quiet
+earlier_on waiting number pick c b on are is =
+    subst (λ m. EarlierAreOld pick c b m waiting.quiet) (sym on) (are.earlier b (subst (λ m. IsOpen c.slots m b) on is))
+
+-- any other is quiet up to 0
+pub quiet_off : (number : ℕ) (c : Course) (b : Branch) → IsQuietUpto c.problem b number 0
+quiet_off number c b = quiet_at_first c.problem b number
+
+pub earlier_off : (pick : Pick) (number : ℕ) (c : Course) (b : Branch) → EarlierAreOld pick c b number 0
+earlier_off pick number c b = none_quiet pick c b number 0 refl
 
 pub searches_start : (pick : Pick) (c : Course) (p : Problem) → c.problem ≡ p → c.steps ≡ [] → IsStart p c.slots → Searches pick c.problem c.steps c.slots
 searches_start pick c p problem_is none start =

@@ -56,7 +56,7 @@ key_turned s b key left right h = record {
   equal = λ k d below. equal_turned b h.f.terms h.g.terms _ (h.equal k d below);
 }
 
-module _ (c : Course) (n quiet : ℕ) (b : Branch) (recent : List ℕ) (look : IsLook c n b quiet recent) where
+module _ {picked : Pick} (c : Course) (n quiet : ℕ) (b : Branch) (recent : List ℕ) (look : IsLook picked c n b quiet recent) where
   key_passes : (key left right : ℕ) (step : Step) → step ≡ steps.Key n key left right → IsNewIn c step → KeyPasses c.problem.policy.schema b key left right
   key_passes key left right step is new = (new_on c n b (steps.Key n key left right) look.open_ refl (subst (IsNewIn c) is new)).passes
 

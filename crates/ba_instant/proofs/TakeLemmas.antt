@@ -13,7 +13,7 @@ use Rattle.ba_kernel.specs.News.{IsRound}
 use Rattle.ba_kernel.specs.Tests.{Course}
 use Rattle.ba_kernel.specs.declared.step.Step.{Step}
 use Rattle.ba_kernel.specs.declared.step.Step.TheVariants as steps
-use Rattle.ba_instant.proofs.DueLemmas.{round_on}
+use Rattle.ba_instant.proofs.DueLemmas.{round_in, round_on}
 use Rattle.ba_instant.proofs.LateLemmas.{improves_behind, untimely_reaches, untimely_some}
 use Rattle.ba_instant.proofs.LookLemmas.{recent_or, telling_late}
 use Rattle.ba_instant.proofs.MapLemmas.{By, From, by_from, from_by}
@@ -53,12 +53,17 @@ form_round c b n (OfRule rule part) facts t = refl
 form_round c b n (OfView view part) facts t = refl
 form_round c b n (OfGoal part) facts t = absurd t
 
+form_has : (c : Course) (b : Branch) (n : ℕ) (form : Form) (facts : List ℕ) → TellsOf form → IsRound c.problem b (step_of n form facts) (least_round b form facts)
+form_has c b n (OfRule rule part) facts t = refl
+form_has c b n (OfView view part) facts t = refl
+form_has c b n (OfGoal part) facts t = absurd t
+
 form_least : (c : Course) (b : Branch) (n : ℕ) (form : Form) (facts : List ℕ) (round : ℕ) → IsRound c.problem b (step_of n form facts) round → least_round b form facts ≤ round
 form_least c b n (OfRule rule part) facts round is = omega (arith, is)
 form_least c b n (OfView view part) facts round is = omega (arith, is)
 form_least c b n (OfGoal part) facts round is = omega arith
 
-module _ (c : Course) (pick : Pick) (b : Branch) (n : ℕ) (form : Form) (side : Side) (part : Part) (quiet : ℕ) (recent : List ℕ) (look : IsLook c n b quiet recent) where
+module _ (c : Course) (pick : Pick) (b : Branch) (n : ℕ) (form : Form) (side : Side) (part : Part) (quiet : ℕ) (recent : List ℕ) (look : IsLook pick c n b quiet recent) where
   -- its round is at least so much
   pub least_late : (facts : List ℕ) (step : Step) (least : ℕ) → step ≡ step_of n form facts → least ≡ least_round b form facts → (round : ℕ) → IsNewIn c step →
       IsRoundIn c step round → least ≤ round
@@ -66,6 +71,16 @@ module _ (c : Course) (pick : Pick) (b : Branch) (n : ℕ) (form : Form) (side :
       let at : IsRoundIn c (step_of n form facts) round = subst (λ s. IsRoundIn c s round) is h in
       let more = form_least c b n form facts round (round_on c n b look.open_ (step_of n form facts) round (form_branch n form facts) at) in
       omega (arith, more, least_is)
+
+  -- what tells something has that round
+  pub shown_tells : (facts : List ℕ) (step : Step) → step ≡ step_of n form facts → TellsOf form → IsTelling n step
+  shown_tells facts step is tells = subst (IsTelling n) (sym is) (form_tells n form facts tells)
+
+  pub shown_round : (facts : List ℕ) (step : Step) (least : ℕ) → step ≡ step_of n form facts → least ≡ least_round b form facts → TellsOf form → IsRoundIn c step least
+  shown_round facts step least is least_is tells =
+      let at : IsRoundIn c (step_of n form facts) (least_round b form facts) =
+      round_in c n b look.open_ (step_of n form facts) (least_round b form facts) (form_branch n form facts) (form_has c b n form facts tells) in
+      subst (λ s. IsRoundIn c s least) (sym is) (subst (IsRoundIn c (step_of n form facts)) (sym least_is) at)
 
   -- a step on old facts isn't new
   none_old : (facts : List ℕ) (step : Step) → step ≡ step_of n form facts → AreOld b quiet form facts → IsNewIn c step → ⊥

@@ -1,5 +1,6 @@
 -- A look at a branch of which it is known up to which round nothing is new, and what needn't be looked at.
 use Rattle.std.specs.Prelude.{◌≡◌, ◌⊎◌, ℕ, ◌+◌, ◌<◌, ◌≤◌, List, All, Any, Contains, max, Option, Some, None, slice_get}
+use Rattle.std.specs.declared.cmp.Ordering.TheVariants.{Greater}
 use Rattle.ba_model.specs.declared.query.Atom.{Atom}
 use Rattle.ba_model.specs.declared.query.Op.TheVariants.{Eq}
 use Rattle.ba_model.specs.declared.schema.Schema.{Schema}
@@ -12,8 +13,8 @@ use Rattle.ba_kernel.specs.Effects.{AreEqualAt}
 use Rattle.ba_kernel.specs.Tests.{Course, KeyPasses}
 use Rattle.ba_kernel.specs.declared.step.Step.{Step}
 use Rattle.ba_instant.specs.Offers.{IsKeyOfPair, fact_round}
-use Rattle.ba_instant.specs.Order.{step_rank}
-use Rattle.ba_instant.specs.Windows.{IsQuietUpto}
+use Rattle.ba_instant.specs.Order.{pick_cmp, step_rank}
+use Rattle.ba_instant.specs.Windows.{EarlierAreOld, IsLast, IsQuietUpto}
 use Rattle.ba_instant.specs.declared.found.Found.{Found}
 use Rattle.ba_instant.specs.declared.mapped.Form.{Form}
 use Rattle.ba_instant.specs.declared.mapped.Form.TheVariants.{OfRule, OfView, OfGoal}
@@ -30,11 +31,19 @@ AreRecentBelow b bound recent end = (number : ℕ) (fact : Fact) → number < en
 abbrev pub AreRecent : Branch → ℕ → List ℕ → Type 0
 AreRecent b bound recent = (number : ℕ) (fact : Fact) → slice_get b.facts number ≡ Some fact → bound ≤ fact.round → Contains recent number
 
--- the branch is open, is quiet up to the round, and these are its recent facts
-pub record IsLook (c : Course) (number : ℕ) (b : Branch) (quiet : ℕ) (recent : List ℕ) : Type 0 where
+-- The branch is open, is quiet up to the round, nothing of the round after it comes before the step that was taken last, and these are its recent facts.
+pub record IsLook (pick : Pick) (c : Course) (number : ℕ) (b : Branch) (quiet : ℕ) (recent : List ℕ) : Type 0 where
   pub open_ : IsOpen c.slots number b
   pub quiet_ : IsQuietUpto c.problem b number quiet
+  pub earlier : EarlierAreOld pick c b number quiet
   pub recent_ : AreRecent b quiet recent
+
+-- the step is picked before the one that was taken last, and is of no round past the one after the quiet ones
+pub record IsPassed (pick : Pick) (c : Course) (quiet round : ℕ) (step : Step) : Type 0 where
+  pub last : Step
+  pub is : IsLast c quiet last
+  pub early : round ≤ quiet + 1
+  pub after : pick_cmp pick last step ≡ Greater
 
 -- ---- what may come before what was found
 

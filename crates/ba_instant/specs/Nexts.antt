@@ -3,7 +3,7 @@ use Rattle.std.specs.Prelude.{◌≡◌, ◌≢◌, ◌⊎◌, ℕ, ◌+◌, ◌
 use Rattle.std.specs.Ordering.{is_gt}
 use Rattle.std.specs.declared.cmp.Ordering.TheVariants.{Greater}
 use Rattle.ba_facts.specs.declared.branch.Branch.{Branch}
-use Rattle.ba_kernel.specs.Courses.{AllClosed, IsOpen, Slots, branch_of}
+use Rattle.ba_kernel.specs.Courses.{AllClosed, IsOpen, branch_of}
 use Rattle.ba_kernel.specs.Tests.{Course, open_at}
 use Rattle.ba_kernel.specs.declared.problem.Problem.{Problem}
 use Rattle.ba_kernel.specs.declared.step.Step.{Step}
@@ -11,7 +11,7 @@ use Rattle.ba_instant.specs.Dues.{EachHasNew, HasNew, HaveNewBelow, IsDue, IsPic
 use Rattle.ba_instant.specs.Offers.{IsRoundIn, first_by}
 use Rattle.ba_instant.specs.Order.{pick_cmp}
 use Rattle.ba_instant.specs.QuietSteps.{IsQuietStep}
-use Rattle.ba_instant.specs.Windows.{IsQuietUpto}
+use Rattle.ba_instant.specs.Windows.{EarlierAreOld, IsQuietUpto}
 use Rattle.ba_instant.specs.declared.due.Next.{Next}
 use Rattle.ba_instant.specs.declared.waiting.Waiting.{Waiting}
 use Rattle.ba_instant.specs.declared.due.Next.TheVariants.{Closed, Saturated, Take}
@@ -73,10 +73,11 @@ IsLooked pick c number false old new = Passes pick c number old new
 
 -- ---- branches that wait
 
--- Each open branch below the bound but one has a new step, and that one is quiet up to the round.
-pub record AreWaiting (p : Problem) (slots : Slots) (waiting : Waiting) : Type 0 where
-  pub waits : (number : ℕ) (branch : Branch) → number < waiting.below → number ≢ waiting.but → IsOpen slots number branch → HasNew p number branch
-  pub quiet_ : (branch : Branch) → IsOpen slots waiting.but branch → IsQuietUpto p branch waiting.but waiting.quiet
+-- Each open branch below the bound but one has a new step. That one is quiet up to the round, and nothing of the round after it comes before the step that was taken last.
+pub record AreWaiting (pick : Pick) (c : Course) (waiting : Waiting) : Type 0 where
+  pub waits : (number : ℕ) (branch : Branch) → number < waiting.below → number ≢ waiting.but → IsOpen c.slots number branch → HasNew c.problem number branch
+  pub quiet_ : (branch : Branch) → IsOpen c.slots waiting.but branch → IsQuietUpto c.problem branch waiting.but waiting.quiet
+  pub earlier : (branch : Branch) → IsOpen c.slots waiting.but branch → EarlierAreOld pick c branch waiting.but waiting.quiet
 
 -- the step is quiet on its branch
 abbrev pub IsQuietAt : Problem → Option Branch → Step → Type 0

@@ -1,6 +1,5 @@
 //! Entries and links.
 ghost use Rattle.std.specs.Prelude.{◌≡◌, ◌<◌, IfOk, OnOk, length};
-ghost use Rattle.ba_kernel.specs.Courses.{IsOpen};
 ghost use Rattle.ba_kernel.specs.News.{IsRoundOfEntry};
 ghost use Rattle.ba_kernel.specs.declared.step.Step.TheVariants.{Entry};
 ghost use Rattle.ba_instant.specs.Looks.{IsLook};
@@ -14,7 +13,7 @@ use std::alloc::AllocError;
 impl<'a> Spot<'a> {
     /// Offers the steps by the problem's entries, whose rounds are 1 and 2.
     pub fn offer_entries(&self, best: &mut Option<Found>)
-        requires { IsLook self.now.search.now self.now.number self.now.branch.now self.now.quiet self.now.recent.now }
+        requires { IsLook self.now.pick self.now.search.now self.now.number self.now.branch.now self.now.quiet self.now.recent.now }
         ensures { Improves self.now.search.now self.now.pick (IsEntryOf self.now.number) best.old best.new }
     {
         if self.quiet < 2 {
@@ -23,7 +22,7 @@ impl<'a> Spot<'a> {
     }
 
     fn offer_all_entries(&self, best: &mut Option<Found>)
-        requires { IsLook self.now.search.now self.now.number self.now.branch.now self.now.quiet self.now.recent.now }
+        requires { IsLook self.now.pick self.now.search.now self.now.number self.now.branch.now self.now.quiet self.now.recent.now }
         ensures { Improves self.now.search.now self.now.pick (IsEntryOf self.now.number) best.old best.new }
     {
         for entry in 0..self.search.problem().entries.len() {
@@ -33,7 +32,7 @@ impl<'a> Spot<'a> {
 
     /// Offers the step by the entry.
     fn offer_entry(&self, entry: u64, best: &mut Option<Found>)
-        requires look { IsLook self.now.search.now self.now.number self.now.branch.now self.now.quiet self.now.recent.now }
+        requires look { IsLook self.now.pick self.now.search.now self.now.number self.now.branch.now self.now.quiet self.now.recent.now }
         requires there { entry < length self.now.search.now.problem.entries }
         ensures { Improves self.now.search.now self.now.pick (λ it. it ≡ Entry self.now.number entry) best.old best.new }
     {
@@ -45,7 +44,7 @@ impl<'a> Spot<'a> {
             branch: self.number,
             entry,
         };
-        self.offer_late(u64::from(round), step, best);
+        self.offer_at(u64::from(round), step, best);
     }
 
     fn entry_round(&self, entry: u64) -> u32
@@ -58,7 +57,7 @@ impl<'a> Spot<'a> {
 
     /// Offers the steps by links of recent facts.
     pub fn offer_links(&self, best: &mut Option<Found>) -> Result<(), AllocError>
-        requires { IsLook self.now.search.now self.now.number self.now.branch.now self.now.quiet self.now.recent.now }
+        requires { IsLook self.now.pick self.now.search.now self.now.number self.now.branch.now self.now.quiet self.now.recent.now }
         ensures { OnOk result (Improves self.now.search.now self.now.pick (IsLinkStep self.now.number) best.old best.new) }
     {
         for fact in self.recent {
@@ -69,10 +68,10 @@ impl<'a> Spot<'a> {
 
     /// Offers the steps by links of the fact.
     fn offer_links_of(&self, fact: u32, best: &mut Option<Found>) -> Result<(), AllocError>
-        requires { IsOpen self.now.search.now.slots self.now.number self.now.branch.now }
+        requires { IsLook self.now.pick self.now.search.now self.now.number self.now.branch.now self.now.quiet self.now.recent.now }
         ensures { OnOk result (Improves self.now.search.now self.now.pick (IsLinkOfFact self.now.number fact) best.old best.new) }
     {
-        let least = u64::from(fact_round(self.branch, fact)) + 1;
+        let round = u64::from(fact_round(self.branch, fact)) + 1;
         let count = self.link_count(fact)?;
         for link in 0..count {
             let step = Step::Link {
@@ -80,7 +79,7 @@ impl<'a> Spot<'a> {
                 link,
                 fact,
             };
-            self.offer_late(least, step, best);
+            self.offer_at(round, step, best);
         }
         Ok(())
     }

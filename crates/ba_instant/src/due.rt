@@ -28,7 +28,7 @@ pub enum Next {
 impl<'a> Spot<'a> {
     /// The due step that is picked on the branch, with its round; none where no step on it is new.
     pub fn due_step(&self, alloc: Global) -> Result<Option<Found>, AllocError>
-        requires { IsLook self.now.search.now self.now.number self.now.branch.now self.now.quiet self.now.recent.now }
+        requires { IsLook self.now.pick self.now.search.now self.now.number self.now.branch.now self.now.quiet self.now.recent.now }
         ensures { IfOk result (IsDueIfAny self.now.search.now self.now.pick self.now.number) }
     {
         let mut best = None;
@@ -38,7 +38,7 @@ impl<'a> Spot<'a> {
 
     /// Offers all steps on the branch. Those that close it have round 0, and no others do.
     fn offer_all(&self, alloc: Global, best: &mut Option<Found>) -> Result<(), AllocError>
-        requires look { IsLook self.now.search.now self.now.number self.now.branch.now self.now.quiet self.now.recent.now }
+        requires look { IsLook self.now.pick self.now.search.now self.now.number self.now.branch.now self.now.quiet self.now.recent.now }
         requires none { best.old ≡ None }
         ensures { OnOk result (Improves self.now.search.now self.now.pick (IsOn self.now.number) best.old best.new) }
     {
@@ -51,7 +51,7 @@ impl<'a> Spot<'a> {
 
     /// Offers the steps that close the branch.
     fn offer_closing(&self, alloc: Global, best: &mut Option<Found>) -> Result<(), AllocError>
-        requires { IsLook self.now.search.now self.now.number self.now.branch.now self.now.quiet self.now.recent.now }
+        requires { IsLook self.now.pick self.now.search.now self.now.number self.now.branch.now self.now.quiet self.now.recent.now }
         ensures { OnOk result (Improves self.now.search.now self.now.pick (IsClosing self.now.number) best.old best.new) }
     {
         let absurd = Step::Absurd {
@@ -65,7 +65,7 @@ impl<'a> Spot<'a> {
     /// Offers the steps that tell the branch something. Links come before keys, since a link that is
     /// found early leaves few pairs of facts to be looked at.
     fn offer_telling(&self, alloc: Global, best: &mut Option<Found>) -> Result<(), AllocError>
-        requires { IsLook self.now.search.now self.now.number self.now.branch.now self.now.quiet self.now.recent.now }
+        requires { IsLook self.now.pick self.now.search.now self.now.number self.now.branch.now self.now.quiet self.now.recent.now }
         ensures { OnOk result (Improves self.now.search.now self.now.pick (IsTelling self.now.number) best.old best.new) }
     {
         self.offer_entries(best);
@@ -98,7 +98,7 @@ pub fn next_step(
     pick: Pick,
     waiting: Waiting,
 ) -> Result<Next, AllocError>
-    requires { AreWaiting search.now.problem search.now.slots waiting }
+    requires { AreWaiting pick search.now waiting }
     ensures { IfOk result (IsNext pick search.now) }
 {
     let mut first = None;
@@ -124,7 +124,7 @@ fn look_at(
     number: u32,
     first: &mut Option<Found>,
 ) -> Result<bool, AllocError>
-    requires { AreWaiting search.now.problem search.now.slots waiting }
+    requires { AreWaiting pick search.now waiting }
     ensures { IfOk result (λ it. IsLooked pick search.now number it first.old first.new) }
 {
     if may_wait(pick, waiting, number, first) {
@@ -161,7 +161,7 @@ fn due_on(
     pick: Pick,
     waiting: Waiting,
 ) -> Result<Option<Found>, AllocError>
-    requires waiting { AreWaiting search.now.problem search.now.slots waiting }
+    requires waiting { AreWaiting pick search.now waiting }
     requires open { IsOpen search.now.slots number branch.now }
     ensures { IfOk result (IsDueIfAny search.now pick number) }
 {

@@ -87,7 +87,7 @@ fn take(alloc: Global, search: &mut Search, pick: Pick, found: Found) -> Result<
     requires taken { IsTaken pick search.old found }
     requires searches { Searches pick search.old.problem search.old.steps search.old.slots }
     ensures searches { OnOk result (Searches pick search.new.problem search.new.steps search.new.slots) }
-    ensures waiting { IfOk result (AreWaiting search.new.problem search.new.slots) }
+    ensures waiting { IfOk result (AreWaiting pick search.new) }
     ensures problem { OnOk result (search.new.problem ≡ search.old.problem) }
     ensures steps { OnOk result (search.new.steps ≡ search.old.steps ++ found.step ∷ []) }
 {

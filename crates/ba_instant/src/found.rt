@@ -1,8 +1,12 @@
 //! The first of the new steps that were looked at.
-ghost use Rattle.std.specs.Prelude.{◌≡◌, ◌↔◌, ◌≤◌, ℕ, IfOk, IsTrue};
+ghost use Rattle.std.specs.Prelude.{◌≡◌, ◌↔◌, ◌≤◌, ℕ, IfOk, IsTrue, Some};
+ghost use Rattle.std.specs.Option.{option_copied};
 ghost use Rattle.std.specs.Ordering.{is_gt};
 ghost use Rattle.ba_kernel.specs.Courses.{IsOpen};
-ghost use Rattle.ba_instant.specs.Offers.{Improves, IsNewIn, IsRoundIn, Reaches, first_found, found_cmp};
+ghost use Rattle.ba_kernel.specs.declared.step.Step.{Step as AStep};
+ghost use Rattle.ba_instant.specs.Looks.{IsLook, IsPassed};
+ghost use Rattle.ba_instant.specs.Offers.{Improves, IsNewIn, IsRoundIn, IsTelling, Reaches, first_found, found_cmp};
+ghost use Rattle.ba_instant.specs.Windows.{IsLast};
 
 use crate::order::Pick;
 use ba_facts::Branch;
@@ -19,8 +23,9 @@ pub struct Found {
 
 /// An open branch of a search, by number, and which of its due steps is looked for.
 ///
-/// No step that tells the branch something is new there whose round is at most `quiet`. The facts of
-/// that round or a later one are `recent`, by number.
+/// No step that tells the branch something is new there whose round is at most `quiet`; unless that is
+/// 0, none of the round after it is picked before the step that was taken last. The facts of the round
+/// `quiet` or a later one are `recent`, by number.
 #[derive(Clone, Copy)]
 pub struct Spot<'a> {
     pub search: &'a Search,
@@ -53,6 +58,44 @@ impl<'a> Spot<'a> {
             return;
         }
         self.offer(step, best);
+    }
+
+    /// The same of a step of this round that tells the branch something. It isn't looked at where it
+    /// can't be new.
+    pub fn offer_at(&self, round: u64, step: Step, best: &mut Option<Found>)
+        requires look { IsLook self.now.pick self.now.search.now self.now.number self.now.branch.now self.now.quiet self.now.recent.now }
+        requires telling { IsTelling self.now.number step }
+        requires round { IsRoundIn self.now.search.now step round }
+        ensures { Improves self.now.search.now self.now.pick (λ it. it ≡ step) best.old best.new }
+    {
+        if self.is_passed(round, &step) {
+            return;
+        }
+        self.offer_late(round, step, best);
+    }
+
+    /// Whether the step is picked before the one that was taken last, and is of no round past the one
+    /// after the quiet ones.
+    fn is_passed(&self, round: u64, step: &Step) -> bool
+        ensures { IsTrue result → IsPassed self.now.pick self.now.search.now self.now.quiet round step.now }
+    {
+        match self.last() {
+            Some(last) => {
+                round <= u64::from(self.quiet) + 1
+                    && self.pick.compare(last, step) == Ordering::Greater
+            }
+            None => false,
+        }
+    }
+
+    /// The step that was taken last, if some round is quiet.
+    pub fn last(&self) -> Option<&Step>
+        ensures { (it : AStep) → option_copied result ≡ Some it → IsLast self.now.search.now self.now.quiet it }
+    {
+        if self.quiet == 0 {
+            return None;
+        }
+        self.search.steps().as_slice().last()
     }
 }
 

@@ -17,7 +17,7 @@ use std::alloc::AllocError;
 impl<'a> Spot<'a> {
     /// Offers the steps by keys of two facts, of which one is recent.
     pub fn offer_keys(&self, best: &mut Option<Found>) -> Result<(), AllocError>
-        requires { IsLook self.now.search.now self.now.number self.now.branch.now self.now.quiet self.now.recent.now }
+        requires { IsLook self.now.pick self.now.search.now self.now.number self.now.branch.now self.now.quiet self.now.recent.now }
         ensures { OnOk result (Improves self.now.search.now self.now.pick (IsKeyStep self.now.number) best.old best.new) }
     {
         for fact in self.recent {

@@ -60,7 +60,7 @@ impl<'a> Mapped<'a> {
     /// Offers the step on each facts of the side that show the part's atoms.
     #[tactic(auto, using(crate::proofs::MapLemmas::mapped_whole))]
     pub fn offer(&self, alloc: Global, best: &mut Option<Found>) -> Result<(), AllocError>
-        requires { IsLook self.now.spot.now.search.now self.now.spot.now.number self.now.spot.now.branch.now self.now.spot.now.quiet self.now.spot.now.recent.now }
+        requires { IsLook self.now.spot.now.pick self.now.spot.now.search.now self.now.spot.now.number self.now.spot.now.branch.now self.now.spot.now.quiet self.now.spot.now.recent.now }
         ensures { OnOk result (Improves self.now.spot.now.search.now self.now.spot.now.pick (IsMapped self.now.spot.now.branch.now self.now.spot.now.number self.now.form self.now.side self.now.part.now) best.old best.new) }
     {
         let mut chosen = Vec::new(alloc);
@@ -76,7 +76,7 @@ impl<'a> Mapped<'a> {
         chosen: &mut Vec<u32>,
         best: &mut Option<Found>,
     ) -> Result<(), AllocError>
-        requires { IsLook self.now.spot.now.search.now self.now.spot.now.number self.now.spot.now.branch.now self.now.spot.now.quiet self.now.spot.now.recent.now }
+        requires { IsLook self.now.spot.now.pick self.now.spot.now.search.now self.now.spot.now.number self.now.spot.now.branch.now self.now.spot.now.quiet self.now.spot.now.recent.now }
         ensures chosen { OnOk result (chosen.new.items ≡ chosen.old.items) }
         ensures best { OnOk result (Improves self.now.spot.now.search.now self.now.spot.now.pick (IsMappedFrom self.now.spot.now.branch.now self.now.spot.now.number self.now.form self.now.side self.now.part.now from.now chosen.old.items) best.old best.new) }
     {
@@ -109,7 +109,7 @@ impl<'a> Mapped<'a> {
         chosen: &mut Vec<u32>,
         best: &mut Option<Found>,
     ) -> Result<(), AllocError>
-        requires look { IsLook self.now.spot.now.search.now self.now.spot.now.number self.now.spot.now.branch.now self.now.spot.now.quiet self.now.spot.now.recent.now }
+        requires look { IsLook self.now.spot.now.pick self.now.spot.now.search.now self.now.spot.now.number self.now.spot.now.branch.now self.now.spot.now.quiet self.now.spot.now.recent.now }
         requires old { AreOld self.now.spot.now.branch.now self.now.spot.now.quiet self.now.form chosen.old.items }
         ensures chosen { OnOk result (chosen.new.items ≡ chosen.old.items) }
         ensures best { OnOk result (Improves self.now.spot.now.search.now self.now.spot.now.pick (IsMappedFrom self.now.spot.now.branch.now self.now.spot.now.number self.now.form self.now.side self.now.part.now (table ∷ []) chosen.old.items) best.old best.new) }
@@ -131,16 +131,30 @@ impl<'a> Mapped<'a> {
         facts: &[u32],
         best: &mut Option<Found>,
     ) -> Result<(), AllocError>
-        requires { IsLook self.now.spot.now.search.now self.now.spot.now.number self.now.spot.now.branch.now self.now.spot.now.quiet self.now.spot.now.recent.now }
+        requires { IsLook self.now.spot.now.pick self.now.spot.now.search.now self.now.spot.now.number self.now.spot.now.branch.now self.now.spot.now.quiet self.now.spot.now.recent.now }
         ensures { OnOk result (Improves self.now.spot.now.search.now self.now.spot.now.pick (IsMappedFrom self.now.spot.now.branch.now self.now.spot.now.number self.now.form self.now.side self.now.part.now [] facts.now) best.old best.new) }
     {
         match self.spot.branch.undecided(self.part, facts) {
             None => {
                 let step = self.form.on(self.spot.number, copied(alloc, facts)?);
-                self.spot.offer_late(self.least_round(facts), step, best);
+                self.offer_shown(facts, step, best);
                 Ok(())
             }
             Some(_) => Ok(()),
+        }
+    }
+
+    /// Offers the step on the facts, which show the part's atoms.
+    fn offer_shown(&self, facts: &[u32], step: Step, best: &mut Option<Found>)
+        requires look { IsLook self.now.spot.now.pick self.now.spot.now.search.now self.now.spot.now.number self.now.spot.now.branch.now self.now.spot.now.quiet self.now.spot.now.recent.now }
+        requires is { step ≡ step_of self.now.spot.now.number self.now.form facts.now }
+        ensures { Improves self.now.spot.now.search.now self.now.spot.now.pick (λ it. it ≡ step) best.old best.new }
+    {
+        let round = self.least_round(facts);
+        match self.form {
+            Form::OfRule { .. } => self.spot.offer_at(round, step, best),
+            Form::OfView { .. } => self.spot.offer_at(round, step, best),
+            Form::OfGoal { .. } => self.spot.offer_late(round, step, best),
         }
     }
 

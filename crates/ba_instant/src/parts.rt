@@ -55,7 +55,7 @@ impl<'a> Spot<'a> {
 
     /// Offers the steps by views.
     pub fn offer_views(&self, alloc: Global, best: &mut Option<Found>) -> Result<(), AllocError>
-        requires { IsLook self.now.search.now self.now.number self.now.branch.now self.now.quiet self.now.recent.now }
+        requires { IsLook self.now.pick self.now.search.now self.now.number self.now.branch.now self.now.quiet self.now.recent.now }
         ensures { OnOk result (Improves self.now.search.now self.now.pick (IsViewStep self.now.number) best.old best.new) }
     {
         if self.is_timely(4, self.quiet, best) {
@@ -65,7 +65,7 @@ impl<'a> Spot<'a> {
     }
 
     fn offer_all_views(&self, alloc: Global, best: &mut Option<Found>) -> Result<(), AllocError>
-        requires { IsLook self.now.search.now self.now.number self.now.branch.now self.now.quiet self.now.recent.now }
+        requires { IsLook self.now.pick self.now.search.now self.now.number self.now.branch.now self.now.quiet self.now.recent.now }
         ensures { OnOk result (Improves self.now.search.now self.now.pick (IsViewStep self.now.number) best.old best.new) }
     {
         let count = counted(self.search.problem().policy.views.len())?;
@@ -82,7 +82,7 @@ impl<'a> Spot<'a> {
         view: u32,
         best: &mut Option<Found>,
     ) -> Result<(), AllocError>
-        requires look { IsLook self.now.search.now self.now.number self.now.branch.now self.now.quiet self.now.recent.now }
+        requires look { IsLook self.now.pick self.now.search.now self.now.number self.now.branch.now self.now.quiet self.now.recent.now }
         requires there { view < length self.now.search.now.problem.policy.views }
         ensures { OnOk result (Improves self.now.search.now self.now.pick (IsOfView self.now.number view) best.old best.new) }
     {
@@ -102,7 +102,7 @@ impl<'a> Spot<'a> {
 
     /// Offers the steps by rules.
     pub fn offer_rules(&self, alloc: Global, best: &mut Option<Found>) -> Result<(), AllocError>
-        requires { IsLook self.now.search.now self.now.number self.now.branch.now self.now.quiet self.now.recent.now }
+        requires { IsLook self.now.pick self.now.search.now self.now.number self.now.branch.now self.now.quiet self.now.recent.now }
         ensures { OnOk result (Improves self.now.search.now self.now.pick (IsRuleStep self.now.number) best.old best.new) }
     {
         if self.is_timely(3, self.quiet, best) {
@@ -112,7 +112,7 @@ impl<'a> Spot<'a> {
     }
 
     fn offer_all_rules(&self, alloc: Global, best: &mut Option<Found>) -> Result<(), AllocError>
-        requires { IsLook self.now.search.now self.now.number self.now.branch.now self.now.quiet self.now.recent.now }
+        requires { IsLook self.now.pick self.now.search.now self.now.number self.now.branch.now self.now.quiet self.now.recent.now }
         ensures { OnOk result (Improves self.now.search.now self.now.pick (IsRuleStep self.now.number) best.old best.new) }
     {
         let count = counted(self.search.problem().policy.schema.rules.len())?;
@@ -129,7 +129,7 @@ impl<'a> Spot<'a> {
         rule: u32,
         best: &mut Option<Found>,
     ) -> Result<(), AllocError>
-        requires look { IsLook self.now.search.now self.now.number self.now.branch.now self.now.quiet self.now.recent.now }
+        requires look { IsLook self.now.pick self.now.search.now self.now.number self.now.branch.now self.now.quiet self.now.recent.now }
         requires there { rule < length self.now.search.now.problem.policy.schema.rules }
         ensures { OnOk result (Improves self.now.search.now self.now.pick (IsOfRule self.now.number rule) best.old best.new) }
     {
@@ -150,7 +150,7 @@ impl<'a> Spot<'a> {
         part: &Part,
         best: &mut Option<Found>,
     ) -> Result<(), AllocError>
-        requires { IsLook self.now.search.now self.now.number self.now.branch.now self.now.quiet self.now.recent.now }
+        requires { IsLook self.now.pick self.now.search.now self.now.number self.now.branch.now self.now.quiet self.now.recent.now }
         ensures { OnOk result (Improves self.now.search.now self.now.pick (IsOfSides self.now.branch.now self.now.number (OfRule rule number) part.now) best.old best.new) }
     {
         let form = Form::OfRule { rule, part: number };
@@ -168,7 +168,7 @@ impl<'a> Spot<'a> {
 
     /// Offers the steps that reach the goal.
     pub fn offer_goals(&self, alloc: Global, best: &mut Option<Found>) -> Result<(), AllocError>
-        requires { IsLook self.now.search.now self.now.number self.now.branch.now self.now.quiet self.now.recent.now }
+        requires { IsLook self.now.pick self.now.search.now self.now.number self.now.branch.now self.now.quiet self.now.recent.now }
         ensures { OnOk result (Improves self.now.search.now self.now.pick (IsGoalStep self.now.number) best.old best.new) }
     {
         let count = counted(self.goal_parts().len())?;

@@ -15,7 +15,7 @@ use std::alloc::{AllocError, Global};
 impl<'a> Spot<'a> {
     /// Offers the splits.
     pub fn offer_splits(&self, alloc: Global, best: &mut Option<Found>) -> Result<(), AllocError>
-        requires { IsLook self.now.search.now self.now.number self.now.branch.now self.now.quiet self.now.recent.now }
+        requires { IsLook self.now.pick self.now.search.now self.now.number self.now.branch.now self.now.quiet self.now.recent.now }
         ensures { OnOk result (Improves self.now.search.now self.now.pick (IsSplitStep self.now.number) best.old best.new) }
     {
         if self.is_timely(5, self.quiet, best) {

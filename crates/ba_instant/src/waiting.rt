@@ -1,16 +1,18 @@
 //! What is known of branches from the step before.
 ghost use Rattle.std.specs.Prelude.{◌≡◌, ◌↔◌, IsTrue, length};
 ghost use Rattle.ba_facts.specs.declared.branch.Branch.{Branch as ABranch};
-ghost use Rattle.ba_kernel.specs.Courses.{IsOpen, Slots, branch_of};
-ghost use Rattle.ba_kernel.specs.declared.problem.Problem.{Problem};
+ghost use Rattle.ba_kernel.specs.Courses.{IsOpen, branch_of};
+ghost use Rattle.ba_kernel.specs.Tests.{Course};
 ghost use Rattle.ba_instant.specs.Nexts.{AreWaiting, Waits};
-ghost use Rattle.ba_instant.specs.Windows.{IsQuietUpto};
+ghost use Rattle.ba_instant.specs.Windows.{EarlierAreOld, IsQuietUpto};
+ghost use Rattle.ba_instant.specs.declared.order.Pick.{Pick};
 
 use ba_kernel::{Search, Step};
 
 /// The branches that wait: those of a number below the bound but one, of which each that is open has
 /// a new step. On the one that doesn't wait no step that tells it something is new whose round is at
-/// most `quiet`.
+/// most `quiet`; unless that is 0, none of the round after it is picked before the step that was
+/// taken last.
 #[derive(Clone, Copy)]
 pub struct Waiting {
     pub below: u32,
@@ -53,7 +55,8 @@ impl Waiting {
 
     /// Up to which round no step is new on the branch that tells it something.
     pub fn quiet_of(self, number: u32) -> u32
-        ensures { (p : Problem) (slots : Slots) (b : ABranch) → AreWaiting p slots self → IsOpen slots number b → IsQuietUpto p b number result }
+        ensures quiet { (pick : Pick) (c : Course) (b : ABranch) → AreWaiting pick c self → IsOpen c.slots number b → IsQuietUpto c.problem b number result }
+        ensures earlier { (pick : Pick) (c : Course) (b : ABranch) → AreWaiting pick c self → IsOpen c.slots number b → EarlierAreOld pick c b number result }
     {
         if number == self.but { self.quiet } else { 0 }
     }

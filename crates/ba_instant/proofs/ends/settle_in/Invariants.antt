@@ -8,6 +8,6 @@ abbrev pub invariant-loop-taken : goal.invariant-loop-taken
 invariant-loop-taken l = record {
   problem : l.search.problem ≡ l.fn.problem;
   searches : Searches l.pick l.search.problem l.search.steps l.search.slots;
-  waiting : AreWaiting l.search.problem l.search.slots l.waiting;
+  waiting : AreWaiting l.pick l.search l.waiting;
   count : length l.search.steps ≡ l._taken;
 }

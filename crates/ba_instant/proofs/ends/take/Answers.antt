@@ -13,4 +13,4 @@ pub returns-in-Ok-clause-waiting : goal.returns-in-Ok-clause-waiting
 returns-in-Ok-clause-waiting c =
     waiting_after c.args.pick c.args.search.now c.args.found c.requires.taken c.quiet_after-quiet.ensures.fits c.requires.searches c.apply.new.self c.beside-waiting.result
     c.quiet_after-quiet.result c.beside-waiting.ensures.below c.beside-waiting.ensures.but c.beside-waiting.ensures.quiet c.quiet_after-quiet.ensures.is c.in-Ok.ensures.taken
-    c.in-Ok.ensures.problem
+    c.in-Ok.ensures.problem c.in-Ok.ensures.steps

@@ -1,12 +1,14 @@
-use Rattle.std.proofs.Common.{arith}
-use Rattle.ba_instant.proofs.LookLemmas.{entry_past, entry_round_is}
+use Rattle.std.proofs.Common.{inl, refl}
+use Rattle.ba_instant.proofs.LookLemmas.{entry_in, entry_past}
 use Rattle.ba_instant.proofs.found.Spot.offer_entry.Goals as goal
 
 pub returns-then-round-self : goal.returns-then-round-self
 returns-then-round-self c =
     entry_past c.args.self.now.search.now c.args.self.now.number c.args.self.now.quiet c.args.self.now.branch.now c.args.self.now.recent.now c.requires.look c.args.self.now.pick c.args.entry c.entry_round-round.result c.args.best.now c.entry_round-round.ensures c.if-round-self.true
 
-pub offer_late-requires : goal.offer_late-requires
-offer_late-requires c = λ round new is.
-    let same = entry_round_is c.args.self.now.search.now c.args.self.now.number c.args.self.now.quiet c.args.self.now.branch.now c.args.self.now.recent.now c.requires.look c.args.entry c.entry_round-round.result round c.entry_round-round.ensures is in
-    omega (arith, same, c.from.ensures)
+pub offer_at-requires-clause-round : goal.offer_at-requires-clause-round
+offer_at-requires-clause-round c =
+    entry_in c.args.self.now.search.now c.args.self.now.number c.args.self.now.quiet c.args.self.now.branch.now c.args.self.now.recent.now c.requires.look c.args.entry c.entry_round-round.result _ c.entry_round-round.ensures c.from.ensures
+
+pub offer_at-requires-clause-telling : goal.offer_at-requires-clause-telling
+offer_at-requires-clause-telling c = inl (inl (inl (inl (inl (c.args.entry, refl)))))
