@@ -17,7 +17,7 @@ use Rattle.ba_kernel.specs.declared.step.Step.TheVariants as steps
 use Rattle.ba_instant.proofs.ChaseLemmas.{new_on, open_is}
 use Rattle.ba_instant.proofs.OfferLemmas.{improves_as, improves_both}
 use Rattle.ba_instant.specs.Dues.{IsDue}
-use Rattle.ba_instant.specs.Offers.{Improves, IsClosing, IsDueIfAny, IsDueOn, IsEntryOf, IsFound, IsGoalStep, IsKeyStep, IsLinkStep, IsNewIn, IsOn, IsRoundAt, IsRoundIn, IsRuleStep, IsSomeFound, IsSplitStep, IsTelling, IsViewStep, found_cmp}
+use Rattle.ba_instant.specs.Offers.{IsByMapping, IsTaught, Improves, IsClosing, IsDueIfAny, IsDueOn, IsEntryOf, IsFound, IsGoalStep, IsKeyStep, IsLinkStep, IsNewIn, IsOn, IsRoundAt, IsRoundIn, IsRuleStep, IsSomeFound, IsSplitStep, IsTelling, IsViewStep, found_cmp}
 use Rattle.ba_instant.specs.Order.{pick_cmp}
 use Rattle.ba_instant.specs.declared.found.Found.{Found}
 use Rattle.ba_instant.specs.declared.order.Pick.{Pick}
@@ -50,14 +50,42 @@ module _ (c : Course) (pick : Pick) (n : ℕ) where
   pub all_closing : (old a new : Option Found) → Improves c pick (λ step. step ≡ steps.Absurd n) old a → Improves c pick (IsGoalStep n) a new → Improves c pick (IsClosing n) old new
   all_closing old a new absurds goals = improves_both c pick (λ step. step ≡ steps.Absurd n) (IsGoalStep n) old a new absurds goals
 
-  pub all_telling : (old a b d e f new : Option Found) → Improves c pick (IsEntryOf n) old a → Improves c pick (IsLinkStep n) a b → Improves c pick (IsKeyStep n) b d →
-      Improves c pick (IsRuleStep n) d e → Improves c pick (IsViewStep n) e f → Improves c pick (IsSplitStep n) f new → Improves c pick (IsTelling n) old new
-  all_telling old a b d e f new entries links keys rules views splits =
+  pub keys_first : (old mid new : Option Found) → Improves c pick (IsKeyStep n) old mid → Improves c pick (IsByMapping n) mid new → Improves c pick (IsTaught n) old new
+  keys_first old mid new keys mapped = improves_both c pick (IsKeyStep n) (IsByMapping n) old mid new keys mapped
+
+  pub keys_last : (old mid new : Option Found) → Improves c pick (IsByMapping n) old mid → Improves c pick (IsKeyStep n) mid new → Improves c pick (IsTaught n) old new
+  keys_last old mid new mapped keys =
+      improves_as c pick (λ step. IsByMapping n step ⊎ IsKeyStep n step) (IsTaught n) old new (λ step e is. elim e [ inl m ↦ inr m | inr k ↦ inl k ])
+      (λ step e is. elim e [ inl k ↦ inr k | inr m ↦ inl m ])
+      (improves_both c pick (IsByMapping n) (IsKeyStep n) old mid new mapped keys)
+
+  pub by_mapping : (old mid new : Option Found) → Improves c pick (IsRuleStep n) old mid → Improves c pick (IsViewStep n) mid new → Improves c pick (IsByMapping n) old new
+  by_mapping old mid new rules views = improves_both c pick (IsRuleStep n) (IsViewStep n) old mid new rules views
+
+  abbrev Sorted : Step → Type 0
+  Sorted step = ((IsEntryOf n step ⊎ IsLinkStep n step) ⊎ IsTaught n step) ⊎ IsSplitStep n step
+
+  telling_of : (step : Step) → Sorted step → IsTelling n step
+  telling_of step (inl (inl h)) = inl (inl (inl (inl h)))
+  telling_of step (inl (inr (inl key))) = inl (inl (inl (inr key)))
+  telling_of step (inl (inr (inr (inl rule)))) = inl (inl (inr rule))
+  telling_of step (inl (inr (inr (inr view)))) = inl (inr view)
+  telling_of step (inr split) = inr split
+
+  of_telling : (step : Step) → IsTelling n step → Sorted step
+  of_telling step (inl (inl (inl (inl h)))) = inl (inl h)
+  of_telling step (inl (inl (inl (inr key)))) = inl (inr (inl key))
+  of_telling step (inl (inl (inr rule))) = inl (inr (inr (inl rule)))
+  of_telling step (inl (inr view)) = inl (inr (inr (inr view)))
+  of_telling step (inr split) = inr split
+
+  pub all_telling : (old a b d new : Option Found) → Improves c pick (IsEntryOf n) old a → Improves c pick (IsLinkStep n) a b → Improves c pick (IsTaught n) b d →
+      Improves c pick (IsSplitStep n) d new → Improves c pick (IsTelling n) old new
+  all_telling old a b d new entries links taught splits =
       let two = improves_both c pick (IsEntryOf n) (IsLinkStep n) old a b entries links in
-      let three = improves_both c pick (λ step. IsEntryOf n step ⊎ IsLinkStep n step) (IsKeyStep n) old b d two keys in
-      let four = improves_both c pick (λ step. (IsEntryOf n step ⊎ IsLinkStep n step) ⊎ IsKeyStep n step) (IsRuleStep n) old d e three rules in
-      let five = improves_both c pick (λ step. ((IsEntryOf n step ⊎ IsLinkStep n step) ⊎ IsKeyStep n step) ⊎ IsRuleStep n step) (IsViewStep n) old e f four views in
-      improves_both c pick (λ step. (((IsEntryOf n step ⊎ IsLinkStep n step) ⊎ IsKeyStep n step) ⊎ IsRuleStep n step) ⊎ IsViewStep n step) (IsSplitStep n) old f new five splits
+      let three = improves_both c pick (λ step. IsEntryOf n step ⊎ IsLinkStep n step) (IsTaught n) old b d two taught in
+      improves_as c pick Sorted (IsTelling n) old new (λ step e is. telling_of step e) (λ step e is. of_telling step e)
+      (improves_both c pick (λ step. (IsEntryOf n step ⊎ IsLinkStep n step) ⊎ IsTaught n step) (IsSplitStep n) old d new three splits)
 
   pub all_kinds : (old mid new : Option Found) → old ≡ None → Improves c pick (IsClosing n) old mid → Improves c pick (IsTelling n) mid new → Improves c pick (IsOn n) old new
   all_kinds old mid new none closing telling =

@@ -7,6 +7,7 @@ mod SplitLemmas
 mod DueLemmas
 mod LateLemmas
 mod LookLemmas
+mod KeyLemmas
 mod PairLemmas
 mod TakeLemmas
 mod PickLemmas

@@ -18,7 +18,7 @@ use Rattle.ba_instant.proofs.DueLemmas.{round_in, round_on, telling_on}
 use Rattle.ba_instant.proofs.LateLemmas.{improves_untimely}
 use Rattle.ba_instant.proofs.OfferLemmas.{improves_as, improves_none}
 use Rattle.ba_instant.proofs.RoundLemmas.{round_at_once}
-use Rattle.ba_instant.specs.Looks.{IsLook, IsPassed, IsTimely}
+use Rattle.ba_instant.specs.Looks.{AreRecent, IsLook, IsPassed, IsTimely}
 use Rattle.ba_instant.specs.Offers.{Improves, IsEntryOf, IsLinkOfFact, IsLinkStep, IsNewIn, IsRoundIn, IsTelling, fact_round}
 use Rattle.ba_instant.specs.Order.{step_rank}
 use Rattle.ba_instant.specs.declared.found.Found.{Found}
@@ -26,6 +26,20 @@ use Rattle.ba_instant.specs.declared.order.Pick.{Pick}
 
 pub round_least : (c : Course) (step : Step) (round other : ℕ) → IsRoundIn c step round → IsRoundIn c step other → round ≤ other
 round_least c step round other is its = let same = round_at_once c.problem (open_at c.slots (branch_of step)) step round other is its in omega (arith, same)
+
+-- ---- recent facts
+
+round_is : (b : Branch) (fact : ℕ) (f : Fact) → slice_get b.facts fact ≡ Some f → fact_round b fact ≡ f.round
+round_is b fact f there = ap (λ found. unwrap_or (option_map (λ it. it.round) found) 0) there
+
+pub recent_or : (b : Branch) (bound : ℕ) (recent : List ℕ) → AreRecent b bound recent → (fact : ℕ) (f : Fact) → slice_get b.facts fact ≡ Some f →
+    Contains recent fact ⊎ (fact_round b fact < bound)
+recent_or b bound recent are fact f there = elim (cases_lt (fact_round b fact) bound) [
+  | inl old ↦ inr old
+  | inr late ↦
+      let is = round_is b fact f there in
+      inl (are fact f there (omega (arith, late, is)))
+]
 
 module _ {picked : Pick} (c : Course) (n quiet : ℕ) (b : Branch) (recent : List ℕ) (look : IsLook picked c n b quiet recent) where
   -- ---- rounds of what is new
@@ -95,25 +109,12 @@ module _ {picked : Pick} (c : Course) (n quiet : ℕ) (b : Branch) (recent : Lis
   pub link_in : (fact link round : ℕ) → round ≡ 1 + fact_round b fact → IsRoundIn c (steps.Link n link fact) round
   link_in fact link round is = round_in c n b look.open_ (steps.Link n link fact) round refl (let at : round ≡ 1 + round_of b (fact ∷ []) = omega (arith, is) in at)
 
-  -- ---- recent facts
-
-  pub round_is : (fact : ℕ) (f : Fact) → slice_get b.facts fact ≡ Some f → fact_round b fact ≡ f.round
-  round_is fact f there = ap (λ found. unwrap_or (option_map (λ it. it.round) found) 0) there
-
-  pub recent_or : (fact : ℕ) (f : Fact) → slice_get b.facts fact ≡ Some f → Contains recent fact ⊎ (fact_round b fact < quiet)
-  recent_or fact f there = elim (cases_lt (fact_round b fact) quiet) [
-    | inl old ↦ inr old
-    | inr late ↦
-        let is = round_is fact f there in
-        inl (look.recent_ fact f there (omega (arith, late, is)))
-  ]
-
   -- ---- links
 
   link_recent : (fact link : ℕ) → IsNewIn c (steps.Link n link fact) → Contains recent fact
   link_recent fact link new =
       let passes : LinkPasses c.problem.policy.schema b link fact = (new_on c n b (steps.Link n link fact) look.open_ refl new).passes in
-      elim (recent_or fact passes.f passes.fact_is) [
+      elim (recent_or b quiet recent look.recent_ fact passes.f passes.fact_is) [
         | inl in_ ↦ in_
         | inr old ↦
             let late : quiet < 1 + round_of b (fact ∷ []) =

@@ -20,9 +20,9 @@ use Rattle.ba_kernel.specs.declared.step.Step.TheVariants as steps
 use Rattle.ba_instant.proofs.ChaseLemmas.{key_left_past, key_right_past, new_on}
 use Rattle.ba_instant.proofs.DueLemmas.{round_on}
 use Rattle.ba_instant.proofs.LateLemmas.{improves_behind, untimely_reaches, untimely_some}
-use Rattle.ba_instant.proofs.LookLemmas.{recent_or, telling_late}
+use Rattle.ba_instant.proofs.LookLemmas.{recent_or}
 use Rattle.ba_instant.proofs.OfferLemmas.{improves_as, improves_both, improves_end, improves_next}
-use Rattle.ba_instant.specs.Looks.{AreEqualBy, IsKeyInTurn, IsKeyOfTwo, IsLook, IsTimelyKey, IsTurn, ShareKey}
+use Rattle.ba_instant.specs.Looks.{AreEqualBy, AreRecent, IsKeyInTurn, IsKeyOfTwo, IsTimelyKey, IsTurn, KeysAreLate, ShareKey}
 use Rattle.ba_instant.specs.Offers.{Improves, IsFound, IsKeyOfPair, IsKeyStep, IsNewIn, OfAny, Upto, fact_round}
 use Rattle.ba_instant.specs.Order.{step_rank}
 use Rattle.ba_instant.specs.declared.found.Found.{Found}
@@ -56,16 +56,16 @@ key_turned s b key left right h = record {
   equal = λ k d below. equal_turned b h.f.terms h.g.terms _ (h.equal k d below);
 }
 
-module _ {picked : Pick} (c : Course) (n quiet : ℕ) (b : Branch) (recent : List ℕ) (look : IsLook picked c n b quiet recent) where
+module _ (c : Course) (n bound : ℕ) (b : Branch) (recent : List ℕ) (open_ : IsOpen c.slots n b) (late : KeysAreLate c.problem b n bound) (are : AreRecent b bound recent) where
   key_passes : (key left right : ℕ) (step : Step) → step ≡ steps.Key n key left right → IsNewIn c step → KeyPasses c.problem.policy.schema b key left right
-  key_passes key left right step is new = (new_on c n b (steps.Key n key left right) look.open_ refl (subst (IsNewIn c) is new)).passes
+  key_passes key left right step is new = (new_on c n b (steps.Key n key left right) open_ refl (subst (IsNewIn c) is new)).passes
 
   -- ---- all keys
 
   module _ (left right key : ℕ) (step : Step) (is : step ≡ steps.Key n key left right) (new : IsNewIn c step) where
     -- the fact that it is looked at from
     abbrev pub From : Type 0
-    From = (one : ℕ) × Contains recent one × (other : ℕ) × IsKeyInTurn b quiet n one other step
+    From = (one : ℕ) × Contains recent one × (other : ℕ) × IsKeyInTurn b bound n one other step
 
     both_recent : Contains recent left → Contains recent right → From
     both_recent l r = elim (cases_lt right left) [
@@ -73,26 +73,26 @@ module _ {picked : Pick} (c : Course) (n quiet : ℕ) (b : Branch) (recent : Lis
       | inr more ↦ (left, l, right, (inl more, inl (key, is)))
     ]
 
-    one_recent : Contains recent left ⊎ (fact_round b left < quiet) → Contains recent right ⊎ (fact_round b right < quiet) → From
+    one_recent : Contains recent left ⊎ (fact_round b left < bound) → Contains recent right ⊎ (fact_round b right < bound) → From
     one_recent (inl l) (inl r) = both_recent l r
     one_recent (inl l) (inr old) = (left, l, right, (inr old, inl (key, is)))
     one_recent (inr old) (inl r) = (right, r, left, (inr old, inr (key, is)))
     one_recent (inr old) (inr older) =
-        let late : quiet < 1 + round_of b (left ∷ right ∷ []) =
-        telling_late c n quiet b recent look (steps.Key n key left right) (1 + round_of b (left ∷ right ∷ [])) (inl (inl (inl (inr (left, (right, (key, refl))))))) refl (subst (IsNewIn c) is new) refl in
-        absurd (let no : ⊥ = omega (arith, late, old, older) in no)
+        let past : bound < 1 + round_of b (left ∷ right ∷ []) =
+        late (steps.Key n key left right) (1 + round_of b (left ∷ right ∷ [])) (left, (right, (key, refl))) (new_on c n b (steps.Key n key left right) open_ refl (subst (IsNewIn c) is new)) refl in
+        absurd (let no : ⊥ = omega (arith, past, old, older) in no)
 
     looked_from : From
     looked_from =
         let h = key_passes key left right step is new in
-        one_recent (recent_or c n quiet b recent look left h.f h.pair.left_is) (recent_or c n quiet b recent look right h.g h.pair.right_is)
+        one_recent (recent_or b bound recent are left h.f h.pair.left_is) (recent_or b bound recent are right h.g h.pair.right_is)
 
   in_turn_is : (one other : ℕ) (step : Step) → IsKeyOfTwo n one other step → IsKeyStep n step
   in_turn_is one other step (inl h) = (one, (other, h))
   in_turn_is one other step (inr h) = (other, (one, h))
 
   abbrev Looked : Step → Type 0
-  Looked step = Any (λ one. OfAny (IsKeyInTurn b quiet n one) step) recent
+  Looked step = Any (λ one. OfAny (IsKeyInTurn b bound n one) step) recent
 
   is_looked : (step : Step) → IsKeyStep n step → IsNewIn c step → Looked step
   is_looked step (left, (right, (key, is))) new =

@@ -146,7 +146,7 @@ module _ (c : Course) (pick : Pick) (b : Branch) (n : ℕ) (form : Form) (side :
     last_recent : AreOld b quiet form chosen → (step : Step) → OfAny Last step → IsNewIn c step → Any (λ fact. Last fact step) recent
     last_recent old step (fact, by) new =
         let from = by.1 in
-        elim (recent_or c n quiet b recent look fact (by.0).fact (by.0).there) [
+        elim (recent_or b quiet recent look.recent_ fact (by.0).fact (by.0).there) [
           | inl in_ ↦ (in_.0, fact, in_.1, in_.2, by)
           | inr below ↦
               let push = round_push b chosen fact in

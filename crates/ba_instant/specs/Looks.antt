@@ -10,9 +10,11 @@ use Rattle.ba_facts.specs.declared.branch.Branch.{Branch}
 use Rattle.ba_facts.specs.declared.term.Fact.{Fact}
 use Rattle.ba_kernel.specs.Courses.{IsOpen, branch_of}
 use Rattle.ba_kernel.specs.Effects.{AreEqualAt}
+use Rattle.ba_kernel.specs.News.{IsNewOn, IsRound}
 use Rattle.ba_kernel.specs.Tests.{Course, KeyPasses}
+use Rattle.ba_kernel.specs.declared.problem.Problem.{Problem}
 use Rattle.ba_kernel.specs.declared.step.Step.{Step}
-use Rattle.ba_instant.specs.Offers.{IsKeyOfPair, fact_round}
+use Rattle.ba_instant.specs.Offers.{IsKeyOfPair, IsKeyStep, fact_round}
 use Rattle.ba_instant.specs.Order.{pick_cmp, step_rank}
 use Rattle.ba_instant.specs.Windows.{EarlierAreOld, IsLast, IsQuietUpto}
 use Rattle.ba_instant.specs.declared.found.Found.{Found}
@@ -88,6 +90,16 @@ AreOld b quiet form chosen = TellsOf form × (round_of b chosen < quiet)
 -- of the two facts, either way
 abbrev pub IsKeyOfTwo : ℕ → ℕ → ℕ → Step → Type 0
 IsKeyOfTwo number one other step = IsKeyOfPair number one other step ⊎ IsKeyOfPair number other one step
+
+-- each key step that is new on the branch is of a round past the bound
+abbrev pub KeysAreLate : Problem → Branch → ℕ → ℕ → Type 0
+KeysAreLate p b number bound = (step : Step) (round : ℕ) → IsKeyStep number step → IsNewOn p b step → IsRound p b step round → bound < round
+
+-- each key step is picked before the step that was taken last
+pub record KeysArePassed (pick : Pick) (c : Course) (number quiet : ℕ) : Type 0 where
+  pub last : Step
+  pub is : IsLast c quiet last
+  pub after : (step : Step) → IsKeyStep number step → pick_cmp pick last step ≡ Greater
 
 -- a pair of two recent facts is looked at from the one of the lesser number
 abbrev pub IsTurn : Branch → ℕ → ℕ → ℕ → Type 0

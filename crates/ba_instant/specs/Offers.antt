@@ -216,6 +216,13 @@ IsClosing number step = (step ≡ steps.Absurd number) ⊎ IsGoalStep number ste
 abbrev pub IsTelling : ℕ → Step → Type 0
 IsTelling number step = ((((IsEntryOf number step ⊎ IsLinkStep number step) ⊎ IsKeyStep number step) ⊎ IsRuleStep number step) ⊎ IsViewStep number step) ⊎ IsSplitStep number step
 
+-- one by a rule or a view; or by a key
+abbrev pub IsByMapping : ℕ → Step → Type 0
+IsByMapping number step = IsRuleStep number step ⊎ IsViewStep number step
+
+abbrev pub IsTaught : ℕ → Step → Type 0
+IsTaught number step = IsKeyStep number step ⊎ IsByMapping number step
+
 -- The due step that is picked on the branch with its round, or none where no step on it is new.
 pub record IsDueOn (c : Course) (pick : Pick) (number : ℕ) (it : Found) : Type 0 where
   pub on : branch_of it.step ≡ number

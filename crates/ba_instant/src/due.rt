@@ -3,7 +3,7 @@ ghost use Rattle.std.specs.Prelude.{◌≡◌, ◌↔◌, IfOk, IsTrue, None, On
 ghost use Rattle.ba_kernel.specs.Courses.{IsOpen};
 ghost use Rattle.ba_instant.specs.Looks.{IsLook};
 ghost use Rattle.ba_instant.specs.Nexts.{AreWaiting, ComesLater, IsLooked, IsNext, Waits, first_step};
-ghost use Rattle.ba_instant.specs.Offers.{Improves, IsClosing, IsDueIfAny, IsOn, IsTelling};
+ghost use Rattle.ba_instant.specs.Offers.{Improves, IsByMapping, IsClosing, IsDueIfAny, IsOn, IsTaught, IsTelling};
 
 use crate::found::{Found, Spot};
 use crate::order::Pick;
@@ -70,10 +70,34 @@ impl<'a> Spot<'a> {
     {
         self.offer_entries(best);
         self.offer_links(best)?;
-        self.offer_keys(best)?;
+        self.offer_taught(alloc, best)?;
+        self.offer_splits(alloc, best)?;
+        Ok(())
+    }
+
+    /// Offers the steps by keys, rules and views. Where keys are passed they come last, since another
+    /// step that is found early leaves none of them to be looked at.
+    fn offer_taught(&self, alloc: Global, best: &mut Option<Found>) -> Result<(), AllocError>
+        requires { IsLook self.now.pick self.now.search.now self.now.number self.now.branch.now self.now.quiet self.now.recent.now }
+        ensures { OnOk result (Improves self.now.search.now self.now.pick (IsTaught self.now.number) best.old best.new) }
+    {
+        if self.are_keys_passed() {
+            self.offer_mapped(alloc, best)?;
+            self.offer_keys(alloc, best)?;
+        } else {
+            self.offer_keys(alloc, best)?;
+            self.offer_mapped(alloc, best)?;
+        }
+        Ok(())
+    }
+
+    /// Offers the steps by rules and views.
+    fn offer_mapped(&self, alloc: Global, best: &mut Option<Found>) -> Result<(), AllocError>
+        requires { IsLook self.now.pick self.now.search.now self.now.number self.now.branch.now self.now.quiet self.now.recent.now }
+        ensures { OnOk result (Improves self.now.search.now self.now.pick (IsByMapping self.now.number) best.old best.new) }
+    {
         self.offer_rules(alloc, best)?;
         self.offer_views(alloc, best)?;
-        self.offer_splits(alloc, best)?;
         Ok(())
     }
 }

@@ -1,16 +1,12 @@
-use Rattle.ba_instant.proofs.PairLemmas.{keys_all}
-use Rattle.ba_instant.proofs.SplitLemmas.{at_all, number_more}
-use Rattle.ba_instant.specs.Looks.{IsKeyInTurn}
-use Rattle.ba_instant.specs.Offers.{OfAny}
+use Rattle.std.proofs.Common.{subst, sym}
+use Rattle.ba_instant.proofs.KeyLemmas.{keys_untimely}
+use Rattle.ba_instant.specs.Looks.{AreRecent}
 use Rattle.ba_instant.proofs.found.Spot.offer_keys.Goals as goal
 
-pub loop-fact-preserved : goal.loop-fact-preserved
-loop-fact-preserved c =
-    number_more c.args.self.now.search.now c.args.self.now.pick c.args.self.now.recent.now (λ one step. OfAny (IsKeyInTurn c.args.self.now.branch.now c.args.self.now.quiet c.args.self.now.number one) step) c.loop-fact.fact-index c.args.best.now c.loop-fact.best c.offer_keys_of.new.best
-    c.loop-fact-test.true c.loop-fact.invariant c.in_ok-offer_keys_of.ensures
+pub offer_keys_from-requires-clause-facts : goal.offer_keys_from-requires-clause-facts
+offer_keys_from-requires-clause-facts c = subst (AreRecent c.args.self.now.branch.now c.key_bound-bound.result) (sym c.deref.ensures.value) c.in_ok-facts.ensures
 
-pub returns : goal.returns
-returns c =
-    keys_all c.args.self.now.search.now c.args.self.now.number c.args.self.now.quiet c.args.self.now.branch.now c.args.self.now.recent.now c.requires c.args.self.now.pick c.args.best.now c.loop-fact.best
-    (at_all c.args.self.now.search.now c.args.self.now.pick c.args.self.now.recent.now (λ one step. OfAny (IsKeyInTurn c.args.self.now.branch.now c.args.self.now.quiet c.args.self.now.number one) step) c.loop-fact.fact-index c.args.best.now c.loop-fact.best c.loop-fact-test.false
-    c.loop-fact.invariant)
+pub returns-else-is_timely : goal.returns-else-is_timely
+returns-else-is_timely c =
+    keys_untimely c.args.self.now.search.now c.args.self.now.pick c.args.self.now.number c.key_bound-bound.result c.args.self.now.branch.now c.args.best.now c.requires.open_ c.key_bound-bound.ensures
+    (λ h. let t = c.is_timely.ensures.1 h in cc)
