@@ -2,7 +2,7 @@
 use Rattle.std.proofs.Common.{◌≡◌, ◌∙◌, List, [], ◌∷◌, ◌++◌, Result, Ok, Err, subst, sym}
 use Rattle.std.proofs.lemmas.List.Elements.{All-contains_itself, All-push, All-weaker}
 use Rattle.std.specs.List.{All, Contains}
-use Rattle.std.specs.Result.{OnOk}
+use Rattle.std.specs.Result.{IfOk, OnOk}
 use Rattle.ba_comply.specs.declared.trace.TraceEntry.{TraceEntry}
 use Rattle.ba_kernel.specs.Asked.{AnswersAreRecords, RecordFits}
 use Rattle.ba_model.specs.Conform.{Conforms}
@@ -29,3 +29,9 @@ record_of law policy c schema d q asked kept found rows same conforms context fi
 pub grown : {T E X : Type 0} (P : X → Type 0) (old new : List X) (it : X) (r : Result T E) → OnOk r (new ≡ old ++ it ∷ []) → All P old → P it → OnOk r (All P new)
 grown P old new it (Ok t) pushed all one = subst (All P) (sym pushed) (All-push P old it all one)
 grown P old new it (Err e) pushed all one = tt
+
+-- what a trace that was made records
+pub recorded : {E : Type 0} (policy seen : Policy) (r : Result (List TraceEntry) E) (trace : List TraceEntry) → seen ≡ policy → IfOk r (All (RecordFits seen)) → r ≡ Ok trace
+    → All (RecordFits policy) trace
+recorded {E} policy seen r trace same fits is =
+    subst (λ (p : Policy). All (RecordFits p) trace) same (subst (λ (x : Result (List TraceEntry) E). IfOk x (All (RecordFits seen))) is fits)

@@ -59,6 +59,17 @@ fn add(
     trace.push(entry)
 }
 
+/// What is asked after a trace fits.
+fn question_fits(policy: &Shared<Policy>, context: &Context, trace: &Trace, query: &Shared<Query>)
+    requires policy { PolicyFits policy.now }
+    requires tables { AreTables policy.now.schema.tables }
+    requires rules { policy.now.schema.rules ≡ [] }
+    requires context { ContextFits (kinds_of policy.now.params) context.now }
+    requires trace { All (RecordFits policy.now) trace.now }
+    requires query { IsQuery policy.now.schema (kinds_of policy.now.params) [] query.now }
+    ensures { QuestionFits policy.now context.now trace.now query.now }
+{}
+
 /// The proof of the question after the trace.
 fn proof(
     rt: &impl Handle,
@@ -67,8 +78,14 @@ fn proof(
     trace: &Trace,
     query: &Shared<Query>,
 ) -> Ground
-    requires { QuestionFits policy.now context.now trace.now query.now }
+    requires policy { PolicyFits policy.now }
+    requires tables { AreTables policy.now.schema.tables }
+    requires rules { policy.now.schema.rules ≡ [] }
+    requires context { ContextFits (kinds_of policy.now.params) context.now }
+    requires trace { All (RecordFits policy.now) trace.now }
+    requires query { IsQuery policy.now.schema (kinds_of policy.now.params) [] query.now }
 {
+    question_fits(policy, context, trace, query);
     question_is_problem();
     let problem = Problem::of(rt.alloc(), policy, context, trace, query).expect(rt, "memory");
     let settled = settle(rt.alloc(), problem, 100).expect(rt, "memory");
@@ -112,32 +129,80 @@ fn told(core: &Core) -> u64 {
     }
 }
 
-/// Proofs of the event's title: after the own attendance, and after the title too.
-fn titles(
+/// The trace of the own attendance.
+fn one(
+    alloc: Global,
+    policy: &Policy,
+    tables: &Tables,
+    context: &Context,
+    own: &Shared<Query>,
+) -> Result<Trace, AllocError>
+    requires schema { tables.now.schema ≡ policy.now.schema }
+    requires context { ContextFits (kinds_of policy.now.params) context.now }
+    requires own { IsQuery policy.now.schema (kinds_of policy.now.params) [] own.now }
+    ensures { IfOk result (All (RecordFits policy.now)) }
+{
+    let mut trace = Trace::new(alloc);
+    add(alloc, policy, tables, context, &mut trace, own)?;
+    Ok(trace)
+}
+
+/// The trace of the own attendance and the title.
+fn two(
+    alloc: Global,
+    policy: &Policy,
+    tables: &Tables,
+    context: &Context,
+    own: &Shared<Query>,
+    title: &Shared<Query>,
+) -> Result<Trace, AllocError>
+    requires schema { tables.now.schema ≡ policy.now.schema }
+    requires context { ContextFits (kinds_of policy.now.params) context.now }
+    requires own { IsQuery policy.now.schema (kinds_of policy.now.params) [] own.now }
+    requires title { IsQuery policy.now.schema (kinds_of policy.now.params) [] title.now }
+    ensures { IfOk result (All (RecordFits policy.now)) }
+{
+    let mut trace = one(alloc, policy, tables, context, own)?;
+    add(alloc, policy, tables, context, &mut trace, title)?;
+    Ok(trace)
+}
+
+/// A proof of the event's title after the own attendance.
+fn first_title(
     rt: &impl Handle,
     policy: &Shared<Policy>,
     own: &Shared<Query>,
     title: &Shared<Query>,
-) -> (Ground, Ground)
+) -> Ground
     requires policy { PolicyFits policy.now }
     requires tables { AreTables policy.now.schema.tables }
     requires rules { policy.now.schema.rules ≡ [] }
     requires own { IsQuery policy.now.schema (kinds_of policy.now.params) [] own.now }
     requires title { IsQuery policy.now.schema (kinds_of policy.now.params) [] title.now }
 {
-    let alloc = rt.alloc();
     let tables = tables(rt, policy, USERS);
     let context = user(rt, policy, 2);
-    let mut trace = Trace::new(alloc);
-    if add(alloc, policy, &tables, &context, &mut trace, own).is_err() {
-        panic!(rt; "memory");
-    }
-    let first = proof(rt, policy, &context, &trace, title);
-    if add(alloc, policy, &tables, &context, &mut trace, title).is_err() {
-        panic!(rt; "memory");
-    }
-    let second = proof(rt, policy, &context, &trace, title);
-    (first, second)
+    let trace = one(rt.alloc(), policy, &tables, &context, own).expect(rt, "memory");
+    proof(rt, policy, &context, &trace, title)
+}
+
+/// A proof of the event's title after the own attendance and the title.
+fn second_title(
+    rt: &impl Handle,
+    policy: &Shared<Policy>,
+    own: &Shared<Query>,
+    title: &Shared<Query>,
+) -> Ground
+    requires policy { PolicyFits policy.now }
+    requires tables { AreTables policy.now.schema.tables }
+    requires rules { policy.now.schema.rules ≡ [] }
+    requires own { IsQuery policy.now.schema (kinds_of policy.now.params) [] own.now }
+    requires title { IsQuery policy.now.schema (kinds_of policy.now.params) [] title.now }
+{
+    let tables = tables(rt, policy, USERS);
+    let context = user(rt, policy, 2);
+    let trace = two(rt.alloc(), policy, &tables, &context, own, title).expect(rt, "memory");
+    proof(rt, policy, &context, &trace, title)
 }
 
 /// The title is told once it is proved, and once more by a proof after what was told meanwhile.
@@ -146,7 +211,8 @@ fn asked_once_more(rt: HostRuntime) {
     let policy = policy(&rt);
     let own = query(&rt, &policy, OWN);
     let title = query(&rt, &policy, TITLE);
-    let (first, second) = titles(&rt, &policy, &own, &title);
+    let first = first_title(&rt, &policy, &own, &title);
+    let second = second_title(&rt, &policy, &own, &title);
     let mut core = machine(&rt, &policy);
     open(&rt, &mut core, &own);
     assert!(rt;
@@ -167,7 +233,8 @@ fn end_and_begin_again(rt: HostRuntime) {
     let policy = policy(&rt);
     let own = query(&rt, &policy, OWN);
     let title = query(&rt, &policy, TITLE);
-    let (first, second) = titles(&rt, &policy, &own, &title);
+    let first = first_title(&rt, &policy, &own, &title);
+    let second = second_title(&rt, &policy, &own, &title);
     let mut core = machine(&rt, &policy);
     open(&rt, &mut core, &own);
     assert!(rt;
