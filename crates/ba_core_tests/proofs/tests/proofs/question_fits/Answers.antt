@@ -1,6 +1,7 @@
 use Rattle.std.proofs.Common.{subst, sym}
 use Rattle.std.proofs.lemmas.List.Elements.{All-nil}
 use Rattle.std.specs.List.{All}
+use Rattle.ba_kernel.specs.Asked.{QuestionFits}
 use Rattle.ba_kernel.specs.Courses.{RuleFits}
 use Rattle.ba_core_tests.proofs.tests.proofs.question_fits.Goals as goal
 
