@@ -33,9 +33,9 @@ class Ask(NamedTuple):
 
 
 class Ran(NamedTuple):
-    """A run that ended: its status, processor and elapsed seconds, and the greatest memory in KiB."""
+    """A run: its status, or none where it was ended, processor and elapsed seconds, and the greatest memory in KiB."""
 
-    status: int
+    status: object
     used: float
     seconds: float
     kib: int
@@ -108,30 +108,35 @@ def write_scripts(folder, ask, count, is_asked):
 
 
 def run(words, folder, out, seconds, kib):
-    """Runs a program, with at most so much memory. Nothing where it didn't end in so many seconds."""
+    """Runs a program, with at most so much memory. It is ended when it has had so many seconds."""
     report = f"{folder}/time"
     timed = [TIME, "-q", "-o", report, "-f", "%M"] if os.path.exists(TIME) else []
     limited = ["sh", "-c", f'ulimit -v {kib}; exec "$@"', "sh", *words]
+    late = []
     with open(f"{folder}/{out}", "wb") as stdout:
         begun = time.perf_counter()
         child = subprocess.Popen([*timed, *limited], cwd=folder, stdin=subprocess.DEVNULL, stdout=stdout, start_new_session=True)
-        late = threading.Event()
         timer = threading.Timer(seconds, end, [child.pid, late])
         timer.start()
         _, status, used = os.wait4(child.pid, 0)
         timer.cancel()
         elapsed = time.perf_counter() - begun
     child.returncode = os.waitstatus_to_exitcode(status)
-    if late.is_set():
-        return None
+    if late:
+        return Ran(None, used.ru_utime + used.ru_stime, elapsed, late[0])
     most = int(read(report).split()[-1]) if timed else used.ru_maxrss
     return Ran(child.returncode, used.ru_utime + used.ru_stime, elapsed, most)
 
 
-def end(group, late):
-    """Ends a process that was started here, with its children."""
-    late.set()
-    os.killpg(group, signal.SIGKILL)
+def end(pid, late):
+    """Ends a process that was started here, with its children, and keeps the most KiB that the last of them had."""
+    late.append(peak((read(f"/proc/{pid}/task/{pid}/children").split() or [pid])[-1]))
+    os.killpg(pid, signal.SIGKILL)
+
+
+def peak(pid):
+    lines = read(f"/proc/{pid}/status").splitlines()
+    return next((int(it.split()[1]) for it in lines if it.startswith("VmHWM")), 0)
 
 
 class Program:
@@ -150,7 +155,7 @@ class Program:
         total = 0.0
         for script in write_scripts(folder, ask, count, is_asked):
             ran = self.run(folder, ask, script)
-            if ran is None:
+            if ran.status is None:
                 return None
             expect(ran.status, 0, f"the status of {ask.name}")
             check_lines(folder, ask, is_asked)

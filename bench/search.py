@@ -105,10 +105,15 @@ class Bench:
         """What was said, the seconds and the MiB that a question adds to a request, and the MiB of all."""
         with tempfile.TemporaryDirectory() as folder:
             without, ran = self.program.once(folder, ask)
-            if ran is None or without is None:
-                return ["", f"over {self.given.seconds}", "", ""]
-            said = last_said(folder) if ran.status in (0, 6) else f"status {ran.status}"
-        return [said or "memory", f"{ran.seconds - without.seconds:.3f}", f"{(ran.kib - without.kib) / 1024:.1f}", f"{ran.kib / 1024:.1f}"]
+            said = self.said(folder, ran.status)
+        added = f"{ran.seconds - without.seconds:.3f}" if ran.status is not None else f"over {self.given.seconds}"
+        return [said, added, f"{(ran.kib - without.kib) / 1024:.1f}", f"{ran.kib / 1024:.1f}"]
+
+    @staticmethod
+    def said(folder, status):
+        if status is None:
+            return "ended"
+        return last_said(folder) or "memory" if status in (0, 6) else f"status {status}"
 
     def memory(self):
         table("steps", "said", "s", "MiB of the question", "MiB")
