@@ -1,8 +1,8 @@
 -- Labels of terms: what they say of the merges, and that `new`, `add` and `merge` keep that.
-use Rattle.std.proofs.Common.{◌≡◌, ℕ, ◌<◌, ◌≤◌, ◌↔◌, ◌++◌, ◌∷◌, [], List, Contains, length, map, min, max, slice_index, nat_eq, eqb, cond, IsTrue, refl, sym, ap, ◌∙◌, subst, ⊎_elim, arith, EachIndex, take, drop}
-use Rattle.std.proofs.lemmas.List.{take-append-le, take_all, get_or-map, get_or_append_left, get_or_push, get_or_past, length-map, length_push}
+use Rattle.std.proofs.Common.{◌≡◌, ℕ, ◌<◌, ◌≤◌, ◌↔◌, ◌++◌, ◌∷◌, [], List, Contains, length, map, min, max, slice_index, nat_eq, eqb, cond, IsTrue, suc, refl, sym, ap, ap₂, ◌∙◌, subst, ⊎_elim, arith, EachIndex, take, drop}
+use Rattle.std.proofs.lemmas.List.{take-append-le, take-append-drop, take_all, length-take, get_or-map, get_or-take, get_or_append_left, get_or_push, get_or_past, length-map, length_push}
 use Rattle.std.proofs.lemmas.List.Elements.{Contains-append_left, Contains-push, Contains-push_cases}
-use Rattle.std.proofs.lemmas.Bool.{eqb-true, eqb-false, eq-eqb, cases_lt, cond_both}
+use Rattle.std.proofs.lemmas.Bool.{eqb-true, eqb-false, eq-eqb, ne_eqb, cases_lt, cond-false, cond_both}
 use Rattle.std.proofs.Math.Nat.{le_antisymm}
 use Rattle.ba_classes.specs.Merged.{Connected, merged, itself, turned, joined, IsLabel, IsLabelling}
 
@@ -79,6 +79,27 @@ relabelling from to labels = map (λ l. cond (eqb l from) to l) labels
 
 at_relabelling : (from to : ℕ) (labels : List ℕ) (a : ℕ) → a < length labels → slice_index (relabelling from to labels) a ≡ relabelled from to (slice_index labels a)
 at_relabelling from to labels a h = get_or-map (relabelled from to) labels a 0 0 h
+
+-- labels below `from` stay
+lesser_kept : (from to : ℕ) (labels : List ℕ) → ((k : ℕ) → k < length labels → slice_index labels k < from) → relabelling from to labels ≡ labels
+lesser_kept from to [] h = refl
+lesser_kept from to (l ∷ labels) h =
+    let less : l < from = h 0 (omega arith) in
+    ap₂ (λ x xs. x ∷ xs) (cond-false (eqb l from) to l (ne_eqb l from (λ e. omega (arith, less, e)))) (lesser_kept from to labels (λ k within. h (suc k) (omega arith)))
+
+-- so do those of the terms before the term `from`
+pub front_kept : (from to n : ℕ) (labels : List ℕ) → ((k : ℕ) → k < length labels → slice_index labels k ≤ k) → n ≡ from →
+    labels ≡ relabelling from to (take n labels) ++ drop n labels
+front_kept from to n labels below is =
+    let front : relabelling from to (take n labels) ≡ take n labels =
+    lesser_kept from to (take n labels)
+    (λ k within.
+    let count = length-take n labels in
+    let early : k < n = omega (arith, count, within) in
+    let at : slice_index (take n labels) k ≡ slice_index labels k = get_or-take n labels k 0 early in
+    let least : slice_index labels k ≤ k = below k (omega (arith, count, within)) in
+    omega (arith, at, least, early, is)) in
+    sym (ap (λ xs. xs ++ drop n labels) front ∙ take-append-drop n labels)
 
 -- of two labels the lesser is kept
 left_label : (x y : ℕ) → relabelled (max x y) (min x y) x ≡ min x y

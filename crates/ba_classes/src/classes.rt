@@ -6,8 +6,8 @@ use std::marker::Model;
 
 /// Terms numbered from 0, and the merges that were made of them.
 ///
-/// Each term has a label, and a merge relabels. A contract sees how many terms there are and the
-/// list of merges, the oldest first.
+/// Each term has a label, and a merge relabels, from the term that is the greater label on. A
+/// contract sees how many terms there are and the list of merges, the oldest first.
 #[derive(Drop)]
 pub struct Classes {
     labels: Vec<u32>,
@@ -111,12 +111,13 @@ fn numbers(alloc: Global, count: u32) -> Result<Vec<u32>, AllocError>
     Ok(all)
 }
 
-// Gives the label `to` to all that have the label `from`.
+// Gives the label `to` to all that have the label `from`. None of them stands before the term `from`.
 fn relabel(labels: &mut [u32], from: u32, to: u32)
+    requires { (k : ℕ) → k < length labels.old → slice_index labels.old k ≤ k }
     ensures { labels.new ≡ map (λ label. if label == from then to else label) labels.old }
 {
-    for label in labels.iter_mut() {
-        let old = *label;
-        *label = if old == from { to } else { old };
+    for place in from as usize..labels.len() {
+        let old = labels[place];
+        labels[place] = if old == from { to } else { old };
     }
 }
