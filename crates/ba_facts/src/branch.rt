@@ -5,6 +5,7 @@ ghost use Rattle.ba_facts.specs.Knowing.{IsBound, IsLeastOf, IsLiteralIn, Lesson
 ghost use Rattle.ba_facts.specs.Laws.{with_lesson};
 ghost use Rattle.ba_facts.specs.Shown.{Absurd, Refutes, Shows, TheSame};
 
+use crate::copies::copy_shared;
 use crate::knowledge::Knowledge;
 use crate::number::number_after;
 use crate::term::{Fact, Lesson, Side, Term, TermAtom};
@@ -158,10 +159,16 @@ impl Branch {
             params: self.params.copy(alloc)?,
             vars: self.vars.copy(alloc)?,
             known: self.known.copy(alloc)?,
-            facts: self.facts.copy(alloc)?,
+            facts: copy_facts(alloc, &self.facts)?,
             goal: self.goal.copy(alloc)?,
         })
     }
+}
+
+fn copy_facts(alloc: Global, facts: &List<Shared<Fact>>) -> Result<List<Shared<Fact>>, AllocError>
+    ensures { IfOk result (λ it. it ≡ facts.now) }
+{
+    Ok(List::from_vec(copy_shared(alloc, facts.as_slice())?))
 }
 
 /// So many unknowns, numbered on from the first.

@@ -3,9 +3,10 @@ ghost use Rattle.std.specs.Option.{option_copied};
 ghost use Rattle.ba_facts.specs.Known.{Chain, DifferentLiterals, OneClass, ShownGap, ShownNotNull, ShownNull, seen};
 ghost use Rattle.ba_facts.specs.Knowing.{IsBound, IsLeastOf, IsLiteralIn, IsThere, LessonIsThere, IsClashing, IsRising, sort_of};
 
+use crate::copies::{copy_plain, copy_shared};
 use crate::term::{Lesson, Sort, TermRef};
 use crate::web::Web;
-use ba_model::{Column, Duplicate, Shared, Value};
+use ba_model::{Column, Shared, Value};
 use std::alloc::{AllocError, Global};
 use std::marker::Model;
 
@@ -165,8 +166,8 @@ impl Knowledge {
         ensures { IfOk result (λ other. other ≡ self.now) }
     {
         Ok(Knowledge {
-            unknowns: Vec::from_slice(alloc, &self.unknowns)?,
-            learned: copy_lessons(alloc, &self.learned)?,
+            unknowns: copy_plain(alloc, &self.unknowns)?,
+            learned: copy_shared(alloc, &self.learned)?,
             web: self.web.copy(alloc)?,
         })
     }
@@ -182,28 +183,4 @@ fn sorts_of(alloc: Global, columns: &[Column]) -> Result<Vec<Sort>, AllocError>
             nullable: column.nullable,
         })
         .collect(alloc)
-}
-
-fn copy_lessons(
-    alloc: Global,
-    lessons: &[Shared<Lesson>],
-) -> Result<Vec<Shared<Lesson>>, AllocError>
-    ensures { IfOk result (λ it. it.items ≡ lessons.now) }
-{
-    let mut copies = Vec::new(alloc);
-    add_lessons(alloc, lessons, &mut copies)?;
-    Ok(copies)
-}
-
-fn add_lessons(
-    alloc: Global,
-    lessons: &[Shared<Lesson>],
-    copies: &mut Vec<Shared<Lesson>>,
-) -> Result<(), AllocError>
-    ensures { OnOk result (copies.new.items ≡ copies.old.items ++ lessons.now) }
-{
-    for lesson in lessons {
-        copies.push(lesson.copy(alloc)?)?;
-    }
-    Ok(())
 }

@@ -7,6 +7,7 @@
 #![tactic(auto)]
 
 mod branch;
+mod copies;
 mod found;
 mod groups;
 mod knowledge;

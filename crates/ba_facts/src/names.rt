@@ -62,6 +62,14 @@ impl Numbers {
         }
     }
 
+    // Makes room for so many unknowns. No number changes.
+    fn make_room(&mut self, unknowns: usize) -> Result<(), AllocError>
+        ensures { (t : Term) → number_in self.new t ≡ number_in self.old t }
+    {
+        self.unknowns.reserve(unknowns)?;
+        Ok(())
+    }
+
     fn find(&self, term: TermRef<'_>) -> Option<u32>
         ensures { result ≡ number_in self.now (seen term.entry) }
     {
@@ -195,11 +203,20 @@ impl Names {
         }
     }
 
+    // Makes room for the terms of others. Nothing changes.
+    fn make_room(&mut self, others: &Names) -> Result<(), AllocError>
+        ensures { self.new ≡ self.old }
+    {
+        self.terms.reserve(others.terms.len())?;
+        self.numbers.make_room(others.numbers.unknowns.len())
+    }
+
     /// The same terms with the same numbers.
     pub(crate) fn copy(&self, alloc: Global) -> Result<Names, AllocError>
         ensures { IfOk result (λ other. other ≡ self.now) }
     {
         let mut other = Names::new(alloc);
+        other.make_room(self)?;
         for term in &self.terms {
             other.add(term.by_ref())?;
         }

@@ -15,6 +15,7 @@ ghost use Rattle.ba_facts.specs.declared.term.Lesson.{Lesson};
 ghost use Rattle.ba_facts.specs.declared.term.Term.{Term};
 ghost use Rattle.ba_model.specs.declared.query.Op.{Op};
 
+use crate::copies::copy_plain;
 use crate::found::{Found, differ, own_found, own_literal};
 use crate::groups::Groups;
 use crate::marking::{deny, mark_of, set_mark};
@@ -521,7 +522,7 @@ impl Web {
         Ok(Web {
             names: self.names.copy(alloc)?,
             classes: self.classes.copy(alloc)?,
-            marks: Vec::from_slice(alloc, &self.marks)?,
+            marks: copy_plain(alloc, &self.marks)?,
             order: self.order.copy(alloc)?,
             several: self.several,
         })

@@ -1,0 +1,42 @@
+//! Copies of lists, with room for some more.
+ghost use Rattle.std.specs.Prelude.{◌≡◌, ◌++◌, IfOk, OnOk};
+
+use ba_model::{Duplicate, Shared};
+use std::alloc::{AllocError, Global};
+
+/// For how many more elements a copy has room.
+const ROOM: usize = 8;
+
+/// The same elements.
+pub(crate) fn copy_plain<T: Copy>(alloc: Global, items: &[T]) -> Result<Vec<T>, AllocError>
+    ensures { IfOk result (λ it. it.items ≡ items.now) }
+{
+    let mut copies = Vec::with_capacity(alloc, items.len().saturating_add(ROOM))?;
+    copies.extend_from_slice(items)?;
+    Ok(copies)
+}
+
+/// The same values, held in common.
+pub(crate) fn copy_shared<T: Drop>(
+    alloc: Global,
+    items: &[Shared<T>],
+) -> Result<Vec<Shared<T>>, AllocError>
+    ensures { IfOk result (λ it. it.items ≡ items.now) }
+{
+    let mut copies = Vec::with_capacity(alloc, items.len().saturating_add(ROOM))?;
+    add_shared(alloc, items, &mut copies)?;
+    Ok(copies)
+}
+
+fn add_shared<T: Drop>(
+    alloc: Global,
+    items: &[Shared<T>],
+    copies: &mut Vec<Shared<T>>,
+) -> Result<(), AllocError>
+    ensures { OnOk result (copies.new.items ≡ copies.old.items ++ items.now) }
+{
+    for item in items {
+        copies.push(item.copy(alloc)?)?;
+    }
+    Ok(())
+}
