@@ -33,3 +33,4 @@ pub mod OneFault
 pub mod OneEnd
 pub mod ReplayLemmas
 pub mod SpareLemmas
+pub mod DraftLemmas

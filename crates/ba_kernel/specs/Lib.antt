@@ -10,3 +10,4 @@ pub mod Spares
 pub mod News
 pub mod NewParts
 pub mod Asked
+pub mod Drafts

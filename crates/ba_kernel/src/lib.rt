@@ -6,6 +6,7 @@
 #![tactic(auto)]
 
 mod cases;
+mod draft;
 mod fact;
 pub mod laws;
 mod news;
@@ -17,6 +18,7 @@ mod search;
 mod start;
 mod step;
 
+pub use draft::{ProblemDraft, ProblemFault};
 pub use problem::{Problem, ProblemEntry};
 pub use proved::Proved;
 pub use replaying::{ReplayFault, replay};
