@@ -1,5 +1,5 @@
 -- Problems that are put together by hand: what of a draft is well formed, and its first part that isn't.
-use Rattle.std.specs.Prelude.{◌≡◌, ℕ, List, [], All, Option, Some, None}
+use Rattle.std.specs.Prelude.{ℕ, List, [], All, Option, Some, None}
 use Rattle.std.specs.List.{AllZip}
 use Rattle.ba_model.specs.Fit.{AtomFits, IsQuery, PolicyFits, kind_of, kinds_of}
 use Rattle.ba_model.specs.declared.policy.Policy.{Policy}

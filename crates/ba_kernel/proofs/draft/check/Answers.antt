@@ -1,4 +1,3 @@
-use Rattle.std.proofs.Common.{◌≡◌}
 use Rattle.ba_kernel.proofs.DraftLemmas.{none_without, not_asked, without_at}
 use Rattle.ba_kernel.specs.Courses.{EntryFits}
 use Rattle.ba_kernel.specs.Drafts.{IsAssumedIn}

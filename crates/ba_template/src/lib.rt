@@ -1,0 +1,12 @@
+//! Decision templates: proofs of questions made general, which serve every question that they match.
+#![tactic(auto)]
+
+mod found;
+pub mod laws;
+mod same;
+mod shapes;
+mod template;
+
+pub use found::Match;
+pub use shapes::{SHARDS, Shape, ShapeAtom, ShapeOperand, ShapePart};
+pub use template::Template;
