@@ -1,3 +1,4 @@
 pub mod Shapes
 pub mod Templates
 pub mod Found
+pub mod Standing

@@ -5,8 +5,10 @@ mod found;
 pub mod laws;
 mod same;
 mod shapes;
+mod standing;
 mod template;
 
 pub use found::Match;
 pub use shapes::{SHARDS, Shape, ShapeAtom, ShapeOperand, ShapePart};
+pub use standing::each_var_stands;
 pub use template::Template;

@@ -38,7 +38,8 @@ impl Model for Template {
 }
 
 impl Template {
-    /// The template of a proof, each of whose variables stands in the goal or an entry.
+    /// The template of a proof, each of whose variables stands in the goal or an entry
+    /// ([`crate::each_var_stands`]).
     pub fn of(alloc: Global, proved: Proved) -> Result<Template, AllocError>
         requires { EachVarStands proved.problem }
         ensures { IfOk result (λ it. it ≡ proved) }
