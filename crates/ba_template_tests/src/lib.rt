@@ -1,0 +1,5 @@
+//! Tests of decision templates and their shapes (ba_template), by values worked out by hand.
+#![tactic(auto)]
+
+#[cfg(test)]
+mod tests;
