@@ -1,0 +1,9 @@
+//! Rows of tables with indexes that last: for each key of a table its rows in the order of their values there.
+#![tactic(auto)]
+
+mod indexed;
+mod order;
+mod place;
+
+pub use indexed::Indexed;
+pub use order::Order;
