@@ -6,15 +6,16 @@ ghost use Rattle.ba_tables.specs.Broken.{checked};
 ghost use Rattle.ba_tables.specs.TableSet.{RowsFit};
 
 use crate::broken::{TablesFault, broken_table};
+use ba_index::Indexed;
 use ba_model::{Duplicate, Failure, RowSet, Schema, Shared};
 use std::alloc::Global;
 use std::marker::Model;
 
-/// A schema, held in common with the policy, and a database that conforms to it.
+/// A schema, held in common with the policy, and a database that conforms to it, with an order of rows for each key.
 #[derive(Debug, Drop)]
 pub struct Tables {
     schema: Shared<Schema>,
-    rows: RowSet,
+    rows: Indexed,
 }
 
 impl Model for Tables {
@@ -45,6 +46,7 @@ impl Tables {
         if let Some(fault) = broken_table(alloc, &schema.tables, &rows)? {
             return Err(Failure::Fault(fault));
         }
+        let rows = Indexed::new(alloc, &schema.tables, rows)?;
         let schema = schema.copy(alloc)?;
         Ok(Tables { schema, rows })
     }
@@ -59,6 +61,14 @@ impl Tables {
 
     /// For each table its rows, in the order in which they were given.
     pub fn rows(&self) -> &RowSet
+        ensures is { result.now ≡ self.now.rows }
+        ensures conform { Conforms self.now.schema result.now }
+    {
+        self.rows.rows()
+    }
+
+    /// The rows with the order of each key.
+    pub fn indexed(&self) -> &Indexed
         ensures is { result.now ≡ self.now.rows }
         ensures conform { Conforms self.now.schema result.now }
     {
