@@ -38,10 +38,37 @@ ASKS_OF_REQUEST = 256
 
 
 class Kind:
-    """A kind of question: its text for a number, how many rows it has over tables of so many rows, and whether it is answered."""
+    """A kind of question: its text for a number, how many rows it has over tables of so many rows, whether it is answered, and the
+    view that its policy has besides."""
 
-    def __init__(self, question, rows_of_one, is_answered):
-        self.question, self.rows_of_one, self.is_answered = question, rows_of_one, is_answered
+    def __init__(self, question, rows_of_one, is_answered, view=""):
+        self.question, self.rows_of_one, self.is_answered, self.view = question, rows_of_one, is_answered, view
+
+
+# Joins along keys, by the number of their tables. `u` or `a` has the user's number.
+JOINS = {
+    2: "FROM Events e, Attendances a WHERE a.EId = e.EId",
+    3: "FROM Users u, Attendances a, Events e WHERE a.UId = u.UId AND e.EId = a.EId",
+    8: "FROM Users u, Attendances a, Events e, Attendances b, Events f, Users v, Attendances c, Events g"
+    " WHERE a.UId = u.UId AND e.EId = a.EId AND b.UId = a.UId AND b.EId = e.EId AND f.EId = b.EId AND v.UId = b.UId"
+    " AND c.UId = v.UId AND c.EId = f.EId AND g.EId = c.EId",
+}
+
+
+def joined(tables):
+    """What one user attends, by a join of so many tables. One view shows it of everyone."""
+    return Kind(
+        lambda n, rows: f"SELECT e.Title, a.At {JOINS[tables]} AND a.UId = {n * STEP % rows}",
+        lambda rows: 1,
+        True,
+        f"CREATE VIEW J AS SELECT e.Title, a.At, a.UId {JOINS[tables]};\n",
+    )
+
+
+def of_users(n, rows):
+    """The names of 32 users: a union of as many parts."""
+    numbers = ", ".join(str((32 * n + it) * STEP % rows) for it in range(32))
+    return f"SELECT Name FROM Users WHERE UId IN ({numbers})"
 
 
 def long_list(size):
@@ -73,12 +100,18 @@ TEXTS = {"IN list": long_list, "brackets": deep_brackets, "AND": joined_tests, "
 
 
 KINDS = {
-    # One row by its key: the whole table is gone through.
+    # One row by its key.
     "point": Kind(lambda n, rows: f"SELECT Name FROM Users WHERE UId = {n * STEP % rows}", lambda rows: 1, True),
     # Every row, in order.
     "scan": Kind(lambda n, rows: "SELECT Title, EId FROM Events", lambda rows: rows, True),
     # One's own row: the view of the request's user covers it.
     "own": Kind(lambda n, rows: "SELECT At FROM Attendances WHERE UId = 0", lambda rows: 1, True),
+    # One row by a join along keys.
+    "join2": joined(2),
+    "join3": joined(3),
+    "join8": joined(8),
+    # 32 rows, each by its key.
+    "union32": Kind(of_users, lambda rows: 32, True),
     # No view shows it.
     "blocked": Kind(lambda n, rows: f"SELECT Duration FROM Events WHERE EId = {n}", lambda rows: 0, False),
 }
@@ -91,6 +124,11 @@ def write_lines(path, lines):
     with open(path, "w", encoding="utf-8", newline="") as it:
         for line in lines:
             it.write(line + "\n")
+
+
+def write_text(path, text):
+    with open(path, "w", encoding="utf-8") as it:
+        it.write(text)
 
 
 def users(rows):
@@ -114,14 +152,13 @@ def with_header(header, lines):
 
 
 def make_tables(folder, rows):
-    """Writes schema, policy and the table set, and for sqlite3 the same rows with no header."""
+    """Writes schema, policy with no view besides, and the table set, and for sqlite3 the same rows with no header."""
     os.makedirs(f"{folder}/t0")
     for table, header, lines in TABLES:
         write_lines(f"{folder}/t0/{table}.csv", with_header(header, lines(rows)))
         write_lines(f"{folder}/{table}.rows", lines(rows))
-    for name, text in [("schema.sql", SCHEMA), ("policy.sql", POLICY)]:
-        with open(f"{folder}/{name}", "w", encoding="utf-8") as it:
-            it.write(text)
+    write_text(f"{folder}/schema.sql", SCHEMA)
+    write_text(f"{folder}/policy.sql", POLICY)
 
 
 def as_sql(question):
@@ -223,6 +260,7 @@ def case(program, folder, name, rows, asks, runs):
     """One line of the table."""
     kind = KINDS[name]
     answered = asks * kind.rows_of_one(rows)
+    write_text(f"{folder}/policy.sql", POLICY + kind.view)
     make_scripts(folder, [kind.question(n, rows) for n in range(asks)])
     out, of_sqlite = f"{folder}/out.jsonl", f"{folder}/out.csv"
     figures = [measure([program, *WORDS], folder, os.devnull, out, runs)]
