@@ -1,6 +1,7 @@
--- The entries with the key of the chosen rows are those of the rows that make the place's equations true beside them.
-use Rattle.std.proofs.Common.{◌≡◌, ◌≢◌, ℕ, zero, suc, ◌<◌, inl, inr, List, [], ◌∷◌, ◌++◌, length, get_or, map, Option, Some, None, slice_get, refl, sym, ap, ◌∙◌, subst, arith}
-use Rattle.std.proofs.lemmas.List.Elements.{All-contains, Contains-append_left, Contains-append_right, Contains-get_or, Contains-push}
+-- In an index that was made for the answer the entries with the key of the chosen rows are those of the rows that make the
+-- place's equations true beside them.
+use Rattle.std.proofs.Common.{◌≡◌, ◌≢◌, ℕ, zero, suc, ◌<◌, ◌⊎◌, inl, inr, false, List, [], ◌∷◌, ◌++◌, length, get_or, map, Option, Some, None, slice_get, eqb, refl, sym, ap, ◌∙◌, subst, arith}
+use Rattle.std.proofs.lemmas.List.Elements.{All-contains, All-from_recursion, Contains-append_cases, Contains-append_left, Contains-append_right, Contains-get_or, Contains-push, Contains-push_cases, recursion_from_All}
 use Rattle.std.proofs.lemmas.Option.{slice_get_within}
 use Rattle.std.specs.Borrow.{Bor}
 use Rattle.std.specs.List.{Contains, IsDistinct}
@@ -18,9 +19,8 @@ use Rattle.ba_model.specs.declared.value.RowSet.{RowSet}
 use Rattle.ba_model.specs.declared.value.Value.{Value}
 use Rattle.ba_model.specs.declared.value.Value.TheVariants.{Null, Int, Text}
 use Rattle.ba_eval.proofs.HeadLemmas.{one_head}
-use Rattle.ba_eval.specs.Index.{known, key_of, value_in, AreCandidates, AreEqual, HasKey, HaveKey, HaveKeyIfAny, IsEarlier, IsEntry, IsKey, IsPlace, IsTie, IsWithin, MeetsDue, MeetsWithin, StandsAt, Ties}
+use Rattle.ba_eval.specs.Index.{known, key_of, same_number, value_in, AreCandidates, AreEqual, HasKey, HaveKey, HaveKeyIfAny, HaveNumbers, IsOutside, IsEntry, IsKey, IsMade, IsTie, IsWithin, MeetsDue, MeetsWithin, StandsAt, Ties}
 use Rattle.ba_eval.specs.declared.place.Entry.{Entry}
-use Rattle.ba_eval.specs.declared.place.Place.{Place}
 use Rattle.ba_eval.specs.declared.tie.Tie.{Tie}
 
 -- an equation holds exactly where its sides are equal
@@ -90,11 +90,11 @@ module _ (c : Context) (chosen : List (List Value)) (row : List Value) where
   value_at (Param n) is = refl
   value_at (Var n) is = refl
 
-  value_before : (x : Operand) → IsEarlier (length chosen) x → value_of c beside x ≡ value_of c chosen x
-  value_before (Col p k) is = ap (option_and_then (λ r. slice_get r k)) (get_before chosen row p is)
-  value_before (Val v) is = absurd is
-  value_before (Param n) is = absurd is
-  value_before (Var n) is = absurd is
+  value_outside : (x : Operand) → IsOutside (length chosen) x → value_of c beside x ≡ value_of c chosen x
+  value_outside (Col p k) is = ap (option_and_then (λ r. slice_get r k)) (get_before chosen row p is)
+  value_outside (Val v) is = refl
+  value_outside (Param n) is = refl
+  value_outside (Var n) is = refl
 
   -- what a tie says of the two sides
   abbrev TieEqual : Tie → Type 0
@@ -104,7 +104,7 @@ module _ (c : Context) (chosen : List (List Value)) (row : List Value) where
   side_own own other tie t = ap (value_of c beside) t.own_is ∙ own_value tie.column
 
   side_other : (own other : Operand) (tie : Tie) → Ties (length chosen) own other tie → value_of c beside other ≡ value_of c chosen tie.other.now
-  side_other own other tie t = value_before other t.earlier ∙ ap (value_of c chosen) t.other_is
+  side_other own other tie t = value_outside other t.outside ∙ ap (value_of c chosen) t.other_is
 
   tie_holds : (atom : Atom) (tie : Tie) → IsTie (length chosen) atom tie → TieEqual tie → Holds c beside atom
   tie_holds atom tie is e =
@@ -147,10 +147,10 @@ both_at f g ties key a b t (k, below, at) =
 cons_both : {X : Type 0} (a b : X) (xs ys : List X) → a ≡ b → xs ≡ ys → a ∷ xs ≡ b ∷ ys
 cons_both a b xs ys e f = cc
 
-Contains-here : {X : Type 0} (x : X) (xs : List X) → Contains (x ∷ xs) x
+pub Contains-here : {X : Type 0} (x : X) (xs : List X) → Contains (x ∷ xs) x
 Contains-here x xs = Contains-append_left (x ∷ []) xs x (Contains-push [] x)
 
-Contains-later : {X : Type 0} (x : X) (xs : List X) (y : X) → Contains xs y → Contains (x ∷ xs) y
+pub Contains-later : {X : Type 0} (x : X) (xs : List X) (y : X) → Contains xs y → Contains (x ∷ xs) y
 Contains-later x xs y h = Contains-append_right (x ∷ []) xs y h
 
 pub record BothKeys (f g : Tie → Option Value) (ties : List Tie) : Type 0 where
@@ -169,61 +169,107 @@ keys_from f g (t ∷ ties) h =
       right = cons_both (g t) (Some first.0) (map g ties) (map Some rest.key) first.2 rest.right;
     }
 
-module _ (c : Context) (d : RowSet) (part : Part) (chosen : List (List Value)) (place : Place) (is : IsPlace c d part (length chosen) place) where
-  abbrev f : List Value → Tie → Option Value
+pub cons_cases : {X : Type 0} (x : X) (xs : List X) (y : X) → Contains (x ∷ xs) y → (x ≡ y) ⊎ Contains xs y
+cons_cases x xs y h =
+    elim (Contains-append_cases (x ∷ []) xs y h) [
+      | inl first ↦ elim (Contains-push_cases [] x y first) [ inl none ↦ absurd (Contains-nil y none) | inr is ↦ inl is ]
+      | inr later ↦ inr later
+    ]
+
+pub Contains-in_map : {X Y : Type 0} (u : X → Y) (xs : List X) (y : Y) → Contains (map u xs) y → (x : X) × Contains xs x × (u x ≡ y)
+Contains-in_map u [] y h = absurd (Contains-nil y h)
+Contains-in_map u (x ∷ xs) y h =
+    elim (cons_cases (u x) (map u xs) y h) [
+      | inl is ↦ (x, Contains-here x xs, is)
+      | inr later ↦ (let r = Contains-in_map u xs y later in (r.0, Contains-later x xs r.0 r.1, r.2))
+    ]
+
+pub Contains-of_map : {X Y : Type 0} (u : X → Y) (xs : List X) (x : X) → Contains xs x → Contains (map u xs) (u x)
+Contains-of_map u [] x h = absurd (Contains-nil x h)
+Contains-of_map u (z ∷ xs) x h =
+    elim (cons_cases z xs x h) [
+      | inl is ↦ subst (λ w. Contains (u z ∷ map u xs) (u w)) is (Contains-here (u z) (map u xs))
+      | inr later ↦ Contains-later (u z) (map u xs) (u x) (Contains-of_map u xs x later)
+    ]
+
+abbrev number_of : Entry → ℕ
+number_of entry = entry.number
+
+distinct_numbers : (entries : List Entry) → IsDistinct same_number entries → IsDistinct eqb (map number_of entries)
+unfolding IsDistinct
+distinct_numbers [] h = h
+distinct_numbers (e ∷ entries) h =
+    let apart = All-from_recursion (λ x. same_number e x ≡ false) entries h.0 in (
+      recursion_from_All (λ n. eqb e.number n ≡ false) (map number_of entries) (λ k d below.
+          let r = Contains-in_map number_of entries _ (Contains-get_or (map number_of entries) k d below) in
+          subst (λ n. eqb e.number n ≡ false) r.2 (All-contains (λ x. same_number e x ≡ false) entries r.0 apart r.1)),
+      distinct_numbers entries h.1,
+    )
+
+-- the values of a row that makes true what the place settles are what the ties give
+module _ (c : Context) (part : Part) (chosen : List (List Value)) (ties : List Tie) (sound : (tie : Tie) → Contains ties tie → (atom : Atom) × Contains part.conds atom × IsTie (length chosen) atom tie) where
+  abbrev pub f : List Value → Tie → Option Value
   f row tie = known (slice_get row tie.column)
 
-  abbrev g : Tie → Option Value
+  abbrev pub g : Tie → Option Value
   g tie = known (value_of c chosen tie.other.now)
 
-  in_table : (number : ℕ) (row : List Value) → slice_get (rows_of d place.table) number ≡ Some row → slice_get place.rows.now number ≡ Some row
-  in_table number row e = subst (λ rows. slice_get rows number ≡ Some row) (sym is.rows_are) e
+  pub tied : (row : List Value) → MeetsDue c part chosen row → BothKeys (f row) g ties
+  tied row due = keys_from (f row) g ties (λ tie h.
+      let s = sound tie h in
+      let e = tie_met c chosen row s.0 tie s.2 (due s.0 s.1 (inr (tie, s.2))) in
+      (e.value, e.left, e.right))
+
+  pub none_tied : (d : RowSet) (table : ℕ) → IsKey g ties None → AreCandidates c d part table chosen []
+  unfolding IsDistinct
+  none_tied d table none = record {
+    sound = λ entry h. absurd (Contains-nil entry h);
+    complete = λ number row at due. let keys = tied row due in absurd (none keys.key keys.right);
+    distinct = tt;
+  }
+
+  -- a tie holds of a row whose key is that of the chosen rows
+  pub tie_known : (key row_key : List Value) → map g ties ≡ map Some key → (row : List Value) → HasKey ties row row_key → row_key ≡ key → (atom : Atom) (tie : Tie) → Contains ties tie → IsTie (length chosen) atom tie → Holds c (chosen ++ row ∷ []) atom
+  tie_known key row_key key_is row has same atom tie there is =
+      let e = both_at (f row) g ties key (subst (λ k. map (f row) ties ≡ map Some k) same has) key_is tie there in
+      tie_holds c chosen row atom tie is (record { value = e.0; left = e.1; right = e.2 })
+
+module _ (c : Context) (d : RowSet) (part : Part) (chosen : List (List Value)) (table : ℕ) (rows : List (List Value)) (ties : List Tie) (entries : List Entry) (rows_are : rows ≡ rows_of d table) (is : IsMade c part.conds (length chosen) rows ties entries) where
+  in_table : (number : ℕ) (row : List Value) → slice_get (rows_of d table) number ≡ Some row → slice_get rows number ≡ Some row
+  in_table number row e = subst (λ rows. slice_get rows number ≡ Some row) (sym rows_are) e
 
   meets : (row : List Value) → MeetsDue c part chosen row → MeetsWithin c (length chosen) row part.conds
   meets row due k x below w =
       let atom = get_or part.conds k x in
       within_met c chosen row atom w (due atom (Contains-get_or part.conds k x below) (inl w))
 
-  tied : (row : List Value) → MeetsDue c part chosen row → BothKeys (f row) g place.ties.items
-  tied row due = keys_from (f row) g place.ties.items (λ tie h.
-      let s = is.ties_are.sound tie h in
-      let e = tie_met c chosen row s.0 tie s.2 (due s.0 s.1 (inr (tie, s.2))) in
-      (e.value, e.left, e.right))
-
-  pub no_candidates : IsKey g place.ties.items None → AreCandidates c d part place.table chosen []
-  unfolding IsDistinct
-  no_candidates none = record {
-    sound = λ entry h. absurd (Contains-nil entry h);
-    complete = λ number row at due. let keys = tied row due in absurd (none keys.key keys.right);
-    distinct = tt;
-  }
-
-  module _ (key : List Value) (key_is : map g place.ties.items ≡ map Some key) (found : List Entry) (have : HaveKey place.entries.items key found) where
-    due_met : (entry : Entry) (row : List Value) → MeetsWithin c (length chosen) row part.conds → HasKey place.ties.items row (key_of entry) → key_of entry ≡ key → MeetsDue c part chosen row
+  module _ (key : List Value) (key_is : map (g c part chosen ties is.ties_are.sound) ties ≡ map Some key) (found : List Entry) (have : HaveKey entries key found) where
+    due_met : (entry : Entry) (row : List Value) → MeetsWithin c (length chosen) row part.conds → HasKey ties row (key_of entry) → key_of entry ≡ key → MeetsDue c part chosen row
     due_met entry row within has same atom there (inl w) = within_holds c chosen row atom w (All-contains (λ x. IsWithin (length chosen) x → AreEqual (value_in c row x.left) (value_in c row x.right)) part.conds atom within there w)
     due_met entry row within has same atom there (inr (tie, is_tie)) =
         let own = is.ties_are.complete atom tie there is_tie in
-        let e = known_at own.0 own.1 in
-        tie_holds c chosen row atom own.0 own.2 (record { value = e.0; left = e.1; right = e.2 })
-      where
-        known_at : (t : Tie) → Contains place.ties.items t → (v : Value) × (f row t ≡ Some v) × (g t ≡ Some v)
-        known_at t h = both_at (f row) g place.ties.items key (subst (λ k. map (f row) place.ties.items ≡ map Some k) same has) key_is t h
+        tie_known c part chosen ties is.ties_are.sound key (key_of entry) key_is row has same atom own.0 own.1 own.2
 
-    pub candidates : AreCandidates c d part place.table chosen found
+    candidates : AreCandidates c d part table chosen (map number_of found)
     candidates = record {
-      sound = λ entry h.
-          let there = have.only entry h in
-          let e = All-contains (IsEntry c part.conds (length chosen) place.rows.now place.ties.items) place.entries.items entry is.entered.sound there in
-          let same = All-contains (λ x. key_of x ≡ key) found entry have.sound h in
-          (e.row, subst (λ rows. slice_get rows entry.number ≡ Some e.row) is.rows_are e.row_is, due_met entry e.row e.within e.key same);
+      sound = λ number h.
+          let by = Contains-in_map number_of found number h in
+          let entry = by.0 in
+          let there = have.only entry by.1 in
+          let e = All-contains (IsEntry c part.conds (length chosen) rows ties) entries entry is.entered.sound there in
+          let same = All-contains (λ x. key_of x ≡ key) found entry have.sound by.1 in
+          (e.row, subst (λ rows. slice_get rows number ≡ Some e.row) rows_are (subst (λ n. slice_get rows n ≡ Some e.row) by.2 e.row_is), due_met entry e.row e.within e.key same);
       complete = λ number row at due.
-          let keys = tied row due in
+          let keys = tied c part chosen ties is.ties_are.sound row due in
           let at_own = in_table number row at in
-          let h = is.entered.complete number row keys.key (slice_get_within place.rows.now number row at_own) at_own (meets row due) keys.left in
-          (h.entry, have.complete h.entry h.there (h.key_is ∙ one_head keys.key key (sym keys.right ∙ key_is)), h.number_is);
-      distinct = have.distinct is.entered.distinct;
+          let h = is.entered.complete number row keys.key (slice_get_within rows number row at_own) at_own (meets row due) keys.left in
+          subst (Contains (map number_of found)) h.number_is (Contains-of_map number_of found h.entry (have.complete h.entry h.there (h.key_is ∙ one_head keys.key key (sym keys.right ∙ key_is))));
+      distinct = distinct_numbers found (have.distinct is.entered.distinct);
     }
 
-  pub candidates_at : (key : Option (List (Bor Value))) (found : List Entry) → IsKey g place.ties.items key → HaveKeyIfAny place.entries.items key found → AreCandidates c d part place.table chosen found
-  candidates_at None found k h = subst (AreCandidates c d part place.table chosen) (sym h) (no_candidates k)
-  candidates_at (Some key) found k h = candidates (map (λ v. v.now) key) k found h
+  by_key : (key : Option (List (Bor Value))) (found : List Entry) → IsKey (g c part chosen ties is.ties_are.sound) ties key → HaveKeyIfAny entries key found → AreCandidates c d part table chosen (map number_of found)
+  by_key None found k h = subst (λ es. AreCandidates c d part table chosen (map number_of es)) (sym h) (none_tied c part chosen ties is.ties_are.sound d table k)
+  by_key (Some key) found k h = candidates (map (λ v. v.now) key) k found h
+
+  pub made_candidates : (key : Option (List (Bor Value))) (numbers : List ℕ) → IsKey (g c part chosen ties is.ties_are.sound) ties key → HaveNumbers entries key numbers → AreCandidates c d part table chosen numbers
+  made_candidates key numbers k h = subst (AreCandidates c d part table chosen) (sym h.are) (by_key key h.found k h.have)

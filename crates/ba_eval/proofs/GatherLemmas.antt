@@ -14,9 +14,8 @@ use Rattle.ba_model.specs.declared.query.Part.{Part}
 use Rattle.ba_model.specs.declared.value.RowSet.{RowSet}
 use Rattle.ba_model.specs.declared.value.Value.{Value}
 use Rattle.ba_eval.proofs.SearchLemmas.{FromRow, adds_more, adds_same, from_row, row_from}
-use Rattle.ba_eval.specs.Index.{AreCandidates, ArePlaces, IsDue, IsEarlier, IsPlace, MeetsDue, StandsAt, StandsWithin}
+use Rattle.ba_eval.specs.Index.{AreCandidates, ArePlaces, IsDue, IsOutside, IsPlace, MeetsDue, StandsAt, StandsWithin}
 use Rattle.ba_eval.specs.Search.{Adds, BySome, GivesFrom}
-use Rattle.ba_eval.specs.declared.place.Entry.{Entry}
 use Rattle.ba_eval.specs.declared.place.Place.{Place}
 
 -- an atom that speaks of the first places alone holds where it holds of them
@@ -56,11 +55,11 @@ at_within n (Val v) h = tt
 at_within n (Param m) h = tt
 at_within n (Var m) h = tt
 
-earlier_within : (n : ℕ) (x : Operand) → IsEarlier n x → StandsWithin (n + 1) x
-earlier_within n (Col p k) h = omega arith
-earlier_within n (Val v) h = tt
-earlier_within n (Param m) h = tt
-earlier_within n (Var m) h = tt
+outside_within : (n : ℕ) (x : Operand) → IsOutside n x → StandsWithin (n + 1) x
+outside_within n (Col p k) h = omega arith
+outside_within n (Val v) h = tt
+outside_within n (Param m) h = tt
+outside_within n (Var m) h = tt
 
 own_within : (n k : ℕ) (x : Operand) → x ≡ Col n k → StandsWithin (n + 1) x
 own_within n k x e = subst (StandsWithin (n + 1)) (sym e) (let h : n < n + 1 = omega arith in h)
@@ -68,12 +67,12 @@ own_within n k x e = subst (StandsWithin (n + 1)) (sym e) (let h : n < n + 1 = o
 pub due_left : (n : ℕ) (atom : Atom) → IsDue n atom → StandsWithin (n + 1) atom.left
 due_left n atom (inl w) = at_within n atom.left w.left
 due_left n atom (inr (tie, is)) =
-    elim is.sides [ inl t ↦ own_within n tie.column atom.left t.own_is | inr t ↦ earlier_within n atom.left t.earlier ]
+    elim is.sides [ inl t ↦ own_within n tie.column atom.left t.own_is | inr t ↦ outside_within n atom.left t.outside ]
 
 pub due_right : (n : ℕ) (atom : Atom) → IsDue n atom → StandsWithin (n + 1) atom.right
 due_right n atom (inl w) = at_within n atom.right w.right
 due_right n atom (inr (tie, is)) =
-    elim is.sides [ inl t ↦ earlier_within n atom.right t.earlier | inr t ↦ own_within n tie.column atom.right t.own_is ]
+    elim is.sides [ inl t ↦ outside_within n atom.right t.outside | inr t ↦ own_within n tie.column atom.right t.own_is ]
 
 one_longer : {X : Type 0} (xs : List X) (x : X) → length (xs ++ x ∷ []) ≡ length xs + 1
 one_longer xs x = length-append xs (x ∷ [])
@@ -88,24 +87,24 @@ module _ (c : Context) (d : RowSet) (part : Part) (from : List ℕ) (chosen : Li
       (subst (λ n. StandsWithin n atom.right) (sym (one_longer chosen row)) (due_right (length chosen) atom due))
       (All-contains (Holds c (beside ++ more)) part.conds atom g.conds there)
 
-  -- the part gives r from the chosen rows, the entry's row and one row of each further place
-  abbrev pub FromEntry : List (List Value) → Entry → List Value → Type 0
-  FromEntry rows entry r = (row : List Value) × (slice_get rows entry.number ≡ Some row) × FromRow c d part from chosen row r
+  -- the part gives r from the chosen rows, the row with this number and one row of each further place
+  abbrev pub FromNumber : List (List Value) → ℕ → List Value → Type 0
+  FromNumber rows number r = (row : List Value) × (slice_get rows number ≡ Some row) × FromRow c d part from chosen row r
 
   some_row : {X : Type 0} (o : Option X) (x y : X) → o ≡ Some x → o ≡ Some y → x ≡ y
   some_row o x y a b = let e : Some x ≡ Some y = sym a ∙ b in cc
 
-  pub entry_found : (rows deeper mid new : List (List Value)) (entry : Entry) (row : List Value) → slice_get rows entry.number ≡ Some row → deeper ≡ chosen ++ row ∷ [] → Adds (GivesFrom c d part from deeper) mid new → Adds (FromEntry rows entry) mid new
-  entry_found rows deeper mid new entry row at e h =
+  pub number_found : (rows deeper mid new : List (List Value)) (number : ℕ) (row : List Value) → slice_get rows number ≡ Some row → deeper ≡ chosen ++ row ∷ [] → Adds (GivesFrom c d part from deeper) mid new → Adds (FromNumber rows number) mid new
+  number_found rows deeper mid new number row at e h =
       adds_same
       (λ r g. (row, at, subst (λ rs. GivesFrom c d part from rs r) e g))
-      (λ r f. subst (λ rs. GivesFrom c d part from rs r) (ap (λ x. chosen ++ x ∷ []) (some_row (slice_get rows entry.number) f.0 row f.1 at) ∙ sym e) f.2)
+      (λ r f. subst (λ rs. GivesFrom c d part from rs r) (ap (λ x. chosen ++ x ∷ []) (some_row (slice_get rows number) f.0 row f.1 at) ∙ sym e) f.2)
       h
 
-  -- the loop over the entries
-  pub entries_more : (rows : List (List Value)) (entries : List Entry) (i : ℕ) (entry : Entry) → i < length entries → entry ≡ get_or entries i entry → (deeper old mid new : List (List Value)) (row : List Value) → slice_get rows entry.number ≡ Some row → deeper ≡ chosen ++ row ∷ [] → Adds (BySome (FromEntry rows) (take i entries)) old mid → Adds (GivesFrom c d part from deeper) mid new → Adds (BySome (FromEntry rows) (take (i + 1) entries)) old new
-  entries_more rows entries i entry below at deeper old mid new row row_is e before here =
-      adds_more (FromEntry rows) entries i entry below at old mid new before (entry_found rows deeper mid new entry row row_is e here)
+  -- the loop over the numbers
+  pub numbers_more : (rows : List (List Value)) (numbers : List ℕ) (i : ℕ) (number : ℕ) → i < length numbers → number ≡ get_or numbers i number → (deeper old mid new : List (List Value)) (row : List Value) → slice_get rows number ≡ Some row → deeper ≡ chosen ++ row ∷ [] → Adds (BySome (FromNumber rows) (take i numbers)) old mid → Adds (GivesFrom c d part from deeper) mid new → Adds (BySome (FromNumber rows) (take (i + 1) numbers)) old new
+  numbers_more rows numbers i number below at deeper old mid new row row_is e before here =
+      adds_more (FromNumber rows) numbers i number below at old mid new before (number_found rows deeper mid new number row row_is e here)
 
   number_of_row : (rows : List (List Value)) (row : List Value) → Contains rows row → (k : ℕ) × (slice_get rows k ≡ Some row)
   number_of_row rows row (k, below, at) = (k, slice_get_read rows (length rows) k row refl below (sym at))
@@ -113,22 +112,27 @@ module _ (c : Context) (d : RowSet) (part : Part) (from : List ℕ) (chosen : Li
   row_in : (rows : List (List Value)) (k : ℕ) (row : List Value) → slice_get rows k ≡ Some row → Contains rows row
   row_in rows k row e = (k, slice_get_within rows k row e, get_or_from_slice_get rows k row row e)
 
-  module _ (table : ℕ) (entries : List Entry) (are : AreCandidates c d part table chosen entries) where
-    from_entry : (r : List Value) → BySome (FromEntry (rows_of d table)) entries r → GivesFrom c d part (table ∷ from) chosen r
-    from_entry r (entry, there, (row, at, g)) = from_row c d part table from chosen r (row, row_in (rows_of d table) entry.number row at, g)
+  module _ (table : ℕ) (numbers : List ℕ) (are : AreCandidates c d part table chosen numbers) where
+    from_number : (r : List Value) → BySome (FromNumber (rows_of d table)) numbers r → GivesFrom c d part (table ∷ from) chosen r
+    from_number r (number, there, (row, at, g)) = from_row c d part table from chosen r (row, row_in (rows_of d table) number row at, g)
 
-    entry_from : (r : List Value) → GivesFrom c d part (table ∷ from) chosen r → BySome (FromEntry (rows_of d table)) entries r
-    entry_from r h =
+    number_from : (r : List Value) → GivesFrom c d part (table ∷ from) chosen r → BySome (FromNumber (rows_of d table)) numbers r
+    number_from r h =
         let by = row_from c d part table from chosen r h in
         let k = number_of_row (rows_of d table) by.0 by.1 in
-        let e = are.complete k.0 by.0 k.1 (due_of_given by.0 r by.2) in
-        (e.0, e.1, (by.0, subst (λ n. slice_get (rows_of d table) n ≡ Some by.0) (sym e.2) k.1, by.2))
+        (k.0, are.complete k.0 by.0 k.1 (due_of_given by.0 r by.2), (by.0, k.1, by.2))
 
-    pub entries_all : (rows : List (List Value)) (n : ℕ) (old new : List (List Value)) → rows ≡ rows_of d table → length entries ≤ n → Adds (BySome (FromEntry rows) (take n entries)) old new → Adds (GivesFrom c d part (table ∷ from) chosen) old new
-    entries_all rows n old new e all h =
-        adds_same from_entry entry_from
-        (subst (λ es. Adds (BySome (FromEntry (rows_of d table)) es) old new) (take_all n entries all)
-        (subst (λ rs. Adds (BySome (FromEntry rs) (take n entries)) old new) e h))
+    pub numbers_all : (rows : List (List Value)) (n : ℕ) (old new : List (List Value)) → rows ≡ rows_of d table → length numbers ≤ n → Adds (BySome (FromNumber rows) (take n numbers)) old new → Adds (GivesFrom c d part (table ∷ from) chosen) old new
+    numbers_all rows n old new e all h =
+        adds_same from_number number_from
+        (subst (λ es. Adds (BySome (FromNumber (rows_of d table)) es) old new) (take_all n numbers all)
+        (subst (λ rs. Adds (BySome (FromNumber rs) (take n numbers)) old new) e h))
+
+-- an item of a list whatever stands for one that isn't there
+pub item_of : (xs : List ℕ) (i n : ℕ) → i < length xs → n ≡ get_or xs i 0 → n ≡ get_or xs i n
+item_of [] i n h e = absurd (omega arith)
+item_of (x ∷ xs) zero n h e = e
+item_of (x ∷ xs) (suc i) n h e = item_of xs i n (omega arith) e
 
 abbrev pub table_of : Place → ℕ
 table_of place = place.table
@@ -138,19 +142,19 @@ no_tables [] e = refl
 no_tables (place ∷ places) e = absurd (omega arith)
 
 -- the first of the places, over the chosen rows
-module _ (c : Context) (d : RowSet) (part : Part) (chosen : List (List Value)) (places rest : List Place) (place : Place) (split : places ≡ place ∷ rest) (are : ArePlaces c d part (length chosen) places) (entries : List Entry) (candidates : AreCandidates c d part place.table chosen entries) where
+module _ (c : Context) (d : RowSet) (part : Part) (chosen : List (List Value)) (places rest : List Place) (place : Place) (split : places ≡ place ∷ rest) (are : ArePlaces c d part (length chosen) places) (numbers : List ℕ) (candidates : AreCandidates c d part place.table chosen numbers) where
   first : IsPlace c d part (length chosen) place
   first = (subst (ArePlaces c d part (length chosen)) split are).0
 
-  pub row_there : (i : ℕ) (entry : Entry) → i < length entries → entry ≡ get_or entries i entry → entry.number < length place.rows.now
-  row_there i entry below at =
-      let s = candidates.sound entry (i, below, sym at) in
-      slice_get_within place.rows.now entry.number s.0 (subst (λ rows. slice_get rows entry.number ≡ Some s.0) (sym first.rows_are) s.1)
+  pub row_there : (i : ℕ) (number : ℕ) → i < length numbers → number ≡ get_or numbers i number → number < length place.rows.now
+  row_there i number below at =
+      let s = candidates.sound number (i, below, sym at) in
+      slice_get_within place.rows.now number s.0 (subst (λ rows. slice_get rows number ≡ Some s.0) (sym first.rows_are) s.1)
 
-  pub gathers_all : (n : ℕ) (old new : List (List Value)) → length entries ≤ n → Adds (BySome (FromEntry c d part (map table_of rest) chosen place.rows.now) (take n entries)) old new → Adds (GivesFrom c d part (map table_of places) chosen) old new
+  pub gathers_all : (n : ℕ) (old new : List (List Value)) → length numbers ≤ n → Adds (BySome (FromNumber c d part (map table_of rest) chosen place.rows.now) (take n numbers)) old new → Adds (GivesFrom c d part (map table_of places) chosen) old new
   gathers_all n old new all h =
       subst (λ ps. Adds (GivesFrom c d part (map table_of ps) chosen) old new) (sym split)
-      (entries_all c d part (map table_of rest) chosen place.table entries candidates place.rows.now n old new first.rows_are all h)
+      (numbers_all c d part (map table_of rest) chosen place.table numbers candidates place.rows.now n old new first.rows_are all h)
 
 -- one place more
 

@@ -3,6 +3,7 @@ pub mod CandidateLemmas
 pub mod EntryLemmas
 pub mod GatherLemmas
 pub mod HeadLemmas
+pub mod KeptLemmas
 pub mod KeyLemmas
 pub mod SearchLemmas
 pub mod StepLemmas

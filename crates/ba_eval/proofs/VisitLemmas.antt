@@ -17,9 +17,8 @@ use Rattle.ba_model.specs.declared.value.Value.{Value}
 use Rattle.ba_eval.proofs.EntryLemmas.{earlier_or_here}
 use Rattle.ba_eval.proofs.GatherLemmas.{holds_back, table_of}
 use Rattle.ba_eval.proofs.KeyLemmas.{distinct_take}
-use Rattle.ba_eval.specs.Index.{same_number, AreCandidates, ArePlaces, IsDue, IsEarlier, MeetsDue, StandsAt, StandsWithin}
+use Rattle.ba_eval.specs.Index.{AreCandidates, ArePlaces, IsDue, IsOutside, MeetsDue, StandsAt, StandsWithin}
 use Rattle.ba_eval.specs.Visits.{AreAt, GoOn, IsVisit, MeetsEquations, Reached, Visited}
-use Rattle.ba_eval.specs.declared.place.Entry.{Entry}
 use Rattle.ba_eval.specs.declared.place.Place.{Place}
 use Rattle.ba_eval.specs.declared.tie.Tie.{Tie}
 
@@ -56,10 +55,10 @@ sides_due n atom (Col p k) (Col q m) is l r a b =
     elim (earlier_or_here p n a) [
       | inl early ↦ elim (earlier_or_here q n b) [
         | inl first ↦ inr (omega arith, early, first)
-        | inr here ↦ inl (inr (tie_to m (Col p k), record { equation = is; sides = inr (record { own_is = r ∙ ap (λ z. Col z m) here; other_is = l; earlier = subst (IsEarlier n) (sym l) early }) }))
+        | inr here ↦ inl (inr (tie_to m (Col p k), record { equation = is; sides = inr (record { own_is = r ∙ ap (λ z. Col z m) here; other_is = l; outside = subst (IsOutside n) (sym l) early }) }))
       ]
       | inr at ↦ elim (earlier_or_here q n b) [
-        | inl first ↦ inl (inr (tie_to k (Col q m), record { equation = is; sides = inl (record { own_is = l ∙ ap (λ z. Col z k) at; other_is = r; earlier = subst (IsEarlier n) (sym r) first }) }))
+        | inl first ↦ inl (inr (tie_to k (Col q m), record { equation = is; sides = inl (record { own_is = l ∙ ap (λ z. Col z k) at; other_is = r; outside = subst (IsOutside n) (sym r) first }) }))
         | inr here ↦ inl (within_due n atom is (subst (StandsAt n) (sym l) at) (subst (StandsAt n) (sym r) here))
       ]
     ]
@@ -154,11 +153,11 @@ pairs_append R [] ys a b h = b
 pairs_append R (x ∷ xs) ys a b h =
     AllPairs-cons R x (xs ++ ys) (All-append (R x) xs ys (pairs_head R x xs a) (All-head (λ x. All (R x) ys) x xs h)) (pairs_append R xs ys (pairs_tail R x xs a) b (All-tail (λ x. All (R x) ys) x xs h))
 
--- what the loop over a place's entries has visited
-pub record Visiting (c : Context) (d : RowSet) (part : Part) (before : List ℕ) (entries : List Entry) (old new : ℕ) : Type 0 where
+-- what the loop over a place's numbers has visited
+pub record Visiting (c : Context) (d : RowSet) (part : Part) (before : List ℕ) (numbers : List ℕ) (old new : ℕ) : Type 0 where
   pub visits : List (List ℕ)
   pub each : All (IsVisit c d part) visits
-  pub beyond : All (λ v. (entry : Entry) × Contains entries entry × (more : List ℕ) × (v ≡ before ++ entry.number ∷ more)) visits
+  pub beyond : All (λ v. (number : ℕ) × Contains numbers number × (more : List ℕ) × (v ≡ before ++ number ∷ more)) visits
   pub distinct : AllPairs (λ x y. x ≢ y) visits
   pub count : new ≤ old + length visits
 
@@ -168,14 +167,14 @@ none_apart R i j d less below = absurd (omega arith)
 pub none_visited : (c : Context) (d : RowSet) (part : Part) (before : List ℕ) (n : ℕ) → Visited c d part before n n
 none_visited c d part before n = record { visits = []; each = All-nil (IsVisit c d part); beyond = All-nil (GoOn before); distinct = none_apart (λ x y. x ≢ y); count = omega arith }
 
-pub none_visiting : (c : Context) (d : RowSet) (part : Part) (before : List ℕ) (entries : List Entry) (n : ℕ) → Visiting c d part before entries n n
-none_visiting c d part before entries n = record { visits = []; each = All-nil (IsVisit c d part); beyond = All-nil (λ v. (entry : Entry) × Contains entries entry × (more : List ℕ) × (v ≡ before ++ entry.number ∷ more)); distinct = none_apart (λ x y. x ≢ y); count = omega arith }
+pub none_visiting : (c : Context) (d : RowSet) (part : Part) (before : List ℕ) (numbers : List ℕ) (n : ℕ) → Visiting c d part before numbers n n
+none_visiting c d part before numbers n = record { visits = []; each = All-nil (IsVisit c d part); beyond = All-nil (λ v. (number : ℕ) × Contains numbers number × (more : List ℕ) × (v ≡ before ++ number ∷ more)); distinct = none_apart (λ x y. x ≢ y); count = omega arith }
 
-pub all_visited : (c : Context) (d : RowSet) (part : Part) (before : List ℕ) (entries : List Entry) (old new : ℕ) → Visiting c d part before entries old new → Visited c d part before old new
-all_visited c d part before entries old new h = record {
+pub all_visited : (c : Context) (d : RowSet) (part : Part) (before : List ℕ) (numbers : List ℕ) (old new : ℕ) → Visiting c d part before numbers old new → Visited c d part before old new
+all_visited c d part before numbers old new h = record {
   visits = h.visits;
   each = h.each;
-  beyond = All-weaker (λ v. (entry : Entry) × Contains entries entry × (more : List ℕ) × (v ≡ before ++ entry.number ∷ more)) (GoOn before) (λ v b. (b.0.number, b.2, b.3)) h.visits h.beyond;
+  beyond = All-weaker (λ v. (number : ℕ) × Contains numbers number × (more : List ℕ) × (v ≡ before ++ number ∷ more)) (GoOn before) (λ v b. (b.0, b.2, b.3)) h.visits h.beyond;
   distinct = h.distinct;
   count = h.count;
 }
@@ -183,29 +182,29 @@ all_visited c d part before entries old new h = record {
 grows : (xs : List ℕ) (p : ℕ) (more : List ℕ) → length xs ≡ length xs + length (p ∷ more) → ⊥
 grows xs p more e = omega arith
 
--- the visit of an entry's row and those that go on from it
-module _ (c : Context) (d : RowSet) (part : Part) (before : List ℕ) (entries : List Entry) (apart : IsDistinct same_number entries) (i : ℕ) (entry : Entry) (below : i < length entries) (here : entry ≡ get_or entries i entry) (visit : IsVisit c d part (before ++ entry.number ∷ [])) (old mid new : ℕ) (first : Visiting c d part before (take i entries) old mid) (deeper : Visited c d part (before ++ entry.number ∷ []) (mid + 1) new) where
+-- the visit of an number's row and those that go on from it
+module _ (c : Context) (d : RowSet) (part : Part) (before : List ℕ) (numbers : List ℕ) (apart : IsDistinct eqb numbers) (i : ℕ) (number : ℕ) (below : i < length numbers) (here : number ≡ get_or numbers i number) (visit : IsVisit c d part (before ++ number ∷ [])) (old mid new : ℕ) (first : Visiting c d part before (take i numbers) old mid) (deeper : Visited c d part (before ++ number ∷ []) (mid + 1) new) where
   abbrev own : List ℕ
-  own = before ++ entry.number ∷ []
+  own = before ++ number ∷ []
 
-  abbrev By : List Entry → List ℕ → Type 0
-  By es v = (entry : Entry) × Contains es entry × (more : List ℕ) × (v ≡ before ++ entry.number ∷ more)
+  abbrev By : List ℕ → List ℕ → Type 0
+  By es v = (number : ℕ) × Contains es number × (more : List ℕ) × (v ≡ before ++ number ∷ more)
 
   abbrev fresh : List (List ℕ)
   fresh = own ∷ deeper.visits
 
-  one_more : take (i + 1) entries ≡ take i entries ++ entry ∷ []
-  one_more = subst (λ q. take (i + 1) entries ≡ take i entries ++ q ∷ []) (sym here) (take_more entries i entry below)
+  one_more : take (i + 1) numbers ≡ take i numbers ++ number ∷ []
+  one_more = subst (λ q. take (i + 1) numbers ≡ take i numbers ++ q ∷ []) (sym here) (take_more numbers i number below)
 
-  others : All (λ x. same_number x entry ≡ false) (take i entries)
-  others = last_differs same_number (take i entries) entry (subst (IsDistinct same_number) one_more (distinct_take same_number (i + 1) entries apart))
+  others : All (λ x. eqb x number ≡ false) (take i numbers)
+  others = last_differs eqb (take i numbers) number (subst (IsDistinct eqb) one_more (distinct_take eqb (i + 1) numbers apart))
 
-  -- the new visits go by the entry
-  by_entry : (v : List ℕ) → GoOn own v → (more : List ℕ) × (v ≡ before ++ entry.number ∷ more)
-  by_entry v (p, more, e) = (p ∷ more, e ∙ append_assoc before (entry.number ∷ []) (p ∷ more))
+  -- the new visits go by the number
+  by_number : (v : List ℕ) → GoOn own v → (more : List ℕ) × (v ≡ before ++ number ∷ more)
+  by_number v (p, more, e) = (p ∷ more, e ∙ append_assoc before (number ∷ []) (p ∷ more))
 
-  fresh_by : All (λ v. (more : List ℕ) × (v ≡ before ++ entry.number ∷ more)) fresh
-  fresh_by = All-cons (λ v. (more : List ℕ) × (v ≡ before ++ entry.number ∷ more)) own deeper.visits ([], refl) (All-weaker (GoOn own) (λ v. (more : List ℕ) × (v ≡ before ++ entry.number ∷ more)) by_entry deeper.visits deeper.beyond)
+  fresh_by : All (λ v. (more : List ℕ) × (v ≡ before ++ number ∷ more)) fresh
+  fresh_by = All-cons (λ v. (more : List ℕ) × (v ≡ before ++ number ∷ more)) own deeper.visits ([], refl) (All-weaker (GoOn own) (λ v. (more : List ℕ) × (v ≡ before ++ number ∷ more)) by_number deeper.visits deeper.beyond)
 
   not_own : (v : List ℕ) → GoOn own v → own ≡ v → ⊥
   not_own v (p, more, e) same =
@@ -213,23 +212,23 @@ module _ (c : Context) (d : RowSet) (part : Part) (before : List ℕ) (entries :
       let equal : length own ≡ length (own ++ p ∷ more) = ap length (same ∙ e) in
       absurd (grows own p more (equal ∙ longer))
 
-  pub visits_more : Visiting c d part before (take (i + 1) entries) old new
+  pub visits_more : Visiting c d part before (take (i + 1) numbers) old new
   visits_more = record {
     visits = first.visits ++ fresh;
     each = All-append (IsVisit c d part) first.visits fresh first.each (All-cons (IsVisit c d part) own deeper.visits visit deeper.each);
-    beyond = All-append (By (take (i + 1) entries)) first.visits fresh
-        (All-weaker (By (take i entries)) (By (take (i + 1) entries)) (λ v b. (b.0, subst (λ es. Contains es b.0) (sym one_more) (Contains-append_left (take i entries) (entry ∷ []) b.0 b.1), b.2, b.3)) first.visits first.beyond)
-        (All-weaker (λ v. (more : List ℕ) × (v ≡ before ++ entry.number ∷ more)) (By (take (i + 1) entries)) (λ v b. (entry, subst (λ es. Contains es entry) (sym one_more) (Contains-push (take i entries) entry), b.0, b.1)) fresh fresh_by);
+    beyond = All-append (By (take (i + 1) numbers)) first.visits fresh
+        (All-weaker (By (take i numbers)) (By (take (i + 1) numbers)) (λ v b. (b.0, subst (λ es. Contains es b.0) (sym one_more) (Contains-append_left (take i numbers) (number ∷ []) b.0 b.1), b.2, b.3)) first.visits first.beyond)
+        (All-weaker (λ v. (more : List ℕ) × (v ≡ before ++ number ∷ more)) (By (take (i + 1) numbers)) (λ v b. (number, subst (λ es. Contains es number) (sym one_more) (Contains-push (take i numbers) number), b.0, b.1)) fresh fresh_by);
     distinct = pairs_append (λ x y. x ≢ y) first.visits fresh first.distinct
         (AllPairs-cons (λ x y. x ≢ y) own deeper.visits (All-weaker (GoOn own) (λ v. own ≢ v) not_own deeper.visits deeper.beyond) deeper.distinct)
-        (All-weaker (By (take i entries)) (λ x. All (λ y. x ≢ y) fresh) (λ x b. All-weaker (λ v. (more : List ℕ) × (v ≡ before ++ entry.number ∷ more)) (λ y. x ≢ y) (λ y f e. apart_by x y b f e) fresh fresh_by) first.visits first.beyond);
+        (All-weaker (By (take i numbers)) (λ x. All (λ y. x ≢ y) fresh) (λ x b. All-weaker (λ v. (more : List ℕ) × (v ≡ before ++ number ∷ more)) (λ y. x ≢ y) (λ y f e. apart_by x y b f e) fresh fresh_by) first.visits first.beyond);
     count = counted (length first.visits) (length deeper.visits) (length (first.visits ++ fresh)) (length-append first.visits fresh) first.count deeper.count;
   }
     where
-      apart_by : (x y : List ℕ) → By (take i entries) x → ((more : List ℕ) × (y ≡ before ++ entry.number ∷ more)) → x ≡ y → ⊥
+      apart_by : (x y : List ℕ) → By (take i numbers) x → ((more : List ℕ) × (y ≡ before ++ number ∷ more)) → x ≡ y → ⊥
       apart_by x y (e, there, more, x_is) (last, y_is) same =
-          differ before more last e.number entry.number
-          (unlike e.number entry.number (All-contains (λ x. same_number x entry ≡ false) (take i entries) e others there))
+          differ before more last e number
+          (unlike e number (All-contains (λ x. eqb x number ≡ false) (take i numbers) e others there))
           (sym x_is ∙ (same ∙ y_is))
 
       counted : (a b n : ℕ) → n ≡ a + suc b → mid ≤ old + a → new ≤ mid + 1 + b → new ≤ old + n
@@ -239,14 +238,14 @@ some_row : {X : Type 0} (o : Option X) (x y : X) → o ≡ Some x → o ≡ Some
 some_row o x y a b = let e : Some x ≡ Some y = sym a ∙ b in cc
 
 -- the first of the places, over the chosen rows
-module _ (c : Context) (d : RowSet) (part : Part) (chosen : List (List Value)) (places rest : List Place) (place : Place) (split : places ≡ place ∷ rest) (are : ArePlaces c d part (length chosen) places) (entries : List Entry) (candidates : AreCandidates c d part place.table chosen entries) (before : List ℕ) (at : Reached c d part (map table_of places) before chosen) where
-  pub steps_more : (i : ℕ) (entry : Entry) → i < length entries → entry ≡ get_or entries i entry → (row : List Value) → slice_get place.rows.now entry.number ≡ Some row → (deeper : List (List Value)) → deeper ≡ chosen ++ row ∷ [] → (old mid read new : ℕ) → read ≡ mid + 1 → Visiting c d part before (take i entries) old mid → ((positions : List ℕ) → Reached c d part (map table_of rest) positions deeper → Visited c d part positions read new) → Visiting c d part before (take (i + 1) entries) old new
-  steps_more i entry below here row row_is deeper e old mid read new tick first child =
+module _ (c : Context) (d : RowSet) (part : Part) (chosen : List (List Value)) (places rest : List Place) (place : Place) (split : places ≡ place ∷ rest) (are : ArePlaces c d part (length chosen) places) (numbers : List ℕ) (candidates : AreCandidates c d part place.table chosen numbers) (before : List ℕ) (at : Reached c d part (map table_of places) before chosen) where
+  pub steps_more : (i : ℕ) (number : ℕ) → i < length numbers → number ≡ get_or numbers i number → (row : List Value) → slice_get place.rows.now number ≡ Some row → (deeper : List (List Value)) → deeper ≡ chosen ++ row ∷ [] → (old mid read new : ℕ) → read ≡ mid + 1 → Visiting c d part before (take i numbers) old mid → ((positions : List ℕ) → Reached c d part (map table_of rest) positions deeper → Visited c d part positions read new) → Visiting c d part before (take (i + 1) numbers) old new
+  steps_more i number below here row row_is deeper e old mid read new tick first child =
       let own = subst (ArePlaces c d part (length chosen)) split are in
-      let in_table = subst (λ rows. slice_get rows entry.number ≡ Some row) own.0.rows_are row_is in
-      let s = candidates.sound entry (i, below, sym here) in
-      let due = subst (MeetsDue c part chosen) (some_row (slice_get (rows_of d place.table) entry.number) s.0 row s.1 in_table) s.2 in
+      let in_table = subst (λ rows. slice_get rows number ≡ Some row) own.0.rows_are row_is in
+      let s = candidates.sound number (i, below, sym here) in
+      let due = subst (MeetsDue c part chosen) (some_row (slice_get (rows_of d place.table) number) s.0 row s.1 in_table) s.2 in
       let here_at = subst (λ ps. Reached c d part (map table_of ps) before chosen) split at in
-      let further = reached c d part place.table (map table_of rest) before chosen here_at entry.number row in_table due in
-      let below_it = child (before ++ entry.number ∷ []) (subst (Reached c d part (map table_of rest) (before ++ entry.number ∷ [])) (sym e) further) in
-      visits_more c d part before entries candidates.distinct i entry below here (visit c d part place.table (map table_of rest) before chosen here_at entry.number row in_table due) old mid new first (subst (λ n. Visited c d part (before ++ entry.number ∷ []) n new) tick below_it)
+      let further = reached c d part place.table (map table_of rest) before chosen here_at number row in_table due in
+      let below_it = child (before ++ number ∷ []) (subst (Reached c d part (map table_of rest) (before ++ number ∷ [])) (sym e) further) in
+      visits_more c d part before numbers candidates.distinct i number below here (visit c d part place.table (map table_of rest) before chosen here_at number row in_table due) old mid new first (subst (λ n. Visited c d part (before ++ number ∷ []) n new) tick below_it)

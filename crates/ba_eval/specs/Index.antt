@@ -1,8 +1,10 @@
 -- How the rows of a place of a part are found by what equations tie them to.
-use Rattle.std.specs.Prelude.{⊤, ◌≡◌, ◌≢◌, ◌⊎◌, ℕ, ◌+◌, ◌<◌, Bool, List, [], ◌∷◌, ◌++◌, All, Contains, length, Option, Some, None, map, slice_get, eqb}
+use Rattle.std.specs.Prelude.{⊤, ◌≡◌, ◌≢◌, ◌⊎◌, ℕ, ◌+◌, ◌<◌, Bool, List, [], ◌∷◌, ◌++◌, All, Contains, length, Option, Some, None, map, slice_get, take, eqb}
 use Rattle.std.specs.Borrow.{Bor}
 use Rattle.std.specs.List.{IsDistinct}
 use Rattle.std.specs.List.Sorted.{IsPermutation, IsSortedByKey}
+use Rattle.ba_index.specs.Orders.{HaveFront, IsInOrder}
+use Rattle.ba_index.specs.declared.order.Order.{Order}
 use Rattle.ba_model.specs.Meaning.{rows_of, Holds}
 use Rattle.ba_model.specs.Order.{row_cmp}
 use Rattle.ba_model.specs.declared.policy.Context.{Context}
@@ -16,6 +18,8 @@ use Rattle.ba_model.specs.declared.value.Value.{Value}
 use Rattle.ba_model.specs.declared.value.Value.TheVariants.{Null, Int, Text}
 use Rattle.ba_eval.specs.declared.place.Entry.{Entry}
 use Rattle.ba_eval.specs.declared.place.Place.{Place}
+use Rattle.ba_eval.specs.declared.place.Source.{Source}
+use Rattle.ba_eval.specs.declared.place.Source.TheVariants.{Made, Kept}
 use Rattle.ba_eval.specs.declared.tie.Tie.{Tie}
 
 -- a value that something can be equal to: it is there and not NULL
@@ -45,12 +49,12 @@ StandsAt at (Val v) = ⊤
 StandsAt at (Param n) = ⊤
 StandsAt at (Var n) = ⊤
 
--- the operand is a column of an earlier place
-abbrev pub IsEarlier : ℕ → Operand → Type 0
-IsEarlier at (Col place column) = place < at
-IsEarlier at (Val v) = ⊥
-IsEarlier at (Param n) = ⊥
-IsEarlier at (Var n) = ⊥
+-- the operand has one value whatever rows stand at this place and those after it: it is a column of an earlier place, or none
+abbrev pub IsOutside : ℕ → Operand → Type 0
+IsOutside at (Col place column) = place < at
+IsOutside at (Val v) = ⊤
+IsOutside at (Param n) = ⊤
+IsOutside at (Var n) = ⊤
 
 -- the operand's value where its column is one of the row's
 abbrev pub value_in : Context → List Value → Operand → Option Value
@@ -69,13 +73,13 @@ pub record IsWithin (at : ℕ) (atom : Atom) : Type 0 where
 abbrev pub MeetsWithin : Context → ℕ → List Value → List Atom → Type 0
 MeetsWithin c at row = All (λ atom. IsWithin at atom → AreEqual (value_in c row atom.left) (value_in c row atom.right))
 
--- own is the tied column, and other a column of an earlier place
+-- own is the tied column, and other stands outside
 pub record Ties (at : ℕ) (own other : Operand) (tie : Tie) : Type 0 where
   pub own_is : own ≡ Col at tie.column
   pub other_is : other ≡ tie.other.now
-  pub earlier : IsEarlier at other
+  pub outside : IsOutside at other
 
--- the atom is an equation of the tied column and a column of an earlier place
+-- the atom is an equation of the tied column and what stands outside
 pub record IsTie (at : ℕ) (atom : Atom) (tie : Tie) : Type 0 where
   pub equation : atom.op ≡ Eq
   pub sides : Ties at atom.left atom.right tie ⊎ Ties at atom.right atom.left tie
@@ -151,28 +155,67 @@ abbrev pub HaveKeyIfAny : List Entry → Option (List (Bor Value)) → List Entr
 HaveKeyIfAny entries None found = found ≡ []
 HaveKeyIfAny entries (Some key) found = HaveKey entries (map (λ v. v.now) key) found
 
--- the place's index, whose entries stand by key
+-- the numbers of entries that are those with the key
+pub record HaveNumbers (entries : List Entry) (key : Option (List (Bor Value))) (numbers : List ℕ) : Type 0 where
+  pub found : List Entry
+  pub have : HaveKeyIfAny entries key found
+  pub are : numbers ≡ map (λ entry. entry.number) found
+
+-- an equation that the row at a place settles
+abbrev pub IsDue : ℕ → Atom → Type 0
+IsDue at atom = IsWithin at atom ⊎ ((tie : Tie) × IsTie at atom tie)
+
+-- some of the ties is the atom
+abbrev pub IsTied : ℕ → List Tie → Atom → Type 0
+IsTied at ties atom = (tie : Tie) × Contains ties tie × IsTie at atom tie
+
+-- every equation that the place settles is one of the ties
+abbrev pub IsCovered : ℕ → List Atom → List Tie → Type 0
+IsCovered at atoms ties = (atom : Atom) → Contains atoms atom → IsDue at atom → IsTied at ties atom
+
+-- the ties are some of these, on the first of the columns
+pub record IsFront (all : List Tie) (columns : List ℕ) (ties : List Tie) : Type 0 where
+  pub some : (tie : Tie) → Contains ties tie → Contains all tie
+  pub columns_are : map (λ tie. tie.column) ties ≡ take (length ties) columns
+
+-- an index that was made for the answer: the entries stand by key
+pub record IsMade (c : Context) (atoms : List Atom) (at : ℕ) (rows : List (List Value)) (ties : List Tie) (entries : List Entry) : Type 0 where
+  pub ties_are : AreTies at atoms ties
+  pub entered : Entered c atoms at rows ties (length rows) entries
+  pub sorted : IsSortedByKey key_of row_cmp entries
+
+-- an order of the rows whose first columns are tied by every equation that the place settles
+pub record IsKept (atoms : List Atom) (at : ℕ) (rows : List (List Value)) (ties : List Tie) (order : Order) : Type 0 where
+  pub order_is : IsInOrder rows order
+  pub columns_are : map (λ tie. tie.column) ties ≡ take (length ties) order.columns
+  pub sound : (tie : Tie) → Contains ties tie → (atom : Atom) × Contains atoms atom × IsTie at atom tie
+  pub complete : IsCovered at atoms ties
+
+abbrev pub IsSource : Context → List Atom → ℕ → List (List Value) → List Tie → Source → Type 0
+IsSource c atoms at rows ties (Made entries) = IsMade c atoms at rows ties entries.items
+IsSource c atoms at rows ties (Kept order) = IsKept atoms at rows ties order.now
+
+-- the place's index
 pub record IsPlace (c : Context) (d : RowSet) (part : Part) (at : ℕ) (place : Place) : Type 0 where
   pub rows_are : place.rows.now ≡ rows_of d place.table
-  pub ties_are : AreTies at part.conds place.ties.items
-  pub entered : Entered c part.conds at place.rows.now place.ties.items (length place.rows.now) place.entries.items
-  pub sorted : IsSortedByKey key_of row_cmp place.entries.items
+  pub source_is : IsSource c part.conds at place.rows.now place.ties.items place.source
+
+-- the numbers of the rows that have the key as their front in the order, or none without a key
+abbrev pub HaveFrontIfAny : List (List Value) → Order → Option (List (Bor Value)) → List ℕ → Type 0
+HaveFrontIfAny rows order None numbers = numbers ≡ []
+HaveFrontIfAny rows order (Some key) numbers = HaveFront rows order (map (λ v. v.now) key) numbers
 
 -- the indexes of further places, the first of them at this one
 abbrev pub ArePlaces : Context → RowSet → Part → ℕ → List Place → Type 0
 ArePlaces c d part at [] = ⊤
 ArePlaces c d part at (place ∷ places) = IsPlace c d part at place × ArePlaces c d part (at + 1) places
 
--- an equation that the row at a place settles
-abbrev pub IsDue : ℕ → Atom → Type 0
-IsDue at atom = IsWithin at atom ⊎ ((tie : Tie) × IsTie at atom tie)
-
 -- the row makes true beside the chosen rows what it settles
 abbrev pub MeetsDue : Context → Part → List (List Value) → List Value → Type 0
 MeetsDue c part chosen row = (atom : Atom) → Contains part.conds atom → IsDue (length chosen) atom → Holds c (chosen ++ row ∷ []) atom
 
--- the entries are those of exactly the rows that make true beside the chosen rows what they settle, each row once
-pub record AreCandidates (c : Context) (d : RowSet) (part : Part) (table : ℕ) (chosen : List (List Value)) (entries : List Entry) : Type 0 where
-  pub sound : (entry : Entry) → Contains entries entry → (row : List Value) × (slice_get (rows_of d table) entry.number ≡ Some row) × MeetsDue c part chosen row
-  pub complete : (number : ℕ) (row : List Value) → slice_get (rows_of d table) number ≡ Some row → MeetsDue c part chosen row → (entry : Entry) × Contains entries entry × (entry.number ≡ number)
-  pub distinct : IsDistinct same_number entries
+-- the numbers of exactly the rows that make true beside the chosen rows what they settle, each once
+pub record AreCandidates (c : Context) (d : RowSet) (part : Part) (table : ℕ) (chosen : List (List Value)) (numbers : List ℕ) : Type 0 where
+  pub sound : (number : ℕ) → Contains numbers number → (row : List Value) × (slice_get (rows_of d table) number ≡ Some row) × MeetsDue c part chosen row
+  pub complete : (number : ℕ) (row : List Value) → slice_get (rows_of d table) number ≡ Some row → MeetsDue c part chosen row → Contains numbers number
+  pub distinct : IsDistinct eqb numbers

@@ -1,13 +1,16 @@
-//! The answer of a query over a database: place by place of each part, by indexes that are made for the answer.
+//! The answer of a query over a database: place by place of each part, by the orders that the database keeps and by indexes that
+//! are made for the answer.
 #![tactic(auto)]
 
 mod found;
+mod kept;
 mod part;
 mod place;
 mod steps;
 mod tie;
 
-ghost use Rattle.std.specs.Prelude.{◌≡◌, ◌↔◌, ◌<◌, [], IsTrue, IfOk};
+ghost use Rattle.std.specs.Prelude.{◌≡◌, ◌↔◌, ◌<◌, [], All, IsTrue, IfOk};
+ghost use Rattle.ba_index.specs.Orders.{IsOrderOf};
 ghost use Rattle.ba_model.specs.Meaning.{InAnswer, IsAnswer};
 ghost use Rattle.ba_eval.specs.Search.{Adds};
 ghost use Rattle.ba_eval.specs.Visits.{StepsWithin};
@@ -15,6 +18,7 @@ ghost use Rattle.ba_eval.specs.Visits.{StepsWithin};
 use crate::found::Found;
 use crate::part::Search;
 use crate::place::places_of;
+use ba_index::{Indexed, Order};
 use ba_model::{Context, List, Query, Row, RowSet};
 use std::alloc::{AllocError, Global};
 use std::marker::Brand;
@@ -50,8 +54,54 @@ pub fn answer_counted<L: Ledger>(
     ensures answer { IfOk result (λ list. IsAnswer query.now ctx.now rows.now list) }
     ensures steps { StepsWithin ctx.now rows.now query.now.parts steps.old steps.new }
 {
-    let found = all_rows(alloc, rows, ctx, query, steps)?;
+    let found = all_rows(alloc, rows, &[], ctx, query, steps)?;
     Ok(found.in_order())
+}
+
+/// `answer` over rows with the orders of their keys.
+///
+/// Where equations tie the first columns of a key, and nothing else of the table, to constants, parameters or the tables before,
+/// the rows are found by that key's order: a question for the row with a key reads that row alone.
+pub fn answer_in(
+    alloc: Global,
+    rows: &Indexed,
+    ctx: &Context,
+    query: &Query,
+) -> Result<List<Row>, AllocError>
+    ensures { IfOk result (λ list. IsAnswer query.now ctx.now rows.now list) }
+{
+    answer_in_with::<Brand>(alloc, rows, ctx, query, Blank::new(1))
+}
+
+/// `answer_in`, which tells how many rows it reads: never more than [`answer_counted`] may.
+pub fn answer_in_counted<L: Ledger>(
+    alloc: Global,
+    rows: &Indexed,
+    ctx: &Context,
+    query: &Query,
+    steps: &mut Steps<L>,
+) -> Result<List<Row>, AllocError>
+    ensures answer { IfOk result (λ list. IsAnswer query.now ctx.now rows.now list) }
+    ensures steps { StepsWithin ctx.now rows.now query.now.parts steps.old steps.new }
+{
+    let found = all_rows(alloc, rows.rows(), rows.orders(), ctx, query, steps)?;
+    Ok(found.in_order())
+}
+
+fn answer_in_with<L: Ledger>(
+    alloc: Global,
+    rows: &Indexed,
+    ctx: &Context,
+    query: &Query,
+    blank: Blank,
+) -> Result<List<Row>, AllocError>
+    requires name { blank.name ≡ L.name }
+    requires parts { blank.parts ≡ L.parts }
+    requires some { 0 < blank.parts }
+    ensures { IfOk result (λ list. IsAnswer query.now ctx.now rows.now list) }
+{
+    let mut steps = Steps::<L>::new(blank);
+    answer_in_counted(alloc, rows, ctx, query, &mut steps)
 }
 
 fn answer_with<L: Ledger>(
@@ -82,7 +132,12 @@ pub fn contains(
 {
     for part in query.parts.as_slice() {
         let mut chosen = Vec::new(alloc);
-        let search = Search { rows, ctx, part };
+        let search = Search {
+            rows,
+            orders: &[],
+            ctx,
+            part,
+        };
         let found = search.finds(part.from.as_slice(), &mut chosen, row)?;
         if found {
             return Ok(true);
@@ -95,17 +150,24 @@ pub fn contains(
 fn all_rows<L: Ledger>(
     alloc: Global,
     rows: &RowSet,
+    orders: &[Order],
     ctx: &Context,
     query: &Query,
     steps: &mut Steps<L>,
 ) -> Result<Found, AllocError>
+    requires { All (IsOrderOf rows.now) orders.now }
     ensures found { IfOk result (λ found. Adds (InAnswer query.now ctx.now rows.now) [] found) }
     ensures steps { StepsWithin ctx.now rows.now query.now.parts steps.old steps.new }
 {
     let mut found = Found::new(alloc);
     for part in query.parts.as_slice() {
         let mut chosen = Vec::new(alloc);
-        let search = Search { rows, ctx, part };
+        let search = Search {
+            rows,
+            orders,
+            ctx,
+            part,
+        };
         let places = places_of(alloc, &search, steps)?;
         search.gather(alloc, places.as_slice(), &mut chosen, &mut found, steps)?;
     }

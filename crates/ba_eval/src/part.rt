@@ -10,6 +10,7 @@ ghost use Rattle.ba_eval.specs.Search.{Adds, Fails, GivesFrom, IsHead};
 use crate::found::Found;
 use crate::place::{Place, read_row};
 use crate::steps::Steps;
+use ba_index::Order;
 use ba_model::{Atom, Context, Duplicate, List, Operand, Part, Row, RowSet, Same, Value};
 use std::alloc::{AllocError, Global};
 use std::sync::ledger::Ledger;
@@ -18,6 +19,8 @@ use std::sync::ledger::Ledger;
 #[derive(Drop)]
 pub struct Search<'a> {
     pub rows: &'a RowSet,
+    /// Orders of the tables' rows, if any are kept.
+    pub orders: &'a [Order],
     pub ctx: &'a Context,
     pub part: &'a Part,
 }
@@ -43,9 +46,9 @@ impl<'a> Search<'a> {
                 if self.fails(chosen) {
                     return Ok(());
                 }
-                let entries = place.candidates(alloc, self, chosen)?;
-                for entry in entries {
-                    chosen.push(read_row(place.rows, entry.number, steps))?;
+                let numbers = place.candidates(alloc, self, chosen)?;
+                for number in numbers.as_slice() {
+                    chosen.push(read_row(place.rows, *number, steps))?;
                     self.gather(alloc, rest, chosen, found, steps)?;
                     chosen.pop();
                 }

@@ -1,14 +1,17 @@
 //! The rows that a place of a part can take, found by the values that equations tie them to.
-ghost use Rattle.std.specs.Prelude.{◌≡◌, ◌+◌, ◌<◌, ◌≤◌, IfOk, Some, length, map, slice_get};
+ghost use Rattle.std.specs.Prelude.{◌≡◌, ◌+◌, ◌<◌, ◌≤◌, All, IfOk, Some, length, map, slice_get};
 ghost use Rattle.ba_eval.specs.Visits.{rows_read};
 ghost use Rattle.ba_model.specs.Meaning.{rows_of};
-ghost use Rattle.ba_eval.specs.Index.{key_of, AreCandidates, ArePlaces, Entered, HaveKey, HaveKeyIfAny, IsEntryOf, IsOrdered, IsPlace};
+ghost use Rattle.ba_eval.specs.Index.{key_of, AreCandidates, ArePlaces, AreTies, Entered, HaveKey, HaveKeyIfAny, HaveNumbers, IsEntryOf, IsOrdered, IsPlace};
+ghost use Rattle.ba_index.specs.Orders.{IsOrderOf};
 ghost use Rattle.ba_model.specs.Order.{row_cmp};
 ghost use Rattle.std.specs.List.Sorted.{IsSortedByKey};
 
+use crate::kept::{kept_by, numbers_in_order};
 use crate::part::{Search, rows_of_table};
 use crate::steps::Steps;
 use crate::tie::{Tie, key_of_chosen, key_of_row, meets_within, ties_of};
+use ba_index::Order;
 use ba_model::{List, Row, Value};
 use std::alloc::{AllocError, Global};
 use std::cmp::Ordering;
@@ -21,14 +24,23 @@ pub struct Entry<'a> {
     pub number: usize,
 }
 
-/// A place of a part: the rows of its table that meet the equations within the place, by the values of the columns
-/// that equations tie to earlier places.
+/// What the rows of a place are found by.
+#[derive(Drop)]
+pub enum Source<'a> {
+    /// The entries of the table's rows that meet the equations within the place, by key.
+    Made(Vec<Entry<'a>>),
+    /// An order of the table, whose first columns are tied by every equation that the place settles.
+    Kept(&'a Order),
+}
+
+/// A place of a part: an index of its table's rows by the columns that equations tie to what stands outside the place and
+/// those after it.
 #[derive(Drop)]
 pub struct Place<'a> {
     pub table: u32,
     pub rows: &'a [Row],
     pub ties: Vec<Tie<'a>>,
-    pub entries: Vec<Entry<'a>>,
+    pub source: Source<'a>,
 }
 
 impl<'a> Place<'a> {
@@ -40,45 +52,93 @@ impl<'a> Place<'a> {
         table: u32,
         steps: &mut Steps<L>,
     ) -> Result<Place<'a>, AllocError>
+        requires { All (IsOrderOf search.now.rows.now) search.now.orders.now }
         ensures table { IfOk result (λ place. place.table ≡ table) }
         ensures place { IfOk result (IsPlace search.now.ctx.now search.now.rows.now search.now.part.now at) }
         ensures steps { steps.new ≤ steps.old + length (rows_of search.now.rows.now table) }
     {
         let rows = rows_of_table(search.rows, table);
         let ties = ties_of(alloc, search.part.conds.as_slice(), at)?;
+        let kept = kept_by(alloc, search, at, table, ties.as_slice())?;
+        match kept {
+            Some(by) => Ok(Place {
+                table,
+                rows,
+                ties: by.ties,
+                source: Source::Kept(by.order),
+            }),
+            None => Place::made(alloc, search, at, table, ties, steps),
+        }
+    }
+
+    /// The place over an index that is made for the answer. Each row of the table is read once.
+    fn made<L: Ledger>(
+        alloc: Global,
+        search: &Search<'a>,
+        at: usize,
+        table: u32,
+        ties: Vec<Tie<'a>>,
+        steps: &mut Steps<L>,
+    ) -> Result<Place<'a>, AllocError>
+        requires { AreTies at search.now.part.now.conds ties.items }
+        ensures table { IfOk result (λ place. place.table ≡ table) }
+        ensures place { IfOk result (IsPlace search.now.ctx.now search.now.rows.now search.now.part.now at) }
+        ensures steps { steps.new ≤ steps.old + length (rows_of search.now.rows.now table) }
+    {
+        let rows = rows_of_table(search.rows, table);
         let mut entries = entries_of(alloc, search, at, rows, ties.as_slice(), steps)?;
         put_in_order(&mut entries);
         Ok(Place {
             table,
             rows,
             ties,
-            entries,
+            source: Source::Made(entries),
         })
     }
 
-    /// The entries of exactly the rows that make the place's equations true beside the chosen rows.
+    /// The numbers of exactly the rows that make the place's equations true beside the chosen rows.
     pub fn candidates(
         &self,
         alloc: Global,
         search: &Search<'a>,
         chosen: &[&'a Row],
-    ) -> Result<&[Entry<'a>], AllocError>
+    ) -> Result<Vec<usize>, AllocError>
         requires { IsPlace search.now.ctx.now search.now.rows.now search.now.part.now (length (map (λ row. row.now) chosen.now)) self.now }
-        ensures { IfOk result (λ entries. AreCandidates search.now.ctx.now search.now.rows.now search.now.part.now self.now.table (map (λ row. row.now) chosen.now) entries.now) }
+        ensures { IfOk result (λ numbers. AreCandidates search.now.ctx.now search.now.rows.now search.now.part.now self.now.table (map (λ row. row.now) chosen.now) numbers.items) }
     {
         let key = key_of_chosen(alloc, self.ties.as_slice(), search.ctx, chosen)?;
-        Ok(self.entries_at(&key))
-    }
-
-    /// The entries that have the key.
-    fn entries_at<'b>(&'b self, key: &Option<List<&'a Value>>) -> &'b [Entry<'a>]
-        requires { IsSortedByKey key_of row_cmp self.now.entries.items }
-        ensures { HaveKeyIfAny self.now.entries.items key.now result.now }
-    {
-        match key {
-            Some(values) => entries_with(self.entries.as_slice(), values.as_slice()),
-            None => &[],
+        match &self.source {
+            Source::Made(entries) => numbers_at(alloc, entries.as_slice(), &key),
+            Source::Kept(order) => numbers_in_order(alloc, order, self.rows, &key),
         }
+    }
+}
+
+/// The numbers of the entries that have the key.
+fn numbers_at<'a>(
+    alloc: Global,
+    entries: &[Entry<'a>],
+    key: &Option<List<&'a Value>>,
+) -> Result<Vec<usize>, AllocError>
+    requires { IsSortedByKey key_of row_cmp entries.now }
+    ensures { IfOk result (λ numbers. HaveNumbers entries.now key.now numbers.items) }
+{
+    let found = entries_at(entries, key);
+    let mut numbers = Vec::new(alloc);
+    for entry in found {
+        numbers.push(entry.number)?;
+    }
+    Ok(numbers)
+}
+
+/// The entries that have the key.
+fn entries_at<'b, 'a>(entries: &'b [Entry<'a>], key: &Option<List<&'a Value>>) -> &'b [Entry<'a>]
+    requires { IsSortedByKey key_of row_cmp entries.now }
+    ensures { HaveKeyIfAny entries.now key.now result.now }
+{
+    match key {
+        Some(values) => entries_with(entries, values.as_slice()),
+        None => &[],
     }
 }
 
@@ -163,12 +223,13 @@ fn key_order(a: &[&Value], b: &[&Value]) -> Ordering
     a.cmp(b)
 }
 
-/// The places of the part in turn. Each row of their tables is read once.
+/// The places of the part in turn. Each row of their tables is read once at most.
 pub fn places_of<'a, L: Ledger>(
     alloc: Global,
     search: &Search<'a>,
     steps: &mut Steps<L>,
 ) -> Result<Vec<Place<'a>>, AllocError>
+    requires { All (IsOrderOf search.now.rows.now) search.now.orders.now }
     ensures tables { IfOk result (λ places. map (λ place. place.table) places.items ≡ search.now.part.now.from) }
     ensures places { IfOk result (λ places. ArePlaces search.now.ctx.now search.now.rows.now search.now.part.now 0 places.items) }
     ensures steps { steps.new ≤ steps.old + rows_read search.now.rows.now search.now.part.now }

@@ -1,14 +1,14 @@
 //! The equations of a part that a place of it can be searched by.
 ghost use Rattle.std.specs.Prelude.{◌≡◌, ◌↔◌, IsTrue, IfOk, map};
 ghost use Rattle.std.specs.Option.{option_copied};
-ghost use Rattle.ba_eval.specs.Index.{known, value_in, AreEqual, AreTies, IsEarlier, IsKey, IsTieOf, IsWithin, MeetsWithin, StandsAt, TieBetween};
+ghost use Rattle.ba_eval.specs.Index.{known, value_in, AreEqual, AreTies, IsKey, IsOutside, IsTieOf, IsWithin, MeetsWithin, StandsAt, TieBetween};
 ghost use Rattle.ba_model.specs.Meaning.{value_of};
 ghost use Rattle.std.specs.Prelude.{slice_get};
 
 use ba_model::{Atom, Context, List, Op, Operand, Row, Same, Value};
 use std::alloc::{AllocError, Global};
 
-/// An equation of a column of a place's table with a column of an earlier place.
+/// An equation of a column of a place's table with a column of an earlier place, a constant or a parameter.
 #[derive(Drop)]
 pub struct Tie<'a> {
     pub column: u32,
@@ -29,7 +29,8 @@ pub fn ties_of<'a>(alloc: Global, atoms: &'a [Atom], at: usize) -> Result<Vec<Ti
     Ok(ties)
 }
 
-fn tie_of<'a>(atom: &'a Atom, at: usize) -> Option<Tie<'a>>
+/// The tie that the atom is, if it is one.
+pub fn tie_of<'a>(atom: &'a Atom, at: usize) -> Option<Tie<'a>>
     ensures { IsTieOf at atom.now result }
 {
     match atom.op {
@@ -41,13 +42,13 @@ fn tie_of<'a>(atom: &'a Atom, at: usize) -> Option<Tie<'a>>
     }
 }
 
-/// The tie of an own column to a column of an earlier place, if they are these.
+/// The tie of an own column to what stands outside the place and those after it, if they are these.
 fn tie_between<'a>(own: &Operand, other: &'a Operand, at: usize) -> Option<Tie<'a>>
     ensures { TieBetween at own.now other.now result }
 {
     match own {
         Operand::Col(place, column) => {
-            if *place as usize == at && is_earlier(other, at) {
+            if *place as usize == at && is_outside(other, at) {
                 Some(Tie {
                     column: *column,
                     other,
@@ -60,12 +61,13 @@ fn tie_between<'a>(own: &Operand, other: &'a Operand, at: usize) -> Option<Tie<'
     }
 }
 
-fn is_earlier(operand: &Operand, at: usize) -> bool
-    ensures { IsTrue result ↔ IsEarlier at operand.now }
+/// Whether the operand's value is the same whatever rows stand at this place and those after it.
+fn is_outside(operand: &Operand, at: usize) -> bool
+    ensures { IsTrue result ↔ IsOutside at operand.now }
 {
     match operand {
         Operand::Col(place, _) => (*place as usize) < at,
-        _ => false,
+        _ => true,
     }
 }
 
@@ -76,7 +78,8 @@ pub fn meets_within(atoms: &[Atom], ctx: &Context, at: usize, row: &Row) -> bool
     atoms.iter().all(|atom| !is_within(atom, at) || are_equal_in(atom, ctx, row))
 }
 
-fn is_within(atom: &Atom, at: usize) -> bool
+/// Whether the atom is an equation whose columns all stand at the place.
+pub fn is_within(atom: &Atom, at: usize) -> bool
     ensures { IsTrue result ↔ IsWithin at atom.now }
 {
     match atom.op {
