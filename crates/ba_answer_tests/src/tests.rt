@@ -1,3 +1,4 @@
 mod answers;
+mod compared;
 mod covers;
 mod written;
