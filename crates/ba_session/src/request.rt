@@ -13,9 +13,10 @@ use crate::judge::Judgement;
 use crate::reply::Reply;
 use ba_comply::laws::answer_everywhere;
 use ba_comply::{Trace, TraceEntry};
-use ba_eval::answer;
+use ba_eval::answer_in;
+use ba_index::Indexed;
 use ba_kernel::laws::answers_are_records;
-use ba_model::{Context, Duplicate, Failure, Policy, Query, RowSet, Shared};
+use ba_model::{Context, Duplicate, Failure, Policy, Query, Shared};
 use ba_sql_query::{ReadQueryFault, read_query};
 use ba_tables::Tables;
 use std::alloc::{AllocError, Global};
@@ -71,7 +72,7 @@ impl Request {
         ensures asker { IsAsker policy.now tables.now.rows self.new }
     {
         match read(alloc, policy, text) {
-            Ok(query) => match self.reply_to(alloc, policy, tables.rows(), budget, query) {
+            Ok(query) => match self.reply_to(alloc, policy, tables.indexed(), budget, query) {
                 Ok(reply) => reply,
                 Err(_) => Reply::NoMemory,
             },
@@ -85,7 +86,7 @@ impl Request {
         &mut self,
         alloc: Global,
         policy: &Shared<Policy>,
-        rows: &RowSet,
+        rows: &Indexed,
         budget: u32,
         query: Query,
     ) -> Result<Reply, AllocError>
@@ -108,7 +109,7 @@ impl Request {
         &self,
         alloc: Global,
         policy: &Shared<Policy>,
-        rows: &RowSet,
+        rows: &Indexed,
         budget: u32,
         query: Shared<Query>,
     ) -> Result<Reply, AllocError>
@@ -122,7 +123,7 @@ impl Request {
         let judgement = self.judge(alloc, policy, budget, &query)?;
         match judgement {
             Judgement::Allow(by) => {
-                let found = answer(alloc, rows, &self.context, &query)?;
+                let found = answer_in(alloc, rows, &self.context, &query)?;
                 let rows = Shared::new(alloc, found)?;
                 Ok(Reply::Answer { query, rows, by })
             }
