@@ -103,7 +103,7 @@ once_at j i is false e n rest =
     (suc k.0, record { there = k.1.there; only = only_later j i is k.0 e k.1.only })
 
 -- a place that is counted once is met at one place
-once_from_count : (j : ℕ) (to : List ℕ) → count_by (λ i. i == j) to ≡ 1 → (i : ℕ) × IsOnly to j i
+pub once_from_count : (j : ℕ) (to : List ℕ) → count_by (λ i. i == j) to ≡ 1 → (i : ℕ) × IsOnly to j i
 once_from_count j [] e = absurd (omega (arith, e))
 once_from_count j (i ∷ is) e = once_at j i is (i == j) refl e (once_from_count j is)
 

@@ -19,11 +19,11 @@ use Rattle.ba_model.specs.declared.value.Value.{Value}
 use Rattle.ba_direct.specs.Cover.{CoversBy, HasImage, IsImage, IsKnown, IsOutput, Maps, MapsAtom, PairsTables, SameConstant, constant_of}
 use Rattle.ba_direct.specs.Test as test
 
-and_both : (b d : Bool) → (b && d) ≡ true → (b ≡ true) × (d ≡ true)
+pub and_both : (b d : Bool) → (b && d) ≡ true → (b ≡ true) × (d ≡ true)
 and_both true d e = (refl, e)
 and_both false d e = cc
 
-and_true : (b d : Bool) → b ≡ true → d ≡ true → (b && d) ≡ true
+pub and_true : (b d : Bool) → b ≡ true → d ≡ true → (b && d) ≡ true
 and_true b d p q = rw (p, q) refl
 
 both_decide : {P Q : Type 0} (b d : Bool) → Decides b P → Decides d Q → Decides (b && d) (P × Q)
@@ -63,7 +63,7 @@ number_decides : (o : Option ℕ) (n : ℕ) → Decides (test.is_number o n) (o 
 number_decides None n = (λ e. cc, λ e. cc)
 number_decides (Some i) n = (λ e. ap Some (eqb-true i n e), λ e. eq-eqb i n (cc))
 
-equal_decides : (i n : ℕ) → Decides (i == n) (i ≡ n)
+pub equal_decides : (i n : ℕ) → Decides (i == n) (i ≡ n)
 equal_decides i n = (eqb-true i n, eq-eqb i n)
 
 op_decides : (a b : Op) → Decides (test.same_op a b) (a ≡ b)
@@ -140,7 +140,7 @@ module _ (c : Context) (to : List ℕ) where
         λ (place, there, is). any.1 (Col place column, there, record { place = place; is = refl; paired_is = is }),
       )
 
-  known_decides : (view : Part) (x : Operand) → Decides (test.is_known c to view x) (IsKnown c to view x)
+  pub known_decides : (view : Part) (x : Operand) → Decides (test.is_known c to view x) (IsKnown c to view x)
   known_decides view (Col paired column) = output_decides view paired column
   known_decides view (Val v) = (λ e. tt, λ h. refl)
   known_decides view (Param n) = some_decides (slice_get c.values n)
@@ -149,7 +149,7 @@ module _ (c : Context) (to : List ℕ) where
   image_decides : (q : Part) (a : Atom) → Decides (test.has_image c to q a) (HasImage c to q a)
   image_decides q a = any_decides (test.maps_atom c to a) (MapsAtom c to a) (atom_decides a) q.conds
 
-  covered_decides : (view : Part) (b : Atom) → Decides (test.is_covered_atom c to view b) (IsImage c to view b ⊎ (IsKnown c to view b.left × IsKnown c to view b.right))
+  pub covered_decides : (view : Part) (b : Atom) → Decides (test.is_covered_atom c to view b) (IsImage c to view b ⊎ (IsKnown c to view b.left × IsKnown c to view b.right))
   covered_decides view b =
       either_decides _ _ (any_decides (λ a. test.maps_atom c to a b) (λ a. MapsAtom c to a b) (λ a. atom_decides a b) view.conds)
       (both_decide _ _ (known_decides view b.left) (known_decides view b.right))
@@ -181,7 +181,7 @@ begun_atom : (c : Context) (to more : List ℕ) (a b : Atom) → test.is_reached
 begun_atom c to more a b left right (inl (op, l, r)) = inl (op, begun_maps c to more a.left b.left left l, begun_maps c to more a.right b.right right r)
 begun_atom c to more a b left right (inr (is, too, l, r)) = inr (is, too, begun_maps c to more a.left b.right left l, begun_maps c to more a.right b.left right r)
 
-if_true : (b d : Bool) → (b ≡ true → d ≡ true) → (if b then d else true) ≡ true
+pub if_true : (b d : Bool) → (b ≡ true → d ≡ true) → (if b then d else true) ≡ true
 if_true true d f = f refl
 if_true false d f = refl
 

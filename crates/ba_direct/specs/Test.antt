@@ -77,3 +77,20 @@ is_reached to _ = true
 -- what the view's atom owes as soon as its tables are paired
 abbrev pub may_have_image : Context → List ℕ → Part → Atom → Bool
 may_have_image c to q a = if is_reached to a.left && is_reached to a.right then has_image c to q a else true
+
+-- the query's operand is no column, or one of a place that is paired so far
+abbrev pub is_settled : List ℕ → Operand → Bool
+is_settled to (Col paired column) = list_any (λ i. i == paired) to
+is_settled to _ = true
+
+-- what the query's operand owes, of its head, as soon as its place is paired
+abbrev pub may_be_known : Context → List ℕ → Part → Operand → Bool
+may_be_known c to view x = if is_settled to x then is_known c to view x else true
+
+-- what the query's atom owes as soon as its places are paired
+abbrev pub may_be_covered : Context → List ℕ → Part → Atom → Bool
+may_be_covered c to view b = if is_settled to b.left && is_settled to b.right then is_covered_atom c to view b else true
+
+-- what a cover asks of the tables that are paired so far
+abbrev pub may_cover : Context → Part → Part → List ℕ → Bool
+may_cover c view q to = list_all (may_have_image c to q) view.conds && (list_all (may_be_covered c to view) q.conds && list_all (may_be_known c to view) q.head)

@@ -4,7 +4,7 @@ ghost use Rattle.std.specs.Bool.{OnTrue, OnFalse};
 ghost use Rattle.ba_direct.specs.Cover.{PairsTables, CoversBy};
 ghost use Rattle.ba_direct.specs.Search.{NoneFrom, IsFirstFrom};
 
-use crate::test::{all_may_have_images, operands_covered};
+use crate::test::{may_cover, operands_covered};
 use ba_model::{Context, Part};
 use std::alloc::AllocError;
 
@@ -87,11 +87,12 @@ fn may_pair(view: &Part, part: &Part, to: &[usize], place: usize) -> bool
     table(view.from.as_slice(), to.len()) == table(part.from.as_slice(), place)
 }
 
-/// Whether the pairing may go on: each atom of the view whose tables are paired has its image.
+/// Whether the pairing may go on: by the tables that are paired each atom of the view has its image, and what the query has of
+/// them is known.
 fn may_go_on(ctx: &Context, view: &Part, part: &Part, to: &[usize]) -> bool
     ensures { OnFalse result (NoneFrom ctx.now view.now part.now to.now) }
 {
-    all_may_have_images(ctx, to, part, view.conds.as_slice())
+    may_cover(ctx, view, part, to)
 }
 
 /// Completes the pairing to the first by which the view's part covers the query's, if there is one.

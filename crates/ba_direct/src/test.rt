@@ -1,9 +1,9 @@
 //! The tests of operands and atoms under a pairing.
-ghost use Rattle.std.specs.Prelude.{◌≡◌, slice_get};
+ghost use Rattle.std.specs.Prelude.{◌≡◌, ◌==◌, slice_get};
 ghost use Rattle.std.specs.Option.{option_copied};
 ghost use Rattle.std.specs.List.{list_all, list_any};
 ghost use Rattle.ba_direct.specs.Cover.{constant_of};
-ghost use Rattle.ba_direct.specs.Test.{same_op as same_op_test, is_equation as is_equation_test, same_value, is_number, maps as maps_test, maps_atom as maps_atom_test, outputs as outputs_test, is_known as is_known_test, has_image as has_image_test, is_covered_atom as is_covered_atom_test, operands_covered as operands_covered_test, is_reached as is_reached_test, may_have_image as may_have_image_test};
+ghost use Rattle.ba_direct.specs.Test.{same_op as same_op_test, is_equation as is_equation_test, same_value, is_number, maps as maps_test, maps_atom as maps_atom_test, outputs as outputs_test, is_known as is_known_test, has_image as has_image_test, is_covered_atom as is_covered_atom_test, operands_covered as operands_covered_test, is_reached as is_reached_test, may_have_image as may_have_image_test, is_settled as is_settled_test, may_be_known as may_be_known_test, may_be_covered as may_be_covered_test, may_cover as may_cover_test};
 
 use ba_model::{Atom, Context, Op, Operand, Part, Value};
 
@@ -187,9 +187,69 @@ fn may_have_image(ctx: &Context, to: &[usize], part: &Part, atom: &Atom) -> bool
     }
 }
 
-/// Whether each atom of the view whose tables are paired so far has its image in the query.
-pub fn all_may_have_images(ctx: &Context, to: &[usize], part: &Part, atoms: &[Atom]) -> bool
+fn all_may_have_images(ctx: &Context, to: &[usize], part: &Part, atoms: &[Atom]) -> bool
     ensures { result ≡ list_all (may_have_image_test ctx.now to.now part.now) atoms.now }
 {
     atoms.iter().all(|atom| may_have_image(ctx, to, part, atom))
+}
+
+/// Whether a table of the view is paired with the query's place so far.
+fn is_taken(to: &[usize], paired: u32) -> bool
+    ensures { result ≡ list_any (λ i. i == paired) to.now }
+{
+    to.iter().any(|i| *i == paired as usize)
+}
+
+/// Whether the query's operand is no column, or one of a place that is paired so far.
+fn is_settled(to: &[usize], mine: &Operand) -> bool
+    ensures { result ≡ is_settled_test to.now mine.now }
+{
+    match mine {
+        Operand::Col(paired, _) => is_taken(to, *paired),
+        _ => true,
+    }
+}
+
+fn may_be_known(ctx: &Context, to: &[usize], view: &Part, mine: &Operand) -> bool
+    ensures { result ≡ may_be_known_test ctx.now to.now view.now mine.now }
+{
+    if is_settled(to, mine) {
+        is_known(ctx, to, view, mine)
+    } else {
+        true
+    }
+}
+
+fn may_be_covered(ctx: &Context, to: &[usize], view: &Part, mine: &Atom) -> bool
+    ensures { result ≡ may_be_covered_test ctx.now to.now view.now mine.now }
+{
+    if is_settled(to, &mine.left) && is_settled(to, &mine.right) {
+        is_covered_atom(ctx, to, view, mine)
+    } else {
+        true
+    }
+}
+
+fn all_may_be_covered(ctx: &Context, to: &[usize], view: &Part, atoms: &[Atom]) -> bool
+    ensures { result ≡ list_all (may_be_covered_test ctx.now to.now view.now) atoms.now }
+{
+    atoms.iter().all(|atom| may_be_covered(ctx, to, view, atom))
+}
+
+fn all_may_be_known(ctx: &Context, to: &[usize], view: &Part, operands: &[Operand]) -> bool
+    ensures { result ≡ list_all (may_be_known_test ctx.now to.now view.now) operands.now }
+{
+    operands
+        .iter()
+        .all(|operand| may_be_known(ctx, to, view, operand))
+}
+
+/// Whether each atom of the view whose tables are paired so far has its image in the query, and the query's other atoms and what
+/// its head has of these tables are known by the view.
+pub fn may_cover(ctx: &Context, view: &Part, part: &Part, to: &[usize]) -> bool
+    ensures { result ≡ may_cover_test ctx.now view.now part.now to.now }
+{
+    all_may_have_images(ctx, to, part, view.conds.as_slice())
+        && (all_may_be_covered(ctx, to, view, part.conds.as_slice())
+            && all_may_be_known(ctx, to, view, part.head.as_slice()))
 }
