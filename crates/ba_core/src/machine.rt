@@ -17,7 +17,7 @@ use crate::opened::{Answered, Opened};
 use crate::requests::{close, keep, put};
 use ba_comply::Trace;
 use ba_comply::laws::strong_complies;
-use ba_eval::answer_in;
+use ba_eval::answer_indexed;
 use ba_facts::number_of;
 use ba_model::{Context, Failure, List, Policy, Query, Row, Shared};
 use ba_tables::Tables;
@@ -243,7 +243,7 @@ impl Core {
         ensures { IfOk result (IsAnswerIn self.now asker.now query.now) }
     {
         let tables = self.tables_of(asker);
-        let rows = answer_in(self.alloc, tables.indexed(), &asker.context, query)?;
+        let rows = answer_indexed(self.alloc, tables.indexed(), &asker.context, query)?;
         Shared::new(self.alloc, rows)
     }
 

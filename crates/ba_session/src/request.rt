@@ -13,7 +13,7 @@ use crate::judge::Judgement;
 use crate::reply::Reply;
 use ba_comply::laws::answer_everywhere;
 use ba_comply::{Trace, TraceEntry};
-use ba_eval::answer_in;
+use ba_eval::answer_indexed;
 use ba_index::Indexed;
 use ba_kernel::laws::answers_are_records;
 use ba_model::{Context, Duplicate, Failure, Policy, Query, Shared};
@@ -123,7 +123,7 @@ impl Request {
         let judgement = self.judge(alloc, policy, budget, &query)?;
         match judgement {
             Judgement::Allow(by) => {
-                let found = answer_in(alloc, rows, &self.context, &query)?;
+                let found = answer_indexed(alloc, rows, &self.context, &query)?;
                 let rows = Shared::new(alloc, found)?;
                 Ok(Reply::Answer { query, rows, by })
             }

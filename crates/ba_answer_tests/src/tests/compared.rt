@@ -1,7 +1,7 @@
 //! Answers by index beside answers by nested loops, over generated tables.
 
 use super::written::{Handle, context, policy, query};
-use ba_eval::{answer, answer_in};
+use ba_eval::{answer, answer_indexed};
 use ba_index::Indexed;
 use ba_model::{List, Policy, Row, RowSet, Str, Value};
 
@@ -57,7 +57,7 @@ fn agree(rt: &impl Handle, policy: &Policy, question: &str, seed: u64) -> bool {
     let plain = ba_plain::answer(rt.alloc(), &rows, &ctx, &query).expect(rt, "memory");
     let made = answer(rt.alloc(), &rows, &ctx, &query).expect(rt, "memory");
     let indexed = Indexed::new(rt.alloc(), &policy.schema.tables, rows).expect(rt, "memory");
-    let kept = answer_in(rt.alloc(), &indexed, &ctx, &query).expect(rt, "memory");
+    let kept = answer_indexed(rt.alloc(), &indexed, &ctx, &query).expect(rt, "memory");
     plain == made && plain == kept
 }
 
