@@ -62,7 +62,7 @@ pub fn answer_counted<L: Ledger>(
 ///
 /// Where equations tie the first columns of a key, and nothing else of the table, to constants, parameters or the tables before,
 /// the rows are found by that key's order: a question for the row with a key reads that row alone.
-pub fn answer_in(
+pub fn answer_indexed(
     alloc: Global,
     rows: &Indexed,
     ctx: &Context,
@@ -70,11 +70,11 @@ pub fn answer_in(
 ) -> Result<List<Row>, AllocError>
     ensures { IfOk result (λ list. IsAnswer query.now ctx.now rows.now list) }
 {
-    answer_in_with::<Brand>(alloc, rows, ctx, query, Blank::new(1))
+    answer_indexed_with::<Brand>(alloc, rows, ctx, query, Blank::new(1))
 }
 
-/// `answer_in`, which tells how many rows it reads: never more than [`answer_counted`] may.
-pub fn answer_in_counted<L: Ledger>(
+/// `answer_indexed`, which tells how many rows it reads: never more than [`answer_counted`] may.
+pub fn answer_indexed_counted<L: Ledger>(
     alloc: Global,
     rows: &Indexed,
     ctx: &Context,
@@ -88,7 +88,7 @@ pub fn answer_in_counted<L: Ledger>(
     Ok(found.in_order())
 }
 
-fn answer_in_with<L: Ledger>(
+fn answer_indexed_with<L: Ledger>(
     alloc: Global,
     rows: &Indexed,
     ctx: &Context,
@@ -101,7 +101,7 @@ fn answer_in_with<L: Ledger>(
     ensures { IfOk result (λ list. IsAnswer query.now ctx.now rows.now list) }
 {
     let mut steps = Steps::<L>::new(blank);
-    answer_in_counted(alloc, rows, ctx, query, &mut steps)
+    answer_indexed_counted(alloc, rows, ctx, query, &mut steps)
 }
 
 fn answer_with<L: Ledger>(

@@ -1,5 +1,5 @@
 use Rattle.ba_eval.proofs.AnswerLemmas.{is_answer}
-use Rattle.ba_eval.proofs.answer_in_counted.Goals as goal
+use Rattle.ba_eval.proofs.answer_indexed_counted.Goals as goal
 
 pub returns-clause-answer : goal.returns-clause-answer
 returns-clause-answer g c =
