@@ -7,11 +7,11 @@ mod SplitLemmas
 mod DueLemmas
 mod LateLemmas
 mod LookLemmas
-mod KeyLemmas
 mod PairLemmas
 mod TakeLemmas
 mod PickLemmas
 mod DistinctLemmas
+mod AgendaLemmas
 mod NextLemmas
 mod CarryLemmas
 mod GrowthLemmas
@@ -29,3 +29,4 @@ mod FilledRuns
 mod QuietStepLemmas
 mod LinkRowLemmas
 mod KeepLemmas
+mod ChoiceLemmas

@@ -18,10 +18,9 @@ use Rattle.ba_instant.proofs.DueLemmas.{round_in, round_on, telling_on}
 use Rattle.ba_instant.proofs.LateLemmas.{improves_untimely}
 use Rattle.ba_instant.proofs.OfferLemmas.{improves_as, improves_none}
 use Rattle.ba_instant.proofs.RoundLemmas.{round_at_once}
-use Rattle.ba_instant.specs.Looks.{AreRecent, IsLook, IsPassed, IsTimely}
+use Rattle.ba_instant.specs.Looks.{AreRecent, IsLook, IsTimely, KeysAreLate}
 use Rattle.ba_instant.specs.Offers.{Improves, IsEntryOf, IsLinkOfFact, IsLinkStep, IsNewIn, IsRoundIn, IsTelling, fact_round}
-use Rattle.ba_instant.specs.Order.{step_rank}
-use Rattle.ba_instant.specs.declared.found.Found.{Found}
+use Rattle.ba_instant.specs.declared.batch.Batch.{Batch}
 use Rattle.ba_instant.specs.declared.order.Pick.{Pick}
 
 pub round_least : (c : Course) (step : Step) (round other : ℕ) → IsRoundIn c step round → IsRoundIn c step other → round ≤ other
@@ -41,7 +40,7 @@ recent_or b bound recent are fact f there = elim (cases_lt (fact_round b fact) b
       inl (are fact f there (omega (arith, late, is)))
 ]
 
-module _ {picked : Pick} (c : Course) (n quiet : ℕ) (b : Branch) (recent : List ℕ) (look : IsLook picked c n b quiet recent) where
+module _ (c : Course) (n quiet : ℕ) (b : Branch) (recent : List ℕ) (look : IsLook c n b quiet recent) where
   -- ---- rounds of what is new
 
   pub telling_late : (step : Step) (round : ℕ) → IsTelling n step → branch_of step ≡ n → IsNewIn c step → IsRound c.problem b step round → quiet < round
@@ -52,28 +51,19 @@ module _ {picked : Pick} (c : Course) (n quiet : ℕ) (b : Branch) (recent : Lis
       let late = telling_late step round telling on new (round_on c n b look.open_ step round on is) in
       omega (arith, late)
 
-  -- what is passed isn't new
-  pub passed_old : (step : Step) (round : ℕ) → IsTelling n step → branch_of step ≡ n → IsPassed picked c quiet round step → IsRound c.problem b step round → IsNewIn c step → ⊥
-  passed_old step round telling on passed is new =
-      look.earlier passed.last passed.is step round telling (new_on c n b step look.open_ on new) is passed.early passed.after
-
-  pub passed_over : (step : Step) (round : ℕ) (old : Option Found) → IsTelling n step → IsPassed picked c quiet round step → IsRoundIn c step round →
-      Improves c picked (λ it. it ≡ step) old old
-  passed_over step round old telling passed is =
-      let on = telling_on c picked n step telling in
-      improves_none c picked (λ it. it ≡ step) old
-      (λ it same new. passed_old step round telling on passed (round_on c n b look.open_ step round on is) (subst (IsNewIn c) same new))
-
-  -- what tells something and is of the kind
-  pub telling_untimely : (pick : Pick) (P : Step → Type 0) (rank : ℕ) (best : Option Found) → (IsTimely pick n rank quiet best → ⊥) →
-      ((step : Step) → P step → IsTelling n step × (step_rank step ≡ rank)) → Improves c pick P best best
-  telling_untimely pick P rank best untimely tells =
-      improves_untimely c pick P n rank quiet best untimely
+  -- what tells something
+  pub telling_untimely : (pick : Pick) (P : Step → Type 0) (best : Option Batch) → (IsTimely quiet best → ⊥) → ((step : Step) → P step → IsTelling n step) → Improves c pick P best best
+  telling_untimely pick P best untimely tells =
+      improves_untimely c pick P quiet best untimely
       (λ it h.
       let t = tells it.step h.of in
-      let on = telling_on c pick n it.step t.0 in
-      let late = telling_later it.step t.0 on it.round h.new_ h.round_is in
-      (on, t.1, omega (arith, late)))
+      let late = telling_later it.step t (telling_on c pick n it.step t) it.round h.new_ h.round_is in
+      omega (arith, late))
+
+  -- ---- keys
+
+  pub keys_late : KeysAreLate c.problem b n quiet
+  keys_late step round h is_new round_is = look.quiet_ step round (inl (inl (inl (inr h)))) is_new round_is
 
   -- ---- entries
 
@@ -87,7 +77,7 @@ module _ {picked : Pick} (c : Course) (n quiet : ℕ) (b : Branch) (recent : Lis
       let late = telling_late (steps.Entry n entry) 2 telling refl new (record { it = it; there = there; round_is = inr (unshared, refl) }) in
       omega (arith, late, two)
 
-  pub entries_past : (pick : Pick) (old : Option Found) → 2 ≤ quiet → Improves c pick (IsEntryOf n) old old
+  pub entries_past : (pick : Pick) (old : Option Batch) → 2 ≤ quiet → Improves c pick (IsEntryOf n) old old
   entries_past pick old two =
       improves_none c pick (IsEntryOf n) old
       (λ step e new.
@@ -96,7 +86,7 @@ module _ {picked : Pick} (c : Course) (n quiet : ℕ) (b : Branch) (recent : Lis
       entry_past_two e.0 passes.0 passes.1 at two)
 
   -- a round that isn't past the quiet ones
-  pub entry_past : (pick : Pick) (entry round : ℕ) (old : Option Found) → IsRoundOfEntry c.problem entry round → round ≤ quiet → Improves c pick (λ step. step ≡ steps.Entry n entry) old old
+  pub entry_past : (pick : Pick) (entry round : ℕ) (old : Option Batch) → IsRoundOfEntry c.problem entry round → round ≤ quiet → Improves c pick (λ step. step ≡ steps.Entry n entry) old old
   entry_past pick entry round old is past =
       improves_none c pick (λ step. step ≡ steps.Entry n entry) old
       (λ step same new.
@@ -122,7 +112,7 @@ module _ {picked : Pick} (c : Course) (n quiet : ℕ) (b : Branch) (recent : Lis
             absurd (let no : ⊥ = omega (arith, late, old) in no)
       ]
 
-  pub links_all : (pick : Pick) (old new : Option Found) → Improves c pick (λ step. Any (λ fact. IsLinkOfFact n fact step) recent) old new → Improves c pick (IsLinkStep n) old new
+  pub links_all : (pick : Pick) (old new : Option Batch) → Improves c pick (λ step. Any (λ fact. IsLinkOfFact n fact step) recent) old new → Improves c pick (IsLinkStep n) old new
   links_all pick old new h =
       improves_as c pick (λ step. Any (λ fact. IsLinkOfFact n fact step) recent) (IsLinkStep n) old new (λ step e is. (e.1, e.4))
       (λ step e is.

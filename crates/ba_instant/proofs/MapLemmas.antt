@@ -30,7 +30,7 @@ use Rattle.ba_kernel.specs.declared.step.Step.TheVariants as steps
 use Rattle.ba_instant.proofs.ChaseLemmas.{new_on}
 use Rattle.ba_instant.proofs.OfferLemmas.{improves_as, improves_end, improves_next, improves_none}
 use Rattle.ba_instant.specs.Offers.{Improves, IsHidden, IsMapped, IsMappedFrom, IsNewIn, IsOfForm, IsOfSides, OfAny, Upto, step_of}
-use Rattle.ba_instant.specs.declared.found.Found.{Found}
+use Rattle.ba_instant.specs.declared.batch.Batch.{Batch}
 use Rattle.ba_instant.specs.declared.mapped.Form.{Form}
 use Rattle.ba_instant.specs.declared.mapped.Form.TheVariants.{OfRule, OfView, OfGoal}
 use Rattle.ba_instant.specs.declared.order.Pick.{Pick}
@@ -71,29 +71,29 @@ module _ (c : Course) (pick : Pick) (b : Branch) (n : ℕ) (form : Form) (side :
       (subst (λ rows. Under (ShowsOf b.known) rows atom) rows
       (All-contains (Under (ShowsOf b.known) (map (terms_at b) facts)) part.conds atom h.meets (k, below, is)))
 
-  pub mapped_hopeless : (from chosen : List ℕ) (old : Option Found) → Any (IsHidden b.known (rows_at b chosen)) part.conds → Improves c pick (From from chosen) old old
+  pub mapped_hopeless : (from chosen : List ℕ) (old : Option Batch) → Any (IsHidden b.known (rows_at b chosen)) part.conds → Improves c pick (From from chosen) old old
   mapped_hopeless from chosen old any = improves_none c pick (From from chosen) old (hidden from chosen any)
 
   -- no table is left
-  pub mapped_on : (facts : List ℕ) (step : Step) (old new : Option Found) → step ≡ step_of n form facts → All (IsShown b.known (map (terms_at b) facts)) part.conds →
+  pub mapped_on : (facts : List ℕ) (step : Step) (old new : Option Batch) → step ≡ step_of n form facts → All (IsShown b.known (map (terms_at b) facts)) part.conds →
       Improves c pick (λ it. it ≡ step) old new → Improves c pick (From [] facts) old new
   mapped_on facts step old new is shown h =
       improves_as c pick (λ it. it ≡ step) (From [] facts) old new
       (λ it e new. (facts, e ∙ is, last_completes b side part Shown facts shown))
       (λ it e new. e.1 ∙ (ap (step_of n form) (completes_last b side part Shown facts e.0 e.2) ∙ sym is)) h
 
-  pub mapped_off : (facts : List ℕ) (old : Option Found) → (All (IsShown b.known (map (terms_at b) facts)) part.conds → ⊥) → Improves c pick (From [] facts) old old
+  pub mapped_off : (facts : List ℕ) (old : Option Batch) → (All (IsShown b.known (map (terms_at b) facts)) part.conds → ⊥) → Improves c pick (From [] facts) old old
   mapped_off facts old hidden =
       improves_none c pick (From [] facts) old
       (λ step e new. hidden (subst (λ xs. All (IsShown b.known (map (terms_at b) xs)) part.conds) (completes_last b side part Shown facts e.0 e.2) (e.2).meets))
 
   -- as the first atom that isn't shown tells
-  pub mapped_shown : (facts : List ℕ) (step : Step) (undecided : Option ℕ) (old new : Option Found) → step ≡ step_of n form facts →
+  pub mapped_shown : (facts : List ℕ) (step : Step) (undecided : Option ℕ) (old new : Option Batch) → step ≡ step_of n form facts →
       IsUndecided b.known (map (terms_at b) facts) part.conds undecided → undecided ≡ None → Improves c pick (λ it. it ≡ step) old new → Improves c pick (From [] facts) old new
   mapped_shown facts step undecided old new is tells none h =
       mapped_on facts step old new is (subst (IsUndecided b.known (map (terms_at b) facts) part.conds) none tells) h
 
-  pub mapped_undecided : (facts : List ℕ) (undecided : Option ℕ) (number : ℕ) (old : Option Found) →
+  pub mapped_undecided : (facts : List ℕ) (undecided : Option ℕ) (number : ℕ) (old : Option Batch) →
       IsUndecided b.known (map (terms_at b) facts) part.conds undecided → undecided ≡ Some number → Improves c pick (From [] facts) old old
   mapped_undecided facts undecided number old tells some =
       let first = subst (IsUndecided b.known (map (terms_at b) facts) part.conds) some tells in
@@ -104,7 +104,7 @@ module _ (c : Course) (pick : Pick) (b : Branch) (n : ℕ) (form : Form) (side :
     abbrev pub By : ℕ → Step → Type 0
     By fact step = IsFactOf b side table fact × From rest (chosen ++ fact ∷ []) step
 
-    pub mapped_more : (fact : ℕ) (deeper : List ℕ) (old mid new last : Option Found) → last ≡ new → IsFactOf b side table fact → deeper ≡ chosen ++ fact ∷ [] →
+    pub mapped_more : (fact : ℕ) (deeper : List ℕ) (old mid new last : Option Batch) → last ≡ new → IsFactOf b side table fact → deeper ≡ chosen ++ fact ∷ [] →
         Improves c pick (Upto By fact) old mid → Improves c pick (From rest deeper) mid new → Improves c pick (Upto By (fact + 1)) old last
     mapped_more fact deeper old mid new last same is are before now =
         subst (Improves c pick (Upto By (fact + 1)) old) (sym same)
@@ -124,7 +124,7 @@ module _ (c : Course) (pick : Pick) (b : Branch) (n : ℕ) (form : Form) (side :
         at (fact ∷ left) are of =
             (fact, (of.0, (facts, same, record { rest = left; facts_are = are ∙ sym (append_assoc chosen (fact ∷ []) left); facts_of = of.1; meets = h.meets })))
 
-    pub mapped_all : (whole : List ℕ) (bound : ℕ) (old new : Option Found) → whole ≡ table ∷ rest → length b.facts ≤ bound →
+    pub mapped_all : (whole : List ℕ) (bound : ℕ) (old new : Option Batch) → whole ≡ table ∷ rest → length b.facts ≤ bound →
         Improves c pick (Upto By bound) old new → Improves c pick (From whole chosen) old new
     mapped_all whole bound old new split all h =
         let past = λ (fact : ℕ) (step : Step) (more : bound ≤ fact) (by : By fact step) (is : IsNewIn c step).
@@ -135,7 +135,7 @@ module _ (c : Course) (pick : Pick) (b : Branch) (n : ℕ) (form : Form) (side :
         (improves_end c pick By bound old new h past))
 
   -- all tables
-  pub mapped_whole : (from chosen : List ℕ) (old new : Option Found) → from ≡ part.from → chosen ≡ [] → Improves c pick (From from chosen) old new →
+  pub mapped_whole : (from chosen : List ℕ) (old new : Option Batch) → from ≡ part.from → chosen ≡ [] → Improves c pick (From from chosen) old new →
       Improves c pick (IsMapped b n form side part) old new
   mapped_whole from chosen old new is none h =
       improves_as c pick (From part.from []) (IsMapped b n form side part) old new
@@ -169,7 +169,7 @@ module _ (c : Course) (n : ℕ) (b : Branch) (open_ : IsOpen c.slots n b) where
         let same : h.is_part.of ≡ it = some_inj _ h.is_part.of it h.is_part.view_is there in
         past_end it.query.parts part h.it (subst (λ v. slice_get v.query.parts part ≡ Some h.it) same h.is_part.part_is) past
 
-    pub view_mapped : (pick : Pick) (part : ℕ) (of : Part) (old new : Option Found) → slice_get it.query.parts part ≡ Some of →
+    pub view_mapped : (pick : Pick) (part : ℕ) (of : Part) (old new : Option Batch) → slice_get it.query.parts part ≡ Some of →
         Improves c pick (IsMapped b n (OfView view part) One of) old new → Improves c pick (IsOfForm n (OfView view part)) old new
     view_mapped pick part of old new part_is h =
         improves_as c pick (IsMapped b n (OfView view part) One of) (IsOfForm n (OfView view part)) old new (λ step e is. (e.0, e.1))
@@ -187,7 +187,7 @@ module _ (c : Course) (n : ℕ) (b : Branch) (open_ : IsOpen c.slots n b) where
       let h = goal_passes part facts step is new in
       past_end c.problem.goal.parts part h.it h.is_part past
 
-  pub goal_mapped : (pick : Pick) (part : ℕ) (of : Part) (old new : Option Found) → slice_get c.problem.goal.parts part ≡ Some of →
+  pub goal_mapped : (pick : Pick) (part : ℕ) (of : Part) (old new : Option Batch) → slice_get c.problem.goal.parts part ≡ Some of →
       Improves c pick (IsMapped b n (OfGoal part) Two of) old new → Improves c pick (IsOfForm n (OfGoal part)) old new
   goal_mapped pick part of old new part_is h =
       improves_as c pick (IsMapped b n (OfGoal part) Two of) (IsOfForm n (OfGoal part)) old new (λ step e is. (e.0, e.1))
@@ -215,7 +215,7 @@ module _ (c : Course) (n : ℕ) (b : Branch) (open_ : IsOpen c.slots n b) where
         let same : h.is_part.of ≡ it = some_inj _ h.is_part.of it h.is_part.rule_is there in
         past_end it.left.parts part h.it (subst (λ v. slice_get v.left.parts part ≡ Some h.it) same h.is_part.part_is) past
 
-    pub rule_mapped : (pick : Pick) (part : ℕ) (of : Part) (old new : Option Found) → slice_get it.left.parts part ≡ Some of →
+    pub rule_mapped : (pick : Pick) (part : ℕ) (of : Part) (old new : Option Batch) → slice_get it.left.parts part ≡ Some of →
         Improves c pick (IsOfSides b n (OfRule rule part) of) old new → Improves c pick (IsOfForm n (OfRule rule part)) old new
     rule_mapped pick part of old new part_is h =
         improves_as c pick (IsOfSides b n (OfRule rule part) of) (IsOfForm n (OfRule rule part)) old new

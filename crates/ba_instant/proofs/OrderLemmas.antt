@@ -5,9 +5,7 @@ use Rattle.ba_model.specs.OrderLaws.{value_total}
 use Rattle.ba_facts.specs.declared.term.TermAtom.{TermAtom}
 use Rattle.ba_kernel.specs.Courses.{branch_of}
 use Rattle.ba_kernel.specs.declared.step.Step.{Step}
-use Rattle.ba_instant.specs.Offers.{found_cmp}
 use Rattle.ba_instant.specs.Order.{atom_cmp, kind_cmp, numbers_cmp, op_rank, pick_cmp, step_atom, step_cmp, step_facts, step_numbers, step_rank, term_cmp, term_number, term_rank, term_value}
-use Rattle.ba_instant.specs.declared.found.Found.{Found}
 use Rattle.ba_instant.specs.declared.order.Pick.{Pick}
 use Rattle.ba_instant.specs.declared.order.Pick.TheVariants.{First, Last}
 
@@ -37,7 +35,3 @@ pub pick_total : (pick : Pick) → IsTotalOrder (pick_cmp pick)
 unfolding pick_cmp
 pick_total First = step_total
 pick_total Last = back_total step_total
-
-pub found_total : (pick : Pick) → IsTotalOrder (found_cmp pick)
-unfolding found_cmp
-found_total pick = then_total (on_total (λ (it : Found). it.round) nat_cmp_total) (on_total (λ (it : Found). it.step) (pick_total pick))

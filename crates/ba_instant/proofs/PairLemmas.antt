@@ -25,6 +25,7 @@ use Rattle.ba_instant.proofs.OfferLemmas.{improves_as, improves_both, improves_e
 use Rattle.ba_instant.specs.Looks.{AreEqualBy, AreRecent, IsKeyInTurn, IsKeyOfTwo, IsTimelyKey, IsTurn, KeysAreLate, ShareKey}
 use Rattle.ba_instant.specs.Offers.{Improves, IsFound, IsKeyOfPair, IsKeyStep, IsNewIn, OfAny, Upto, fact_round}
 use Rattle.ba_instant.specs.Order.{step_rank}
+use Rattle.ba_instant.specs.declared.batch.Batch.{Batch}
 use Rattle.ba_instant.specs.declared.found.Found.{Found}
 use Rattle.ba_instant.specs.declared.order.Pick.{Pick}
 
@@ -99,7 +100,7 @@ module _ (c : Course) (n bound : ℕ) (b : Branch) (recent : List ℕ) (open_ : 
       let from = looked_from left right key step is new in
       ((from.1).0, from.0, (from.1).1, (from.1).2, (from.2, from.3))
 
-  pub keys_all : (pick : Pick) (old new : Option Found) → Improves c pick Looked old new → Improves c pick (IsKeyStep n) old new
+  pub keys_all : (pick : Pick) (old new : Option Batch) → Improves c pick Looked old new → Improves c pick (IsKeyStep n) old new
   keys_all pick old new h =
       improves_as c pick Looked (IsKeyStep n) old new (λ step e is. in_turn_is e.1 (e.4).0 step ((e.4).1).1) (λ step e is. is_looked step e is) h
 
@@ -117,7 +118,7 @@ module _ (c : Course) (n quiet : ℕ) (b : Branch) (open_ : IsOpen c.slots n b) 
   shares other step (inr h) new = (h.0, key_turned c.problem.policy.schema b h.0 other one (passes h.0 other one step h.1 new))
 
   abbrev Late : ℕ → Found → Type 0
-  Late other it = (branch_of it.step ≡ n) × (step_rank it.step ≡ 1) × (1 + max (fact_round b one) (fact_round b other) ≤ it.round)
+  Late other it = 1 + max (fact_round b one) (fact_round b other) ≤ it.round
 
   late_key : (other key left right : ℕ) (it : Found) (P : Step → Type 0) → it.step ≡ steps.Key n key left right → IsFound c P it →
       round_of b (left ∷ right ∷ []) ≡ max (fact_round b one) (fact_round b other) → Late other it
@@ -125,26 +126,26 @@ module _ (c : Course) (n quiet : ℕ) (b : Branch) (open_ : IsOpen c.slots n b) 
       let on : branch_of it.step ≡ n = ap branch_of is in
       let at : IsRound c.problem b (steps.Key n key left right) it.round =
       subst (λ s. IsRound c.problem b s it.round) is (round_on c n b open_ it.step it.round on h.round_is) in
-      (on, ap step_rank is, omega (arith, at, same))
+      omega (arith, at, same)
 
   late_two : (other : ℕ) (it : Found) (P : Step → Type 0) → IsKeyOfTwo n one other it.step → IsFound c P it → Late other it
   late_two other it P (inl (key, is)) h = late_key other key one other it P is h (omega arith)
   late_two other it P (inr (key, is)) h = late_key other key other one it P is h (omega arith)
 
   -- it isn't the other's turn, or no key of the two may be new and come first
-  pub pair_passed : (other : ℕ) (old best last : Option Found) → last ≡ best →
-      (IsTurn b quiet one other × IsTimelyKey pick n b one other best × ShareKey c.problem.policy.schema b one other → ⊥) →
+  pub pair_passed : (other : ℕ) (old best last : Option Batch) → last ≡ best →
+      (IsTurn b quiet one other × IsTimelyKey b one other best × ShareKey c.problem.policy.schema b one other → ⊥) →
       Improves c pick (Upto InTurn other) old best → Improves c pick (Upto InTurn (other + 1)) old last
   pair_passed other old best last same none before =
       subst (Improves c pick (Upto InTurn (other + 1)) old) (sym same)
       (improves_next c pick InTurn other old best best before
       (improves_behind c pick (InTurn other) best
       (λ it h.
-      let late = late_two other it (InTurn other) (h.of).1 h in
-      untimely_reaches pick n 1 (max (fact_round b one) (fact_round b other)) best it (λ timely. none ((h.of).0, timely, shares other it.step (h.of).1 h.new_)) late.0 late.1 late.2)
-      (λ step e new. untimely_some pick n 1 (max (fact_round b one) (fact_round b other)) best (λ timely. none (e.0, timely, shares other step e.1 new)))))
+      untimely_reaches pick (max (fact_round b one) (fact_round b other)) best it (λ timely. none ((h.of).0, timely, shares other it.step (h.of).1 h.new_))
+      (late_two other it (InTurn other) (h.of).1 h))
+      (λ step e new. untimely_some (max (fact_round b one) (fact_round b other)) best (λ timely. none (e.0, timely, shares other step e.1 new)))))
 
-  pub pair_offered : (other : ℕ) (old best mid new last : Option Found) → last ≡ new → IsTurn b quiet one other → Improves c pick (Upto InTurn other) old best →
+  pub pair_offered : (other : ℕ) (old best mid new last : Option Batch) → last ≡ new → IsTurn b quiet one other → Improves c pick (Upto InTurn other) old best →
       Improves c pick (IsKeyOfPair n one other) best mid → Improves c pick (IsKeyOfPair n other one) mid new → Improves c pick (Upto InTurn (other + 1)) old last
   pair_offered other old best mid new last same turn before first second =
       subst (Improves c pick (Upto InTurn (other + 1)) old) (sym same)
@@ -157,7 +158,7 @@ module _ (c : Course) (n quiet : ℕ) (b : Branch) (open_ : IsOpen c.slots n b) 
   pair_past other step past (inl (key, is)) new = key_right_past c n b open_ key one other step past is new
   pair_past other step past (inr (key, is)) new = key_left_past c n b open_ key other one step past is new
 
-  pub pairs_all : (bound : ℕ) (old new : Option Found) → length b.facts ≤ bound → Improves c pick (Upto InTurn bound) old new → Improves c pick (OfAny InTurn) old new
+  pub pairs_all : (bound : ℕ) (old new : Option Batch) → length b.facts ≤ bound → Improves c pick (Upto InTurn bound) old new → Improves c pick (OfAny InTurn) old new
   pairs_all bound old new all h =
       improves_end c pick InTurn bound old new h (λ other step more e is. pair_past other step (omega (arith, all, more)) e.1 is)
 

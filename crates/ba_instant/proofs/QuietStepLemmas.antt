@@ -22,6 +22,38 @@ use Rattle.ba_kernel.specs.Effects.{Yields, rows_at}
 use Rattle.ba_instant.specs.QuietSteps.{FactsAreFilled, GivesRow, IsOneWith, IsPlain, IsRowFor}
 use Rattle.ba_instant.specs.Windows.{IsToldOf}
 
+-- ---- what is shown and plain is known as lessons tell it
+
+module _ (b : Branch) where
+  abbrev its : Known
+  its = b.known
+
+  plain_told : (op : Op) (x y : Term) → ShowsOf its op x y → IsPlain its op x y → IsToldOf its op x y
+  plain_told Eq x y h plain = (h.not_null, plain)
+  plain_told Ne x y h plain = (h.0, plain)
+  plain_told Lt x y h plain = h
+  plain_told Le x y h plain = h
+  plain_told IsNull x y h plain = h
+  plain_told NotNull x y h plain = h
+
+  atom_told : (rows : List (List Term)) (atom : Atom) → IsShown its rows atom → Under (IsPlain its) rows atom → Under (IsToldOf its) rows atom
+  atom_told rows atom h plain =
+      let left : plain.left ≡ h.left = same_Some plain.left h.left (sym plain.left_is ∙ h.left_is) in
+      let right : plain.right ≡ h.right = same_Some plain.right h.right (sym plain.right_is ∙ h.right_is) in
+      record {
+        left = h.left;
+        right = h.right;
+        left_is = h.left_is;
+        right_is = h.right_is;
+        holds = plain_told atom.op h.left h.right h.holds (subst (λ x. IsPlain its atom.op x h.right) left (subst (IsPlain its atom.op plain.left) right plain.holds));
+      }
+
+  pub told_as_shown : (rows : List (List Term)) (conds : List Atom) → All (IsShown its rows) conds → All (Under (IsPlain its) rows) conds → All (Under (IsToldOf its) rows) conds
+  told_as_shown rows [] h plain = All-nil (Under (IsToldOf its) rows)
+  told_as_shown rows (atom ∷ conds) h plain =
+      All-cons (Under (IsToldOf its) rows) atom conds (atom_told rows atom (All-head (IsShown its rows) atom conds h) (All-head (Under (IsPlain its) rows) atom conds plain))
+      (told_as_shown rows conds (All-tail (IsShown its rows) atom conds h) (All-tail (Under (IsPlain its) rows) atom conds plain))
+
 -- ---- facts that yield a row give it
 
 module _ (s : Schema) (b : Branch) (filled : FactsAreFilled s b) where
@@ -40,32 +72,6 @@ module _ (s : Schema) (b : Branch) (filled : FactsAreFilled s b) where
   fact_rows side (table ∷ from) [] h = absurd h
   fact_rows side (table ∷ from) (n ∷ facts) h = (fact_row side table n h.0, fact_rows side from facts h.1)
 
-  plain_told : (op : Op) (x y : Term) → ShowsOf k op x y → IsPlain k op x y → IsToldOf k op x y
-  plain_told Eq x y h plain = (h.not_null, plain)
-  plain_told Ne x y h plain = (h.0, plain)
-  plain_told Lt x y h plain = h
-  plain_told Le x y h plain = h
-  plain_told IsNull x y h plain = h
-  plain_told NotNull x y h plain = h
-
-  atom_told : (rows : List (List Term)) (atom : Atom) → IsShown k rows atom → Under (IsPlain k) rows atom → Under (IsToldOf k) rows atom
-  atom_told rows atom h plain =
-      let left : plain.left ≡ h.left = same_Some plain.left h.left (sym plain.left_is ∙ h.left_is) in
-      let right : plain.right ≡ h.right = same_Some plain.right h.right (sym plain.right_is ∙ h.right_is) in
-      record {
-        left = h.left;
-        right = h.right;
-        left_is = h.left_is;
-        right_is = h.right_is;
-        holds = plain_told atom.op h.left h.right h.holds (subst (λ x. IsPlain k atom.op x h.right) left (subst (IsPlain k atom.op plain.left) right plain.holds));
-      }
-
-  atoms_told : (rows : List (List Term)) (conds : List Atom) → All (IsShown k rows) conds → All (Under (IsPlain k) rows) conds → All (Under (IsToldOf k) rows) conds
-  atoms_told rows [] h plain = All-nil (Under (IsToldOf k) rows)
-  atoms_told rows (atom ∷ conds) h plain =
-      All-cons (Under (IsToldOf k) rows) atom conds (atom_told rows atom (All-head (IsShown k rows) atom conds h) (All-head (Under (IsPlain k) rows) atom conds plain))
-      (atoms_told rows conds (All-tail (IsShown k rows) atom conds h) (All-tail (Under (IsPlain k) rows) atom conds plain))
-
   head_given : (rows : List (List Term)) (head : List Operand) (row : List Term) → map (term_of rows) head ≡ map Some row → AllZip (IsOneWith k) (map (term_of rows) head) row
   head_given rows [] [] e = tt
   head_given rows [] (t ∷ row) e = cc
@@ -80,6 +86,6 @@ module _ (s : Schema) (b : Branch) (filled : FactsAreFilled s b) where
   yields_gives side part facts row h plain =
       record {
         rows_for = fact_rows side part.from facts h.mapping;
-        told = atoms_told (rows_at b facts) part.conds h.shown plain;
+        told = told_as_shown b (rows_at b facts) part.conds h.shown plain;
         head = head_given (rows_at b facts) part.head row h.head;
       }

@@ -23,7 +23,7 @@ use Rattle.ba_instant.proofs.ChaseLemmas.{new_on}
 use Rattle.ba_instant.proofs.OfferLemmas.{improves_as, improves_both, improves_next, improves_none}
 use Rattle.ba_instant.specs.Looks.{AreEquations}
 use Rattle.ba_instant.specs.Offers.{Improves, IsNewIn, IsSplitBy, IsSplitOfAtom, IsSplitOfConds, IsSplitOfPart, IsSplitOfParts, IsSplitOfRules, IsSplitOfSides, IsSplitOfViews, IsSplitStep, Upto}
-use Rattle.ba_instant.specs.declared.found.Found.{Found}
+use Rattle.ba_instant.specs.declared.batch.Batch.{Batch}
 use Rattle.ba_instant.specs.declared.order.Pick.{Pick}
 
 some_inj : {X : Type 0} (o : Option X) (x y : X) → o ≡ Some x → o ≡ Some y → x ≡ y
@@ -48,7 +48,7 @@ module _ (c : Course) (pick : Pick) where
     abbrev OfSome : Step → Type 0
     OfSome step = Any (λ x. R x step) xs
 
-    pub at_more : (i : ℕ) (x : X) (old mid new : Option Found) → i < length xs → x ≡ get_or xs i x → Improves c pick (Upto At i) old mid → Improves c pick (R x) mid new →
+    pub at_more : (i : ℕ) (x : X) (old mid new : Option Batch) → i < length xs → x ≡ get_or xs i x → Improves c pick (Upto At i) old mid → Improves c pick (R x) mid new →
         Improves c pick (Upto At (i + 1)) old new
     at_more i x old mid new inside is before now =
         let there : slice_get xs i ≡ Some x = slice_get-get_or xs i x inside ∙ ap Some (sym is) in
@@ -58,20 +58,20 @@ module _ (c : Course) (pick : Pick) where
     at_some : (i : ℕ) (step : Step) → Upto At i step → OfSome step
     at_some i step (j, below, e) = (j, e.0, slice_get_within xs j e.0 e.1, get_or_from_slice_get xs j e.0 e.0 e.1, e.2)
 
-    pub at_all : (i : ℕ) (old new : Option Found) → length xs ≤ i → Improves c pick (Upto At i) old new → Improves c pick OfSome old new
+    pub at_all : (i : ℕ) (old new : Option Batch) → length xs ≤ i → Improves c pick (Upto At i) old new → Improves c pick OfSome old new
     at_all i old new past h =
         improves_as c pick (Upto At i) OfSome old new (λ step e is. at_some i step e)
         (λ step e is. (e.0, omega (arith, e.2, past), (e.1, slice_get-get_or xs e.0 e.1 e.2 ∙ ap Some e.3, e.4))) h
 
   -- of numbers
-  pub number_more : (xs : List ℕ) (R : ℕ → Step → Type 0) (i : ℕ) (old mid new : Option Found) → i < length xs → Improves c pick (Upto (At xs R) i) old mid →
+  pub number_more : (xs : List ℕ) (R : ℕ → Step → Type 0) (i : ℕ) (old mid new : Option Batch) → i < length xs → Improves c pick (Upto (At xs R) i) old mid →
       Improves c pick (R (get_or xs i 0)) mid new → Improves c pick (Upto (At xs R) (i + 1)) old new
   number_more xs R i old mid new inside before now =
       at_more xs R i (get_or xs i 0) old mid new inside (sym (get_or_from_slice_get xs i (get_or xs i 0) (get_or xs i 0) (slice_get-get_or xs i 0 inside))) before now
 
   module _ (n : ℕ) where
     -- by an atom of some element
-    pub split_some : {X : Type 0} (xs : List X) (P : X → TermAtom → List ℕ → Type 0) (old new : Option Found) → Improves c pick (λ step. Any (λ x. IsSplitBy (P x) n step) xs) old new →
+    pub split_some : {X : Type 0} (xs : List X) (P : X → TermAtom → List ℕ → Type 0) (old new : Option Batch) → Improves c pick (λ step. Any (λ x. IsSplitBy (P x) n step) xs) old new →
         Improves c pick (IsSplitBy (λ atom facts. Any (λ x. P x atom facts) xs) n) old new
     split_some xs P old new h =
         improves_as c pick (λ step. Any (λ x. IsSplitBy (P x) n step) xs) (IsSplitBy (λ atom facts. Any (λ x. P x atom facts) xs) n) old new
@@ -79,14 +79,14 @@ module _ (c : Course) (pick : Pick) where
         (λ step e is. ((e.3).0, (e.3).1, (e.3).2, (e.3).3, (e.0, e.1, e.2, (e.3).4))) h
 
     module _ (b : Branch) where
-      pub split_conds : (facts : List ℕ) (conds : List Atom) (old new : Option Found) → Improves c pick (λ step. Any (λ cond. IsSplitOfAtom b n facts cond step) conds) old new →
+      pub split_conds : (facts : List ℕ) (conds : List Atom) (old new : Option Batch) → Improves c pick (λ step. Any (λ cond. IsSplitOfAtom b n facts cond step) conds) old new →
           Improves c pick (IsSplitOfConds b n facts conds) old new
       split_conds facts conds old new h =
           improves_as c pick (λ step. Any (λ cond. IsSplitOfAtom b n facts cond step) conds) (IsSplitOfConds b n facts conds) old new
           (λ step e is. ((e.4).0, (e.4).1, (e.0, e.1, e.2, e.3, (e.4).2)))
           (λ step e is. ((e.2).0, (e.2).1, (e.2).2, (e.2).3, (e.0, e.1, (e.2).4))) h
 
-      pub split_atom : (facts : List ℕ) (cond : Atom) (atom : TermAtom) (old new : Option Found) → GivesAtom (map (terms_at b) facts) atom cond →
+      pub split_atom : (facts : List ℕ) (cond : Atom) (atom : TermAtom) (old new : Option Batch) → GivesAtom (map (terms_at b) facts) atom cond →
           Improves c pick (λ it. it ≡ steps.Split n atom) old new → Improves c pick (IsSplitOfAtom b n facts cond) old new
       split_atom facts cond atom old new gives h =
           improves_as c pick (λ it. it ≡ steps.Split n atom) (IsSplitOfAtom b n facts cond) old new (λ step e is. (atom, e, gives))
@@ -101,7 +101,7 @@ module _ (c : Course) (pick : Pick) where
               λ i. record { op = op i; left = left i; right = right i }
 
       -- by the atoms of all live mappings
-      pub split_part : (side : Side) (part : Part) (found : List Mapping) (old new : Option Found) → AreMatches b side part found →
+      pub split_part : (side : Side) (part : Part) (found : List Mapping) (old new : Option Batch) → AreMatches b side part found →
           Improves c pick (λ step. Any (λ m. IsSplitOfConds b n m.facts part.conds step) found) old new → Improves c pick (IsSplitOfPart b n side part) old new
       split_part side part found old new are h =
           improves_as c pick (λ step. Any (λ m. IsSplitOfConds b n m.facts part.conds step) found) (IsSplitOfPart b n side part) old new
@@ -113,7 +113,7 @@ module _ (c : Course) (pick : Pick) where
           (at.0, at.1, at.2, at.3, (e.0, e.1, subst (λ facts. Any (GivesAtom (map (terms_at b) facts) e.0) part.conds) (sym at.4) (e.3).stands))) h
 
       -- no atom of a part that has only equations is split
-      pub split_none : (open_ : IsOpen c.slots n b) (side : Side) (part : Part) (old : Option Found) → AreEquations part.conds → Improves c pick (IsSplitOfPart b n side part) old old
+      pub split_none : (open_ : IsOpen c.slots n b) (side : Side) (part : Part) (old : Option Batch) → AreEquations part.conds → Improves c pick (IsSplitOfPart b n side part) old old
       split_none open_ side part old equations =
           improves_none c pick (IsSplitOfPart b n side part) old
           (λ step e new.
@@ -124,7 +124,7 @@ module _ (c : Course) (pick : Pick) where
           let kind : IsOfNewKind b.known Eq (e.0).left (e.0).right = subst (λ op. IsOfNewKind b.known op (e.0).left (e.0).right) (sym of.op ∙ eq) at.tells.kind in
           absurd kind)
 
-      pub split_sides : (parts : List Part) (old mid new : Option Found) → Improves c pick (IsSplitOfParts b n One parts) old mid → Improves c pick (IsSplitOfParts b n Two parts) mid new →
+      pub split_sides : (parts : List Part) (old mid new : Option Batch) → Improves c pick (IsSplitOfParts b n One parts) old mid → Improves c pick (IsSplitOfParts b n Two parts) mid new →
           Improves c pick (IsSplitOfSides b n parts) old new
       split_sides parts old mid new h k =
           improves_as c pick (λ step. IsSplitOfParts b n One parts step ⊎ IsSplitOfParts b n Two parts step) (IsSplitOfSides b n parts) old new
@@ -173,7 +173,7 @@ module _ (c : Course) (pick : Pick) where
         is_split step (inl (inr h)) = (h.0, h.1)
         is_split step (inr h) = (h.0, h.1)
 
-        pub split_all : (old one two new : Option Found) → Improves c pick Views old one → Improves c pick Rules one two → Improves c pick Goals two new →
+        pub split_all : (old one two new : Option Batch) → Improves c pick Views old one → Improves c pick Rules one two → Improves c pick Goals two new →
             Improves c pick (IsSplitStep n) old new
         split_all old one two new h k l =
             improves_as c pick (λ step. (Views step ⊎ Rules step) ⊎ Goals step) (IsSplitStep n) old new (λ step e is. is_split step e) looked

@@ -20,7 +20,7 @@ use Rattle.ba_instant.proofs.MapLemmas.{By, From, by_from, from_by}
 use Rattle.ba_instant.proofs.OfferLemmas.{improves_as, improves_next}
 use Rattle.ba_instant.specs.Looks.{AreOld, IsLook, IsTimelyOf, TellsOf, least_round}
 use Rattle.ba_instant.specs.Offers.{Improves, IsFound, IsNewIn, IsRoundIn, IsTelling, OfAny, Reaches, Upto, fact_round, step_of}
-use Rattle.ba_instant.specs.Order.{step_rank}
+use Rattle.ba_instant.specs.declared.batch.Batch.{Batch}
 use Rattle.ba_instant.specs.declared.found.Found.{Found}
 use Rattle.ba_instant.specs.declared.mapped.Form.{Form}
 use Rattle.ba_instant.specs.declared.mapped.Form.TheVariants.{OfRule, OfView, OfGoal}
@@ -63,7 +63,7 @@ form_least c b n (OfRule rule part) facts round is = omega (arith, is)
 form_least c b n (OfView view part) facts round is = omega (arith, is)
 form_least c b n (OfGoal part) facts round is = omega arith
 
-module _ (c : Course) (pick : Pick) (b : Branch) (n : ℕ) (form : Form) (side : Side) (part : Part) (quiet : ℕ) (recent : List ℕ) (look : IsLook pick c n b quiet recent) where
+module _ (c : Course) (pick : Pick) (b : Branch) (n : ℕ) (form : Form) (side : Side) (part : Part) (quiet : ℕ) (recent : List ℕ) (look : IsLook c n b quiet recent) where
   -- its round is at least so much
   pub least_late : (facts : List ℕ) (step : Step) (least : ℕ) → step ≡ step_of n form facts → least ≡ least_round b form facts → (round : ℕ) → IsNewIn c step →
       IsRoundIn c step round → least ≤ round
@@ -73,9 +73,6 @@ module _ (c : Course) (pick : Pick) (b : Branch) (n : ℕ) (form : Form) (side :
       omega (arith, more, least_is)
 
   -- what tells something has that round
-  pub shown_tells : (facts : List ℕ) (step : Step) → step ≡ step_of n form facts → TellsOf form → IsTelling n step
-  shown_tells facts step is tells = subst (IsTelling n) (sym is) (form_tells n form facts tells)
-
   pub shown_round : (facts : List ℕ) (step : Step) (least : ℕ) → step ≡ step_of n form facts → least ≡ least_round b form facts → TellsOf form → IsRoundIn c step least
   shown_round facts step least is least_is tells =
       let at : IsRoundIn c (step_of n form facts) (least_round b form facts) =
@@ -96,27 +93,27 @@ module _ (c : Course) (pick : Pick) (b : Branch) (n : ℕ) (form : Form) (side :
     One = By c pick b n form side part table rest chosen
 
     -- a step on facts of which this is one
-    late_at : (form : Form) (fact : ℕ) (facts after : List ℕ) (it : Found) (P : Step → Type 0) (best : Option Found) → it.step ≡ step_of n form facts → facts ≡ chosen ++ fact ∷ after →
-        IsFound c P it → (IsTimelyOf pick n b form fact best → ⊥) → Reaches pick best it
+    late_at : (form : Form) (fact : ℕ) (facts after : List ℕ) (it : Found) (P : Step → Type 0) (best : Option Batch) → it.step ≡ step_of n form facts → facts ≡ chosen ++ fact ∷ after →
+        IsFound c P it → (IsTimelyOf b form fact best → ⊥) → Reaches pick best it
     late_at (OfRule rule number) fact facts after it P best is are h untimely =
         let on : branch_of it.step ≡ n = ap branch_of is in
         let round : IsRound c.problem b (steps.Rule n rule number facts) it.round = subst (λ s. IsRound c.problem b s it.round) is (round_on c n b look.open_ it.step it.round on h.round_is) in
         let has : fact_round b fact ≤ round_of b facts = subst (λ xs. fact_round b fact ≤ round_of b xs) (sym are) (round_has b chosen fact after) in
-        untimely_reaches pick n 3 (fact_round b fact) best it untimely on (ap step_rank is) (omega (arith, round, has))
+        untimely_reaches pick (fact_round b fact) best it untimely (omega (arith, round, has))
     late_at (OfView view number) fact facts after it P best is are h untimely =
         let on : branch_of it.step ≡ n = ap branch_of is in
         let round : IsRound c.problem b (steps.View n view number facts) it.round = subst (λ s. IsRound c.problem b s it.round) is (round_on c n b look.open_ it.step it.round on h.round_is) in
         let has : fact_round b fact ≤ round_of b facts = subst (λ xs. fact_round b fact ≤ round_of b xs) (sym are) (round_has b chosen fact after) in
-        untimely_reaches pick n 4 (fact_round b fact) best it untimely on (ap step_rank is) (omega (arith, round, has))
+        untimely_reaches pick (fact_round b fact) best it untimely (omega (arith, round, has))
     late_at (OfGoal number) fact facts after it P best is are h untimely = absurd (untimely tt)
 
-    late_some : (form : Form) (fact : ℕ) (best : Option Found) → (IsTimelyOf pick n b form fact best → ⊥) → best ≢ None
-    late_some (OfRule rule number) fact best untimely = untimely_some pick n 3 (fact_round b fact) best untimely
-    late_some (OfView view number) fact best untimely = untimely_some pick n 4 (fact_round b fact) best untimely
+    late_some : (form : Form) (fact : ℕ) (best : Option Batch) → (IsTimelyOf b form fact best → ⊥) → best ≢ None
+    late_some (OfRule rule number) fact best untimely = untimely_some (fact_round b fact) best untimely
+    late_some (OfView view number) fact best untimely = untimely_some (fact_round b fact) best untimely
     late_some (OfGoal number) fact best untimely = absurd (untimely tt)
 
     -- it is no such fact, or no step on it comes first
-    pub not_taken : (fact : ℕ) (best : Option Found) → (IsFactOf b side table fact × IsTimelyOf pick n b form fact best → ⊥) → Improves c pick (One fact) best best
+    pub not_taken : (fact : ℕ) (best : Option Batch) → (IsFactOf b side table fact × IsTimelyOf b form fact best → ⊥) → Improves c pick (One fact) best best
     not_taken fact best none =
         improves_behind c pick (One fact) best
         (λ it h.
@@ -125,7 +122,7 @@ module _ (c : Course) (pick : Pick) (b : Branch) (n : ℕ) (form : Form) (side :
         late_at form fact from.0 completes.rest it (One fact) best from.1 (completes.facts_are ∙ append_assoc chosen (fact ∷ []) completes.rest) h (λ timely. none ((h.of).0, timely)))
         (λ step e new. late_some form fact best (λ timely. none (e.0, timely)))
 
-    pub mapped_passed : (fact : ℕ) (old best last : Option Found) → last ≡ best → (IsFactOf b side table fact × IsTimelyOf pick n b form fact best → ⊥) →
+    pub mapped_passed : (fact : ℕ) (old best last : Option Batch) → last ≡ best → (IsFactOf b side table fact × IsTimelyOf b form fact best → ⊥) →
         Improves c pick (Upto One fact) old best → Improves c pick (Upto One (fact + 1)) old last
     mapped_passed fact old best last same none before =
         subst (Improves c pick (Upto One (fact + 1)) old) (sym same) (improves_next c pick One fact old best best before (not_taken fact best none))
@@ -136,7 +133,7 @@ module _ (c : Course) (pick : Pick) (b : Branch) (n : ℕ) (form : Form) (side :
     abbrev pub Last : ℕ → Step → Type 0
     Last = By c pick b n form side part table [] chosen
 
-    pub last_taken : (fact : ℕ) (deeper : List ℕ) (old new : Option Found) → IsFactOf b side table fact → deeper ≡ chosen ++ fact ∷ [] →
+    pub last_taken : (fact : ℕ) (deeper : List ℕ) (old new : Option Batch) → IsFactOf b side table fact → deeper ≡ chosen ++ fact ∷ [] →
         Improves c pick (From c pick b n form side part [] deeper) old new → Improves c pick (Last fact) old new
     last_taken fact deeper old new is are h =
         improves_as c pick (From c pick b n form side part [] deeper) (Last fact) old new
@@ -157,13 +154,13 @@ module _ (c : Course) (pick : Pick) (b : Branch) (n : ℕ) (form : Form) (side :
         ]
 
     -- the last fact is recent, since the chosen ones aren't
-    pub last_all : AreOld b quiet form chosen → (old new : Option Found) → Improves c pick (λ step. Any (λ fact. Last fact step) recent) old new →
+    pub last_all : AreOld b quiet form chosen → (old new : Option Batch) → Improves c pick (λ step. Any (λ fact. Last fact step) recent) old new →
         Improves c pick (From c pick b n form side part (table ∷ []) chosen) old new
     last_all are_old old new h =
         improves_as c pick (λ step. Any (λ fact. Last fact step) recent) (From c pick b n form side part (table ∷ []) chosen) old new
         (λ step e is. by_from c pick b n form side part table [] chosen step (e.1, e.4))
         (λ step e is. last_recent are_old step (from_by c pick b n form side part table [] chosen step e) is) h
 
-    pub last_as : (from rest : List ℕ) (old new : Option Found) → from ≡ table ∷ rest → rest ≡ [] → Improves c pick (From c pick b n form side part (table ∷ []) chosen) old new →
+    pub last_as : (from rest : List ℕ) (old new : Option Batch) → from ≡ table ∷ rest → rest ≡ [] → Improves c pick (From c pick b n form side part (table ∷ []) chosen) old new →
         Improves c pick (From c pick b n form side part from chosen) old new
     last_as from rest old new is none h = subst (λ xs. Improves c pick (From c pick b n form side part xs chosen) old new) (sym (is ∙ ap (λ xs. table ∷ xs) none)) h

@@ -3,5 +3,7 @@ pub mod Dues
 pub mod Offers
 pub mod Windows
 pub mod QuietSteps
+pub mod Givens
 pub mod Looks
+pub mod Agendas
 pub mod Nexts

@@ -1,8 +1,8 @@
--- The first of the new steps of a set, by round and then as they are picked; and the sets of steps that are looked through.
-use Rattle.std.specs.Prelude.{◌≡◌, ◌≢◌, ◌⊎◌, ℕ, ◌<◌, List, [], Any, Bool, false, true, Option, Some, None, map, option_and_then, option_map, slice_get, unwrap_or}
-use Rattle.std.specs.Ordering.{is_gt, nat_cmp, ordering_then}
+-- The new steps of the least round in a set, and the sets of steps that are looked through.
+use Rattle.std.specs.Prelude.{◌≡◌, ◌≢◌, ◌⊎◌, ℕ, ◌<◌, List, [], ◌∷◌, ◌++◌, Any, Contains, Bool, false, true, IsTrue, Option, Some, None, map, option_and_then, option_map, slice_get, unwrap_or}
+use Rattle.std.specs.Ordering.{is_gt, nat_cmp}
 use Rattle.std.specs.declared.cmp.Ordering.{Ordering}
-use Rattle.std.specs.declared.cmp.Ordering.TheVariants.{Greater}
+use Rattle.std.specs.declared.cmp.Ordering.TheVariants.{Less, Equal, Greater}
 use Rattle.ba_model.specs.declared.policy.View.{View}
 use Rattle.ba_model.specs.declared.query.Atom.{Atom}
 use Rattle.ba_model.specs.declared.query.Part.{Part}
@@ -29,6 +29,7 @@ use Rattle.ba_kernel.specs.declared.step.Step.{Step}
 use Rattle.ba_kernel.specs.declared.step.Step.TheVariants as steps
 use Rattle.ba_instant.specs.Dues.{IsDue}
 use Rattle.ba_instant.specs.Order.{pick_cmp}
+use Rattle.ba_instant.specs.declared.batch.Batch.{Batch}
 use Rattle.ba_instant.specs.declared.found.Found.{Found}
 use Rattle.ba_instant.specs.declared.mapped.Form.{Form}
 use Rattle.ba_instant.specs.declared.mapped.Form.TheVariants.{OfRule, OfView, OfGoal}
@@ -47,14 +48,50 @@ IsRoundAt p (Some b) step round = IsRound p b step round
 abbrev pub IsRoundIn : Course → Step → ℕ → Type 0
 IsRoundIn c step round = IsRoundAt c.problem (open_at c.slots (branch_of step)) step round
 
--- by round, then as steps are picked
-unfoldable pub found_cmp : Pick → Found → Found → Ordering
-found_cmp pick one other = ordering_then (nat_cmp one.round other.round) (pick_cmp pick one.step other.step)
+-- ---- steps of one round
 
--- there is one, and it isn't behind this one
-abbrev pub Reaches : Pick → Option Found → Found → Type 0
+-- a split, or a step that closes its branch
+abbrev pub is_single : Step → Bool
+is_single (steps.Entry branch entry) = false
+is_single (steps.Key branch key left right) = false
+is_single (steps.Link branch link fact) = false
+is_single (steps.Rule branch rule part facts) = false
+is_single (steps.View branch view part facts) = false
+is_single (steps.Split branch atom) = true
+is_single (steps.Absurd branch) = true
+is_single (steps.Goal branch part facts) = true
+
+-- there is one, and this one isn't picked before it
+abbrev pub Leads : Pick → Option Step → Step → Type 0
+Leads pick None step = ⊥
+Leads pick (Some first) step = is_gt (pick_cmp pick first step) ≡ false
+
+-- it is in the batch; or it is a single one, and the batch has one that isn't picked after it
+abbrev pub IsHeld : Pick → Batch → Step → Type 0
+IsHeld pick batch step = Contains batch.steps step ⊎ (IsTrue (is_single step) × Leads pick batch.single step)
+
+-- there is a batch, of a lesser round or of the same with the step
+abbrev pub Reaches : Pick → Option Batch → Found → Type 0
 Reaches pick None it = ⊥
-Reaches pick (Some best) it = is_gt (found_cmp pick best it) ≡ false
+Reaches pick (Some batch) it = (batch.round < it.round) ⊎ ((batch.round ≡ it.round) × IsHeld pick batch it.step)
+
+-- one of the batch
+abbrev pub Offers : Batch → Step → Type 0
+Offers batch step = Contains batch.steps step ⊎ (batch.single ≡ Some step)
+
+abbrev pub IsOffered : Option Batch → Found → Type 0
+IsOffered None it = ⊥
+IsOffered (Some batch) it = (batch.round ≡ it.round) × Offers batch it.step
+
+-- it isn't empty, and its single step is one
+pub record IsWhole (batch : Batch) : Type 0 where
+  pub step : Step
+  pub there : Offers batch step
+  pub single : (it : Step) → batch.single ≡ Some it → IsTrue (is_single it)
+
+abbrev pub IsFilled : Option Batch → Type 0
+IsFilled None = Unit {0}
+IsFilled (Some batch) = IsWhole batch
 
 -- a new step of the set, with its round
 pub record IsFound (c : Course) (P : Step → Type 0) (it : Found) : Type 0 where
@@ -62,26 +99,49 @@ pub record IsFound (c : Course) (P : Step → Type 0) (it : Found) : Type 0 wher
   pub new_ : IsNewIn c it.step
   pub round_is : IsRoundIn c it.step it.round
 
-abbrev pub IsSomeFound : Course → (Step → Type 0) → Option Found → Type 0
-IsSomeFound c P None = ⊥
-IsSomeFound c P (Some it) = IsFound c P it
-
--- Of the one before and the new steps of the set, it is the first.
-pub record Improves (c : Course) (pick : Pick) (P : Step → Type 0) (old new : Option Found) : Type 0 where
-  pub from : (new ≡ old) ⊎ IsSomeFound c P new
+-- Of the steps before and the new ones of the set, it has all of the least round; of the single ones the first that is picked.
+pub record Improves (c : Course) (pick : Pick) (P : Step → Type 0) (old new : Option Batch) : Type 0 where
+  pub from : (it : Found) → IsOffered new it → IsOffered old it ⊎ IsFound c P it
   pub keeps : (it : Found) → Reaches pick old it → Reaches pick new it
   pub reaches : (it : Found) → IsFound c P it → Reaches pick new it
   pub finds : (step : Step) → P step → IsNewIn c step → new ≢ None
+  pub stays : old ≢ None → new ≢ None
+  pub filled : IsFilled old → IsFilled new
 
--- the other only where it is before
-abbrev pub first_by : Bool → Found → Found → Option Found
+-- ---- a batch with one more step
+
+-- the other one only where it is picked before
+abbrev pub first_by : {X : Type 0} → Bool → X → X → Option X
 first_by false best it = Some best
 first_by true best it = Some it
 
--- the one that comes first
-abbrev pub first_found : Pick → Option Found → Found → Option Found
-first_found pick None it = Some it
-first_found pick (Some best) it = first_by (is_gt (found_cmp pick best it)) best it
+abbrev pub first_single : Pick → Option Step → Step → Option Step
+first_single pick None step = Some step
+first_single pick (Some best) step = first_by (is_gt (pick_cmp pick best step)) best step
+
+-- a single one, or another
+abbrev pub with_step_by : Bool → Pick → Batch → Step → Batch
+with_step_by true pick batch step = record { round = batch.round; steps = batch.steps; single = first_single pick batch.single step }
+with_step_by false pick batch step = record { round = batch.round; steps = batch.steps ++ step ∷ []; single = batch.single }
+
+abbrev pub with_step : Pick → Batch → Step → Batch
+with_step pick batch step = with_step_by (is_single step) pick batch step
+
+abbrev pub empty_batch : ℕ → Batch
+empty_batch round = record { round = round; steps = []; single = None }
+
+abbrev pub batch_of : Pick → Found → Batch
+batch_of pick it = with_step pick (empty_batch it.round) it.step
+
+-- a step of a lesser round begins anew, one of the same round joins, one of a greater is left out
+abbrev pub with_found_by : Ordering → Pick → Batch → Found → Batch
+with_found_by Less pick batch it = batch_of pick it
+with_found_by Equal pick batch it = with_step pick batch it.step
+with_found_by Greater pick batch it = batch
+
+abbrev pub with_found : Pick → Option Batch → Found → Option Batch
+with_found pick None it = Some (batch_of pick it)
+with_found pick (Some batch) it = Some (with_found_by (nat_cmp it.round batch.round) pick batch it)
 
 -- ---- sets of steps
 
@@ -233,3 +293,7 @@ pub record IsDueOn (c : Course) (pick : Pick) (number : ℕ) (it : Found) : Type
 abbrev pub IsDueIfAny : Course → Pick → ℕ → Option Found → Type 0
 IsDueIfAny c pick number None = (step : Step) → branch_of step ≡ number → ¬ (IsNewIn c step)
 IsDueIfAny c pick number (Some it) = IsDueOn c pick number it
+
+-- no new step closes the branch
+pub record NoneCloses (c : Course) (number : ℕ) : Type 0 where
+  pub none : (step : Step) → IsClosing number step → ¬ (IsNewIn c step)

@@ -1,6 +1,5 @@
 -- What isn't new on a branch up to a round, and how a branch may grow so that it stays so.
-use Rattle.std.specs.Prelude.{◌≡◌, ◌≢◌, ℕ, ◌+◌, ◌-◌, ◌<◌, ◌≤◌, List, ◌++◌, All, length, Some, false, slice_get}
-use Rattle.std.specs.declared.cmp.Ordering.TheVariants.{Greater}
+use Rattle.std.specs.Prelude.{◌≡◌, ℕ, ◌+◌, ◌<◌, ◌≤◌, List, ◌++◌, All, length, Some, false, slice_get}
 use Rattle.ba_model.specs.declared.query.Op.{Op}
 use Rattle.ba_model.specs.declared.query.Op.TheVariants.{Eq, Ne, Lt, Le, IsNull, NotNull}
 use Rattle.ba_facts.specs.Known.{Known, OneClass, ShownNotNull, ShownNull}
@@ -15,29 +14,14 @@ use Rattle.ba_facts.specs.declared.term.Term.{Term}
 use Rattle.ba_facts.specs.declared.term.Term.TheVariants.{Unknown}
 use Rattle.ba_kernel.specs.Courses.{IsOpen, ProblemFits, Runs, Slots, branch_of}
 use Rattle.ba_kernel.specs.News.{IsNewOn, IsRound}
-use Rattle.ba_kernel.specs.Tests.{Course}
 use Rattle.ba_kernel.specs.declared.problem.Problem.{Problem}
 use Rattle.ba_kernel.specs.declared.step.Step.{Step}
 use Rattle.ba_instant.specs.Dues.{IsDue}
 use Rattle.ba_instant.specs.Offers.{IsTelling}
-use Rattle.ba_instant.specs.Order.{pick_cmp}
-use Rattle.ba_instant.specs.declared.order.Pick.{Pick}
 
 -- no step that tells the branch something is new there whose round is at most the bound
 abbrev pub IsQuietUpto : Problem → Branch → ℕ → ℕ → Type 0
 IsQuietUpto p b number bound = (step : Step) (round : ℕ) → IsTelling number step → IsNewOn p b step → IsRound p b step round → bound < round
-
--- none of a round up to the bound is picked before this step
-abbrev pub NoneIsBefore : Pick → Problem → Branch → ℕ → ℕ → Step → Type 0
-NoneIsBefore pick p b number bound last = (step : Step) (round : ℕ) → IsTelling number step → IsNewOn p b step → IsRound p b step round → round ≤ bound → pick_cmp pick last step ≢ Greater
-
--- the step was taken last, and some round is quiet
-abbrev pub IsLast : Course → ℕ → Step → Type 0
-IsLast c quiet last = (0 < quiet) × (slice_get c.steps (length c.steps - 1) ≡ Some last)
-
--- none of the round after the quiet ones is picked before the step that was taken last
-abbrev pub EarlierAreOld : Pick → Course → Branch → ℕ → ℕ → Type 0
-EarlierAreOld pick c b number quiet = (last : Step) → IsLast c quiet last → NoneIsBefore pick c.problem b number (quiet + 1) last
 
 -- ---- quiet growth
 

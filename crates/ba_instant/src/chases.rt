@@ -5,46 +5,49 @@ ghost use Rattle.ba_kernel.specs.declared.step.Step.TheVariants.{Entry};
 ghost use Rattle.ba_instant.specs.Looks.{IsLook};
 ghost use Rattle.ba_instant.specs.Offers.{Improves, IsEntryOf, IsLinkOfFact, IsLinkStep, links_at};
 
-use crate::found::{Found, Spot, counted};
+use crate::batch::Batch;
+use crate::found::{Spot, counted};
 use crate::recent::fact_round;
 use ba_kernel::Step;
 use std::alloc::AllocError;
 
 impl<'a> Spot<'a> {
     /// Offers the steps by the problem's entries, whose rounds are 1 and 2.
-    pub fn offer_entries(&self, best: &mut Option<Found>)
-        requires { IsLook self.now.pick self.now.search.now self.now.number self.now.branch.now self.now.quiet self.now.recent.now }
-        ensures { Improves self.now.search.now self.now.pick (IsEntryOf self.now.number) best.old best.new }
+    pub fn offer_entries(&self, best: &mut Option<Batch>) -> Result<(), AllocError>
+        requires { IsLook self.now.search.now self.now.number self.now.branch.now self.now.quiet self.now.recent.now }
+        ensures { OnOk result (Improves self.now.search.now self.now.pick (IsEntryOf self.now.number) best.old best.new) }
     {
         if self.quiet < 2 {
-            self.offer_all_entries(best);
+            self.offer_all_entries(best)?;
         }
+        Ok(())
     }
 
-    fn offer_all_entries(&self, best: &mut Option<Found>)
-        requires { IsLook self.now.pick self.now.search.now self.now.number self.now.branch.now self.now.quiet self.now.recent.now }
-        ensures { Improves self.now.search.now self.now.pick (IsEntryOf self.now.number) best.old best.new }
+    fn offer_all_entries(&self, best: &mut Option<Batch>) -> Result<(), AllocError>
+        requires { IsLook self.now.search.now self.now.number self.now.branch.now self.now.quiet self.now.recent.now }
+        ensures { OnOk result (Improves self.now.search.now self.now.pick (IsEntryOf self.now.number) best.old best.new) }
     {
         for entry in 0..self.search.problem().entries.len() {
-            self.offer_entry(entry as u64, best);
+            self.offer_entry(entry as u64, best)?;
         }
+        Ok(())
     }
 
     /// Offers the step by the entry.
-    fn offer_entry(&self, entry: u64, best: &mut Option<Found>)
-        requires look { IsLook self.now.pick self.now.search.now self.now.number self.now.branch.now self.now.quiet self.now.recent.now }
+    fn offer_entry(&self, entry: u64, best: &mut Option<Batch>) -> Result<(), AllocError>
+        requires look { IsLook self.now.search.now self.now.number self.now.branch.now self.now.quiet self.now.recent.now }
         requires there { entry < length self.now.search.now.problem.entries }
-        ensures { Improves self.now.search.now self.now.pick (λ it. it ≡ Entry self.now.number entry) best.old best.new }
+        ensures { OnOk result (Improves self.now.search.now self.now.pick (λ it. it ≡ Entry self.now.number entry) best.old best.new) }
     {
         let round = self.entry_round(entry);
         if round <= self.quiet {
-            return;
+            return Ok(());
         }
         let step = Step::Entry {
             branch: self.number,
             entry,
         };
-        self.offer_at(u64::from(round), step, best);
+        self.offer_at(u64::from(round), step, best)
     }
 
     fn entry_round(&self, entry: u64) -> u32
@@ -56,8 +59,8 @@ impl<'a> Spot<'a> {
     }
 
     /// Offers the steps by links of recent facts.
-    pub fn offer_links(&self, best: &mut Option<Found>) -> Result<(), AllocError>
-        requires { IsLook self.now.pick self.now.search.now self.now.number self.now.branch.now self.now.quiet self.now.recent.now }
+    pub fn offer_links(&self, best: &mut Option<Batch>) -> Result<(), AllocError>
+        requires { IsLook self.now.search.now self.now.number self.now.branch.now self.now.quiet self.now.recent.now }
         ensures { OnOk result (Improves self.now.search.now self.now.pick (IsLinkStep self.now.number) best.old best.new) }
     {
         for fact in self.recent {
@@ -67,8 +70,8 @@ impl<'a> Spot<'a> {
     }
 
     /// Offers the steps by links of the fact.
-    fn offer_links_of(&self, fact: u32, best: &mut Option<Found>) -> Result<(), AllocError>
-        requires { IsLook self.now.pick self.now.search.now self.now.number self.now.branch.now self.now.quiet self.now.recent.now }
+    fn offer_links_of(&self, fact: u32, best: &mut Option<Batch>) -> Result<(), AllocError>
+        requires { IsLook self.now.search.now self.now.number self.now.branch.now self.now.quiet self.now.recent.now }
         ensures { OnOk result (Improves self.now.search.now self.now.pick (IsLinkOfFact self.now.number fact) best.old best.new) }
     {
         let round = u64::from(fact_round(self.branch, fact)) + 1;
@@ -79,7 +82,7 @@ impl<'a> Spot<'a> {
                 link,
                 fact,
             };
-            self.offer_at(round, step, best);
+            self.offer_at(round, step, best)?;
         }
         Ok(())
     }

@@ -16,7 +16,8 @@ pub fn copy_steps(alloc: Global, steps: &List<Step>) -> Result<List<Step>, Alloc
     Ok(List::from_vec(all))
 }
 
-fn copy_step(alloc: Global, step: &Step) -> Result<Step, AllocError>
+/// The same step.
+pub fn copy_step(alloc: Global, step: &Step) -> Result<Step, AllocError>
     ensures { IfOk result (λ it. it ≡ step.now) }
 {
     match step {

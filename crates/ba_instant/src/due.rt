@@ -1,10 +1,14 @@
 //! The due step of a branch, and of all open branches.
-ghost use Rattle.std.specs.Prelude.{◌≡◌, ◌↔◌, IfOk, IsTrue, None, OnOk};
+ghost use Rattle.std.specs.Prelude.{◌≡◌, ◌↔◌, [], IfOk, IsTrue, None, OnOk, Some};
 ghost use Rattle.ba_kernel.specs.Courses.{IsOpen};
+ghost use Rattle.ba_instant.specs.Agendas.{IsAgenda};
 ghost use Rattle.ba_instant.specs.Looks.{IsLook};
+ghost use Rattle.ba_instant.specs.Windows.{IsQuietUpto};
 ghost use Rattle.ba_instant.specs.Nexts.{AreWaiting, ComesLater, IsLooked, IsNext, Waits, first_step};
-ghost use Rattle.ba_instant.specs.Offers.{Improves, IsByMapping, IsClosing, IsDueIfAny, IsOn, IsTaught, IsTelling};
+ghost use Rattle.ba_instant.specs.Offers.{Improves, IsByMapping, IsClosing, IsDueIfAny, IsTaught, IsTelling, NoneCloses};
 
+use crate::agenda::Agenda;
+use crate::batch::Batch;
 use crate::found::{Found, Spot};
 use crate::order::Pick;
 use crate::recent::recent_facts;
@@ -14,6 +18,13 @@ use ba_kernel::{Search, Step};
 use std::alloc::{AllocError, Global};
 use std::cmp::Ordering;
 
+/// A due step with its round, and the agenda of its branch.
+#[derive(Drop)]
+pub struct Due {
+    pub found: Found,
+    pub agenda: Agenda,
+}
+
 /// What a search does next.
 #[derive(Drop)]
 pub enum Next {
@@ -21,94 +32,169 @@ pub enum Next {
     Closed,
     /// The branch of the number has no new step.
     Saturated(u32),
-    /// Takes the step, which has this round.
-    Take(Found),
+    /// Takes the step.
+    Take(Due),
 }
 
 impl<'a> Spot<'a> {
-    /// The due step that is picked on the branch, with its round; none where no step on it is new.
-    pub fn due_step(&self, alloc: Global) -> Result<Option<Found>, AllocError>
-        requires { IsLook self.now.pick self.now.search.now self.now.number self.now.branch.now self.now.quiet self.now.recent.now }
-        ensures { IfOk result (IsDueIfAny self.now.search.now self.now.pick self.now.number) }
-    {
-        let mut best = None;
-        self.offer_all(alloc, &mut best)?;
-        Ok(best)
-    }
-
-    /// Offers all steps on the branch. Those that close it have round 0, and no others do.
-    fn offer_all(&self, alloc: Global, best: &mut Option<Found>) -> Result<(), AllocError>
-        requires look { IsLook self.now.pick self.now.search.now self.now.number self.now.branch.now self.now.quiet self.now.recent.now }
-        requires none { best.old ≡ None }
-        ensures { OnOk result (Improves self.now.search.now self.now.pick (IsOn self.now.number) best.old best.new) }
-    {
-        self.offer_closing(alloc, best)?;
-        if is_none(best) {
-            self.offer_telling(alloc, best)?;
-        }
-        Ok(())
-    }
-
     /// Offers the steps that close the branch.
-    fn offer_closing(&self, alloc: Global, best: &mut Option<Found>) -> Result<(), AllocError>
-        requires { IsLook self.now.pick self.now.search.now self.now.number self.now.branch.now self.now.quiet self.now.recent.now }
+    fn offer_closing(&self, best: &mut Option<Batch>) -> Result<(), AllocError>
+        requires { IsLook self.now.search.now self.now.number self.now.branch.now self.now.quiet self.now.recent.now }
         ensures { OnOk result (Improves self.now.search.now self.now.pick (IsClosing self.now.number) best.old best.new) }
     {
         let absurd = Step::Absurd {
             branch: self.number,
         };
-        self.offer(absurd, best);
-        self.offer_goals(alloc, best)?;
+        self.offer(absurd, best)?;
+        self.offer_goals(best)?;
         Ok(())
     }
 
     /// Offers the steps that tell the branch something. Links come before keys, since a link that is
     /// found early leaves few pairs of facts to be looked at.
-    fn offer_telling(&self, alloc: Global, best: &mut Option<Found>) -> Result<(), AllocError>
-        requires { IsLook self.now.pick self.now.search.now self.now.number self.now.branch.now self.now.quiet self.now.recent.now }
+    fn offer_telling(&self, best: &mut Option<Batch>) -> Result<(), AllocError>
+        requires { IsLook self.now.search.now self.now.number self.now.branch.now self.now.quiet self.now.recent.now }
         ensures { OnOk result (Improves self.now.search.now self.now.pick (IsTelling self.now.number) best.old best.new) }
     {
-        self.offer_entries(best);
+        self.offer_entries(best)?;
         self.offer_links(best)?;
-        self.offer_taught(alloc, best)?;
-        self.offer_splits(alloc, best)?;
+        self.offer_taught(best)?;
+        self.offer_splits(best)?;
         Ok(())
     }
 
-    /// Offers the steps by keys, rules and views. Where keys are passed they come last, since another
-    /// step that is found early leaves none of them to be looked at.
-    fn offer_taught(&self, alloc: Global, best: &mut Option<Found>) -> Result<(), AllocError>
-        requires { IsLook self.now.pick self.now.search.now self.now.number self.now.branch.now self.now.quiet self.now.recent.now }
+    /// Offers the steps by keys, rules and views.
+    fn offer_taught(&self, best: &mut Option<Batch>) -> Result<(), AllocError>
+        requires { IsLook self.now.search.now self.now.number self.now.branch.now self.now.quiet self.now.recent.now }
         ensures { OnOk result (Improves self.now.search.now self.now.pick (IsTaught self.now.number) best.old best.new) }
     {
-        if self.are_keys_passed() {
-            self.offer_mapped(alloc, best)?;
-            self.offer_keys(alloc, best)?;
-        } else {
-            self.offer_keys(alloc, best)?;
-            self.offer_mapped(alloc, best)?;
-        }
+        self.offer_keys(best)?;
+        self.offer_mapped(best)?;
         Ok(())
     }
 
     /// Offers the steps by rules and views.
-    fn offer_mapped(&self, alloc: Global, best: &mut Option<Found>) -> Result<(), AllocError>
-        requires { IsLook self.now.pick self.now.search.now self.now.number self.now.branch.now self.now.quiet self.now.recent.now }
+    fn offer_mapped(&self, best: &mut Option<Batch>) -> Result<(), AllocError>
+        requires { IsLook self.now.search.now self.now.number self.now.branch.now self.now.quiet self.now.recent.now }
         ensures { OnOk result (Improves self.now.search.now self.now.pick (IsByMapping self.now.number) best.old best.new) }
     {
-        self.offer_rules(alloc, best)?;
-        self.offer_views(alloc, best)?;
+        self.offer_rules(best)?;
+        self.offer_views(best)?;
         Ok(())
     }
 }
 
-/// Whether nothing was found.
-fn is_none(best: &Option<Found>) -> bool
-    ensures { IsTrue result ↔ (best.now ≡ None) }
-{
-    match best {
-        None => true,
-        Some(_) => false,
+/// An open branch, by number.
+#[derive(Clone, Copy)]
+struct Place<'a> {
+    search: &'a Search,
+    branch: &'a Branch,
+    number: u32,
+    pick: Pick,
+}
+
+impl Place<'_> {
+    /// The branch's due step with its round, if it has one. The agenda is that of the branch.
+    fn due_step(&self, alloc: Global, agenda: &mut Agenda) -> Result<Option<Found>, AllocError>
+        requires open { IsOpen self.now.search.now.slots self.now.number self.now.branch.now }
+        requires agenda { IsAgenda self.now.pick self.now.search.now.problem self.now.number self.now.branch.now agenda.old }
+        ensures due { IfOk result (IsDueIfAny self.now.search.now self.now.pick self.now.number) }
+        ensures agenda { OnOk result (IsAgenda self.now.pick self.now.search.now.problem self.now.number self.now.branch.now agenda.new) }
+    {
+        let closing = self.closing_steps(alloc)?;
+        match closing {
+            Some(batch) => self.first_of(alloc, batch),
+            None => self.telling_step(alloc, agenda),
+        }
+    }
+
+    /// The new steps that close the branch.
+    fn closing_steps(&self, alloc: Global) -> Result<Option<Batch>, AllocError>
+        requires { IsOpen self.now.search.now.slots self.now.number self.now.branch.now }
+        ensures { IfOk result (Improves self.now.search.now self.now.pick (IsClosing self.now.number) None) }
+    {
+        let recent = recent_facts(alloc, self.branch, 0)?;
+        let spot = Spot {
+            alloc,
+            search: self.search,
+            branch: self.branch,
+            number: self.number,
+            pick: self.pick,
+            quiet: 0,
+            recent: &recent,
+        };
+        let mut best = None;
+        spot.offer_closing(&mut best)?;
+        Ok(best)
+    }
+
+    /// The first of the steps that close the branch.
+    fn first_of(&self, alloc: Global, batch: Batch) -> Result<Option<Found>, AllocError>
+        requires open { IsOpen self.now.search.now.slots self.now.number self.now.branch.now }
+        requires closing { Improves self.now.search.now self.now.pick (IsClosing self.now.number) None (Some batch) }
+        ensures { IfOk result (IsDueIfAny self.now.search.now self.now.pick self.now.number) }
+    {
+        let agenda = Agenda::of(self.pick, batch)?;
+        let first = agenda.first(alloc)?;
+        Ok(first)
+    }
+
+    /// The due step, where none closes the branch.
+    fn telling_step(&self, alloc: Global, agenda: &mut Agenda) -> Result<Option<Found>, AllocError>
+        requires open { IsOpen self.now.search.now.slots self.now.number self.now.branch.now }
+        requires closing { NoneCloses self.now.search.now self.now.number }
+        requires agenda { IsAgenda self.now.pick self.now.search.now.problem self.now.number self.now.branch.now agenda.old }
+        ensures due { IfOk result (IsDueIfAny self.now.search.now self.now.pick self.now.number) }
+        ensures agenda { OnOk result (IsAgenda self.now.pick self.now.search.now.problem self.now.number self.now.branch.now agenda.new) }
+    {
+        agenda.drop_old(alloc, self.search);
+        let first = agenda.first(alloc)?;
+        match first {
+            Some(found) => Ok(Some(found)),
+            None => self.next_round(alloc, agenda),
+        }
+    }
+
+    /// The due step, where nothing is left of the agenda. It is filled again.
+    fn next_round(&self, alloc: Global, agenda: &mut Agenda) -> Result<Option<Found>, AllocError>
+        requires open { IsOpen self.now.search.now.slots self.now.number self.now.branch.now }
+        requires closing { NoneCloses self.now.search.now self.now.number }
+        requires agenda { IsAgenda self.now.pick self.now.search.now.problem self.now.number self.now.branch.now agenda.old }
+        requires empty { agenda.old.steps.items ≡ [] }
+        ensures due { IfOk result (IsDueIfAny self.now.search.now self.now.pick self.now.number) }
+        ensures agenda { OnOk result (IsAgenda self.now.pick self.now.search.now.problem self.now.number self.now.branch.now agenda.new) }
+    {
+        let telling = self.telling_steps(alloc, agenda.round)?;
+        match telling {
+            Some(batch) => {
+                *agenda = Agenda::of(self.pick, batch)?;
+                let first = agenda.first(alloc)?;
+                Ok(first)
+            }
+            None => Ok(None),
+        }
+    }
+
+    /// The new steps of the least round that tell the branch something. It is past this one.
+    fn telling_steps(&self, alloc: Global, round: u64) -> Result<Option<Batch>, AllocError>
+        requires open { IsOpen self.now.search.now.slots self.now.number self.now.branch.now }
+        requires quiet { IsQuietUpto self.now.search.now.problem self.now.branch.now self.now.number round }
+        ensures { IfOk result (Improves self.now.search.now self.now.pick (IsTelling self.now.number) None) }
+    {
+        let quiet = round.min(0xffff_ffff) as u32;
+        let recent = recent_facts(alloc, self.branch, quiet)?;
+        let spot = Spot {
+            alloc,
+            search: self.search,
+            branch: self.branch,
+            number: self.number,
+            pick: self.pick,
+            quiet,
+            recent: &recent,
+        };
+        let mut best = None;
+        spot.offer_telling(&mut best)?;
+        Ok(best)
     }
 }
 
@@ -120,9 +206,9 @@ pub fn next_step(
     alloc: Global,
     search: &Search,
     pick: Pick,
-    waiting: Waiting,
+    waiting: &mut Waiting,
 ) -> Result<Next, AllocError>
-    requires { AreWaiting pick search.now waiting }
+    requires { AreWaiting pick search.now waiting.old }
     ensures { IfOk result (IsNext pick search.now) }
 {
     let mut first = None;
@@ -133,7 +219,7 @@ pub fn next_step(
         }
     }
     match first {
-        Some(found) => Ok(Next::Take(found)),
+        Some(due) => Ok(Next::Take(due)),
         None => Ok(Next::Closed),
     }
 }
@@ -144,12 +230,13 @@ fn look_at(
     alloc: Global,
     search: &Search,
     pick: Pick,
-    waiting: Waiting,
+    waiting: &mut Waiting,
     number: u32,
-    first: &mut Option<Found>,
+    first: &mut Option<Due>,
 ) -> Result<bool, AllocError>
-    requires { AreWaiting pick search.now waiting }
-    ensures { IfOk result (λ it. IsLooked pick search.now number it first.old first.new) }
+    requires { AreWaiting pick search.now waiting.old }
+    ensures looked { IfOk result (λ it. IsLooked pick search.now number it first.old first.new) }
+    ensures waiting { OnOk result (AreWaiting pick search.now waiting.new) }
 {
     if may_wait(pick, waiting, number, first) {
         return Ok(false);
@@ -157,11 +244,18 @@ fn look_at(
     match search.branch(number) {
         None => Ok(false),
         Some(branch) => {
-            let due = due_on(alloc, search, branch, number, pick, waiting)?;
+            let mut agenda = waiting.take_agenda(alloc, number);
+            let place = Place {
+                search,
+                branch,
+                number,
+                pick,
+            };
+            let due = place.due_step(alloc, &mut agenda)?;
             match due {
                 None => Ok(true),
                 Some(found) => {
-                    keep_picked(pick, found, first);
+                    keep_picked(pick, Due { found, agenda }, first);
                     Ok(false)
                 }
             }
@@ -170,40 +264,14 @@ fn look_at(
 }
 
 /// Whether the branch waits, and a step of a branch before was found.
-fn may_wait(pick: Pick, waiting: Waiting, number: u32, first: &Option<Found>) -> bool
-    ensures { IsTrue result ↔ (ComesLater pick first.now × Waits waiting number) }
+fn may_wait(pick: Pick, waiting: &Waiting, number: u32, first: &Option<Due>) -> bool
+    ensures { IsTrue result ↔ (ComesLater pick first.now × Waits waiting.now number) }
 {
     comes_later(pick, first) && waiting.has(number)
 }
 
-/// The branch's due step with its round, if it has one.
-fn due_on(
-    alloc: Global,
-    search: &Search,
-    branch: &Branch,
-    number: u32,
-    pick: Pick,
-    waiting: Waiting,
-) -> Result<Option<Found>, AllocError>
-    requires waiting { AreWaiting pick search.now waiting }
-    requires open { IsOpen search.now.slots number branch.now }
-    ensures { IfOk result (IsDueIfAny search.now pick number) }
-{
-    let quiet = waiting.quiet_of(number);
-    let recent = recent_facts(alloc, branch, quiet)?;
-    let spot = Spot {
-        search,
-        branch,
-        number,
-        pick,
-        quiet,
-        recent: &recent,
-    };
-    spot.due_step(alloc)
-}
-
 /// Whether a step of a branch before was found, so that no step of another is picked before it.
-fn comes_later(pick: Pick, first: &Option<Found>) -> bool
+fn comes_later(pick: Pick, first: &Option<Due>) -> bool
     ensures { IsTrue result ↔ ComesLater pick first.now }
 {
     match (pick, first) {
@@ -213,14 +281,14 @@ fn comes_later(pick: Pick, first: &Option<Found>) -> bool
 }
 
 /// Keeps the one of the two whose step is picked earlier.
-fn keep_picked(pick: Pick, found: Found, first: &mut Option<Found>)
-    ensures { first.new ≡ first_step pick first.old found }
+fn keep_picked(pick: Pick, due: Due, first: &mut Option<Due>)
+    ensures { first.new ≡ first_step pick first.old due }
 {
     let is_first = match first {
-        Some(old) => pick.compare(&old.step, &found.step) == Ordering::Greater,
+        Some(old) => pick.compare(&old.found.step, &due.found.step) == Ordering::Greater,
         None => true,
     };
     if is_first {
-        *first = Some(found);
+        *first = Some(due);
     }
 }

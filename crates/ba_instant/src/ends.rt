@@ -4,15 +4,14 @@ ghost use Rattle.ba_model.specs.declared.limits.TheConstants.{MAX_BUDGET};
 ghost use Rattle.ba_kernel.specs.Courses.{AllClosed, ProblemFits};
 ghost use Rattle.ba_kernel.specs.Tests.{open_at};
 ghost use Rattle.ba_instant.specs.Dues.{Ends, Searches};
-ghost use Rattle.ba_instant.specs.Nexts.{AreWaiting, IsLeafOf, IsTaken};
+ghost use Rattle.ba_instant.specs.Nexts.{AreWaiting, IsAhead, IsLeafOf, IsTaken};
 ghost use Rattle.ba_instant.specs.declared.ends.Settled.TheVariants.{Proved as ByProof, Spent};
 ghost use Rattle.ba_instant.specs.declared.order.Pick.TheVariants.{First};
 
 use crate::copies::copy_steps;
-use crate::due::{Next, next_step};
-use crate::found::Found;
+use crate::due::{Due, Next, next_step};
 use crate::order::Pick;
-use crate::quiet::quiet_after;
+use crate::quiet::left_after;
 use crate::waiting::Waiting;
 use ba_facts::Branch;
 use ba_kernel::{Problem, Proved, Search, Step};
@@ -63,15 +62,63 @@ fn settle_in(
     ensures { IfOk result (Ends pick problem budget) }
 {
     let mut search = Search::start(alloc, problem)?;
-    let mut waiting = Waiting::none();
+    let mut waiting = Waiting::none(alloc);
     for _taken in 0..budget {
-        let next = next_step(alloc, &search, pick, waiting)?;
-        match next {
-            Next::Take(found) => waiting = take(alloc, &mut search, pick, found)?,
-            Next::Saturated(number) => return saturated(alloc, &search, number),
-            Next::Closed => return Ok(closed(search)),
+        let ahead = advance(alloc, &mut search, pick, &mut waiting)?;
+        match ahead {
+            Ahead::Moved => (),
+            Ahead::Saturated(number) => return saturated(alloc, &search, number),
+            Ahead::Closed => return Ok(closed(search)),
         }
     }
+    end(alloc, search, pick, &mut waiting)
+}
+
+/// What became of a search that was to take a step.
+#[derive(Clone, Copy)]
+pub enum Ahead {
+    /// It was taken.
+    Moved,
+    /// None was, since the branch of the number has no new step.
+    Saturated(u32),
+    /// None was, since no branch is open.
+    Closed,
+}
+
+/// Takes the next step, if there is one.
+fn advance(
+    alloc: Global,
+    search: &mut Search,
+    pick: Pick,
+    waiting: &mut Waiting,
+) -> Result<Ahead, AllocError>
+    requires few { length search.old.steps < MAX_BUDGET }
+    requires waiting { AreWaiting pick search.old waiting.old }
+    requires searches { Searches pick search.old.problem search.old.steps search.old.slots }
+    ensures { IfOk result (IsAhead pick search.old search.new waiting.new) }
+{
+    let next = next_step(alloc, search, pick, waiting)?;
+    match next {
+        Next::Take(due) => {
+            *waiting = take(alloc, search, pick, due)?;
+            Ok(Ahead::Moved)
+        }
+        Next::Saturated(number) => Ok(Ahead::Saturated(number)),
+        Next::Closed => Ok(Ahead::Closed),
+    }
+}
+
+/// How the search ends, when the budget is spent.
+fn end(
+    alloc: Global,
+    search: Search,
+    pick: Pick,
+    waiting: &mut Waiting,
+) -> Result<Settled, AllocError>
+    requires waiting { AreWaiting pick search waiting.old }
+    requires searches { Searches pick search.problem search.steps search.slots }
+    ensures { IfOk result (Ends pick search.problem (length search.steps)) }
+{
     let next = next_step(alloc, &search, pick, waiting)?;
     match next {
         Next::Take(_) => spent(alloc, &search),
@@ -80,19 +127,20 @@ fn settle_in(
     }
 }
 
-/// Takes the step, which is due. All branches but its own wait then, and that one may be quiet up to
-/// the round before.
-fn take(alloc: Global, search: &mut Search, pick: Pick, found: Found) -> Result<Waiting, AllocError>
+/// Takes the step, which is due. All branches but its own wait then, and what is left of the agenda is
+/// that one's.
+fn take(alloc: Global, search: &mut Search, pick: Pick, due: Due) -> Result<Waiting, AllocError>
     requires few { length search.old.steps < MAX_BUDGET }
-    requires taken { IsTaken pick search.old found }
+    requires taken { IsTaken pick search.old due }
     requires searches { Searches pick search.old.problem search.old.steps search.old.slots }
     ensures searches { OnOk result (Searches pick search.new.problem search.new.steps search.new.slots) }
     ensures waiting { IfOk result (AreWaiting pick search.new) }
     ensures problem { OnOk result (search.new.problem ≡ search.old.problem) }
-    ensures steps { OnOk result (search.new.steps ≡ search.old.steps ++ found.step ∷ []) }
+    ensures steps { OnOk result (search.new.steps ≡ search.old.steps ++ due.found.step ∷ []) }
 {
-    let quiet = quiet_after(search, &found);
-    let waiting = Waiting::beside(search, &found.step, quiet);
+    let Due { found, agenda } = due;
+    let left = left_after(alloc, search, &found, agenda)?;
+    let waiting = Waiting::beside(search, &found.step, left);
     match search.apply(alloc, found.step) {
         Ok(()) => Ok(waiting),
         Err(Failure::NoMemory) => Err(AllocError),

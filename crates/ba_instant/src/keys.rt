@@ -1,90 +1,51 @@
-//! Keys of two facts, of which one is of no round below a bound.
+//! Keys of two facts, of which one is recent.
 ghost use Rattle.std.specs.Prelude.{◌≡◌, ◌↔◌, All, Any, IfOk, IsTrue, OnOk, length};
 ghost use Rattle.ba_facts.specs.Known.{seen};
 ghost use Rattle.ba_facts.specs.Shown.{IsEqual};
 ghost use Rattle.ba_kernel.specs.Courses.{IsOpen};
 ghost use Rattle.ba_kernel.specs.Effects.{AreEqualAt};
-ghost use Rattle.ba_instant.specs.Looks.{AreEqualBy, AreRecent, IsKeyInTurn, IsLook, IsTimelyKey, IsTurn, KeysAreLate, KeysArePassed, ShareKey};
+ghost use Rattle.ba_instant.specs.Looks.{AreEqualBy, IsKeyInTurn, IsLook, IsTimelyKey, IsTurn, ShareKey};
 ghost use Rattle.ba_instant.specs.Offers.{Improves, IsKeyOfPair, IsKeyStep, OfAny, keys_at};
 
-use crate::found::{Found, Spot, counted};
-use crate::order::{Pick, rank_of};
-use crate::recent::{fact_round, recent_facts};
+use crate::batch::{Batch, is_timely};
+use crate::found::{Spot, counted};
+use crate::recent::fact_round;
 use ba_facts::{Fact, Knowledge, TermRef};
 use ba_kernel::Step;
 use ba_model::List;
-use std::alloc::{AllocError, Global};
+use std::alloc::AllocError;
 
 impl<'a> Spot<'a> {
     /// Offers the steps by keys of two facts.
-    pub fn offer_keys(&self, alloc: Global, best: &mut Option<Found>) -> Result<(), AllocError>
-        requires { IsLook self.now.pick self.now.search.now self.now.number self.now.branch.now self.now.quiet self.now.recent.now }
+    pub fn offer_keys(&self, best: &mut Option<Batch>) -> Result<(), AllocError>
+        requires { IsLook self.now.search.now self.now.number self.now.branch.now self.now.quiet self.now.recent.now }
         ensures { OnOk result (Improves self.now.search.now self.now.pick (IsKeyStep self.now.number) best.old best.new) }
     {
-        let bound = self.key_bound();
-        if self.is_timely(1, bound, best) {
-            let facts = recent_facts(alloc, self.branch, bound)?;
-            self.offer_keys_from(bound, &facts, best)?;
+        if is_timely(self.quiet, best) {
+            self.offer_recent_keys(best)?;
         }
         Ok(())
     }
 
-    /// Up to which round no key is new: those of the round after the quiet ones are passed as well,
-    /// if the step that was taken last comes after them.
-    fn key_bound(&self) -> u32
-        requires { IsLook self.now.pick self.now.search.now self.now.number self.now.branch.now self.now.quiet self.now.recent.now }
-        ensures { KeysAreLate self.now.search.now.problem self.now.branch.now self.now.number result }
-    {
-        if self.are_keys_passed() {
-            self.quiet.saturating_add(1)
-        } else {
-            self.quiet
-        }
-    }
-
-    /// Whether all keys on the branch are picked before the step that was taken last, and some round is
-    /// quiet.
-    pub fn are_keys_passed(&self) -> bool
-        ensures { IsTrue result → KeysArePassed self.now.pick self.now.search.now self.now.number self.now.quiet }
-    {
-        match (self.pick, self.last()) {
-            (Pick::First, Some(last)) => last.branch() == self.number && rank_of(last) > 1,
-            _ => false,
-        }
-    }
-
-    /// Offers the steps by keys of two facts, of which one is of these. They are those of no round
-    /// below the bound.
-    fn offer_keys_from(
-        &self,
-        bound: u32,
-        facts: &[u32],
-        best: &mut Option<Found>,
-    ) -> Result<(), AllocError>
-        requires open { IsOpen self.now.search.now.slots self.now.number self.now.branch.now }
-        requires late { KeysAreLate self.now.search.now.problem self.now.branch.now self.now.number bound }
-        requires facts { AreRecent self.now.branch.now bound facts.now }
+    /// Offers the steps by keys of two facts, of which one is recent.
+    fn offer_recent_keys(&self, best: &mut Option<Batch>) -> Result<(), AllocError>
+        requires { IsLook self.now.search.now self.now.number self.now.branch.now self.now.quiet self.now.recent.now }
         ensures { OnOk result (Improves self.now.search.now self.now.pick (IsKeyStep self.now.number) best.old best.new) }
     {
-        for fact in facts {
-            self.offer_keys_of(bound, *fact, best)?;
+        for fact in self.recent {
+            self.offer_keys_of(*fact, best)?;
         }
         Ok(())
     }
 
     /// Offers the steps by keys of the fact and others whose turn it is.
-    fn offer_keys_of(
-        &self,
-        bound: u32,
-        one: u32,
-        best: &mut Option<Found>,
-    ) -> Result<(), AllocError>
+    fn offer_keys_of(&self, one: u32, best: &mut Option<Batch>) -> Result<(), AllocError>
         requires { IsOpen self.now.search.now.slots self.now.number self.now.branch.now }
-        ensures { OnOk result (Improves self.now.search.now self.now.pick (OfAny (IsKeyInTurn self.now.branch.now bound self.now.number one)) best.old best.new) }
+        ensures { OnOk result (Improves self.now.search.now self.now.pick (OfAny (IsKeyInTurn self.now.branch.now self.now.quiet self.now.number one)) best.old best.new) }
     {
         let count = counted(self.branch.facts.len())?;
         for other in 0..count {
-            if self.is_pair(bound, one, other, best) {
+            if self.is_pair(one, other, best) {
                 self.offer_keys_between(one, other, best)?;
                 self.offer_keys_between(other, one, best)?;
             }
@@ -92,22 +53,22 @@ impl<'a> Spot<'a> {
         Ok(())
     }
 
-    /// Whether it is the other fact's turn, keys of the two may come before what was found, and they
-    /// pass the test of some key.
-    fn is_pair(&self, bound: u32, one: u32, other: u32, best: &Option<Found>) -> bool
-        ensures { IsTrue result ↔ (IsTurn self.now.branch.now bound one other × IsTimelyKey self.now.pick self.now.number self.now.branch.now one other best.now × ShareKey self.now.search.now.problem.policy.schema self.now.branch.now one other) }
+    /// Whether it is the other fact's turn, keys of the two aren't too late, and they pass the test of
+    /// some key.
+    fn is_pair(&self, one: u32, other: u32, best: &Option<Batch>) -> bool
+        ensures { IsTrue result ↔ (IsTurn self.now.branch.now self.now.quiet one other × IsTimelyKey self.now.branch.now one other best.now × ShareKey self.now.search.now.problem.policy.schema self.now.branch.now one other) }
     {
-        self.is_turn(bound, one, other)
+        self.is_turn(one, other)
             && self.is_timely_key(one, other, best)
             && self.share_key(one, other)
     }
 
-    /// Whether the two are looked at from the first one, which is of no round below the bound: two such
-    /// are looked at from that of the lesser number.
-    fn is_turn(&self, bound: u32, one: u32, other: u32) -> bool
-        ensures { IsTrue result ↔ IsTurn self.now.branch.now bound one other }
+    /// Whether the two are looked at from the first one, which is recent: two such are looked at from
+    /// that of the lesser number.
+    fn is_turn(&self, one: u32, other: u32) -> bool
+        ensures { IsTrue result ↔ IsTurn self.now.branch.now self.now.quiet one other }
     {
-        one <= other || fact_round(self.branch, other) < bound
+        one <= other || fact_round(self.branch, other) < self.quiet
     }
 
     /// Offers the steps by keys of the two facts.
@@ -115,7 +76,7 @@ impl<'a> Spot<'a> {
         &self,
         left: u32,
         right: u32,
-        best: &mut Option<Found>,
+        best: &mut Option<Batch>,
     ) -> Result<(), AllocError>
         requires { IsOpen self.now.search.now.slots self.now.number self.now.branch.now }
         ensures { OnOk result (Improves self.now.search.now self.now.pick (IsKeyOfPair self.now.number left right) best.old best.new) }
@@ -128,17 +89,17 @@ impl<'a> Spot<'a> {
                 left,
                 right,
             };
-            self.offer(step, best);
+            self.offer(step, best)?;
         }
         Ok(())
     }
 
-    /// Whether keys of the two facts may come before what was found.
-    fn is_timely_key(&self, one: u32, other: u32, best: &Option<Found>) -> bool
-        ensures { IsTrue result ↔ IsTimelyKey self.now.pick self.now.number self.now.branch.now one other best.now }
+    /// Whether keys of the two facts are of no later round than what was found.
+    fn is_timely_key(&self, one: u32, other: u32, best: &Option<Batch>) -> bool
+        ensures { IsTrue result ↔ IsTimelyKey self.now.branch.now one other best.now }
     {
         let round = fact_round(self.branch, one).max(fact_round(self.branch, other));
-        self.is_timely(1, round, best)
+        is_timely(round, best)
     }
 
     /// Whether the two facts pass the test of some key of their table.

@@ -2,11 +2,15 @@
 //! until no branch is open, a branch has no new step, or the budget is spent.
 #![tactic(auto)]
 
+mod agenda;
+mod batch;
 mod chases;
+mod choices;
 mod copies;
 mod due;
 mod ends;
 mod found;
+mod given;
 mod keys;
 pub mod laws;
 mod mapped;

@@ -5,7 +5,8 @@ ghost use Rattle.ba_kernel.specs.Effects.{rows_at};
 ghost use Rattle.ba_instant.specs.Looks.{AreOld, IsLook, IsTimelyOf, least_round};
 ghost use Rattle.ba_instant.specs.Offers.{Improves, IsHidden, IsMapped, IsMappedFrom, step_of};
 
-use crate::found::{Found, Spot, counted};
+use crate::batch::{Batch, is_timely};
+use crate::found::{Spot, counted};
 use crate::recent::{fact_round, greatest_round};
 use ba_facts::{Branch, Side};
 use ba_kernel::Step;
@@ -59,41 +60,40 @@ pub struct Mapped<'a> {
 impl<'a> Mapped<'a> {
     /// Offers the step on each facts of the side that show the part's atoms.
     #[tactic(auto, using(crate::proofs::MapLemmas::mapped_whole))]
-    pub fn offer(&self, alloc: Global, best: &mut Option<Found>) -> Result<(), AllocError>
-        requires { IsLook self.now.spot.now.pick self.now.spot.now.search.now self.now.spot.now.number self.now.spot.now.branch.now self.now.spot.now.quiet self.now.spot.now.recent.now }
+    pub fn offer(&self, best: &mut Option<Batch>) -> Result<(), AllocError>
+        requires { IsLook self.now.spot.now.search.now self.now.spot.now.number self.now.spot.now.branch.now self.now.spot.now.quiet self.now.spot.now.recent.now }
         ensures { OnOk result (Improves self.now.spot.now.search.now self.now.spot.now.pick (IsMapped self.now.spot.now.branch.now self.now.spot.now.number self.now.form self.now.side self.now.part.now) best.old best.new) }
     {
-        let mut chosen = Vec::new(alloc);
-        self.offer_from(alloc, self.part.from.as_slice(), &mut chosen, best)?;
+        let mut chosen = Vec::new(self.spot.alloc);
+        self.offer_from(self.part.from.as_slice(), &mut chosen, best)?;
         Ok(())
     }
 
     /// Offers the step on the chosen facts and one fact of each further table.
     fn offer_from(
         &self,
-        alloc: Global,
         from: &[u32],
         chosen: &mut Vec<u32>,
-        best: &mut Option<Found>,
+        best: &mut Option<Batch>,
     ) -> Result<(), AllocError>
-        requires { IsLook self.now.spot.now.pick self.now.spot.now.search.now self.now.spot.now.number self.now.spot.now.branch.now self.now.spot.now.quiet self.now.spot.now.recent.now }
+        requires { IsLook self.now.spot.now.search.now self.now.spot.now.number self.now.spot.now.branch.now self.now.spot.now.quiet self.now.spot.now.recent.now }
         ensures chosen { OnOk result (chosen.new.items ≡ chosen.old.items) }
         ensures best { OnOk result (Improves self.now.spot.now.search.now self.now.spot.now.pick (IsMappedFrom self.now.spot.now.branch.now self.now.spot.now.number self.now.form self.now.side self.now.part.now from.now chosen.old.items) best.old best.new) }
     {
         let Some((table, rest)) = from.split_first() else {
-            return self.offer_on(alloc, chosen, best);
+            return self.offer_on(chosen, best);
         };
         if is_hopeless(self.spot.branch, self.part, chosen) {
             return Ok(());
         }
         if rest.is_empty() && self.are_old(chosen) {
-            return self.offer_recent(alloc, *table, chosen, best);
+            return self.offer_recent(*table, chosen, best);
         }
         let count = counted(self.spot.branch.facts.len())?;
         for fact in 0..count {
             if self.may_take(*table, fact, best) {
                 chosen.push(fact)?;
-                self.offer_from(alloc, rest, chosen, best)?;
+                self.offer_from(rest, chosen, best)?;
                 chosen.pop();
             }
         }
@@ -104,12 +104,11 @@ impl<'a> Mapped<'a> {
     /// recent, so that the last one is.
     fn offer_recent(
         &self,
-        alloc: Global,
         table: u32,
         chosen: &mut Vec<u32>,
-        best: &mut Option<Found>,
+        best: &mut Option<Batch>,
     ) -> Result<(), AllocError>
-        requires look { IsLook self.now.spot.now.pick self.now.spot.now.search.now self.now.spot.now.number self.now.spot.now.branch.now self.now.spot.now.quiet self.now.spot.now.recent.now }
+        requires look { IsLook self.now.spot.now.search.now self.now.spot.now.number self.now.spot.now.branch.now self.now.spot.now.quiet self.now.spot.now.recent.now }
         requires old { AreOld self.now.spot.now.branch.now self.now.spot.now.quiet self.now.form chosen.old.items }
         ensures chosen { OnOk result (chosen.new.items ≡ chosen.old.items) }
         ensures best { OnOk result (Improves self.now.spot.now.search.now self.now.spot.now.pick (IsMappedFrom self.now.spot.now.branch.now self.now.spot.now.number self.now.form self.now.side self.now.part.now (table ∷ []) chosen.old.items) best.old best.new) }
@@ -117,7 +116,7 @@ impl<'a> Mapped<'a> {
         for fact in self.spot.recent {
             if self.may_take(table, *fact, best) {
                 chosen.push(*fact)?;
-                self.offer_on(alloc, chosen, best)?;
+                self.offer_on(chosen, best)?;
                 chosen.pop();
             }
         }
@@ -125,19 +124,15 @@ impl<'a> Mapped<'a> {
     }
 
     /// Offers the step on the facts, if they show the part's atoms.
-    fn offer_on(
-        &self,
-        alloc: Global,
-        facts: &[u32],
-        best: &mut Option<Found>,
-    ) -> Result<(), AllocError>
-        requires { IsLook self.now.spot.now.pick self.now.spot.now.search.now self.now.spot.now.number self.now.spot.now.branch.now self.now.spot.now.quiet self.now.spot.now.recent.now }
+    fn offer_on(&self, facts: &[u32], best: &mut Option<Batch>) -> Result<(), AllocError>
+        requires { IsLook self.now.spot.now.search.now self.now.spot.now.number self.now.spot.now.branch.now self.now.spot.now.quiet self.now.spot.now.recent.now }
         ensures { OnOk result (Improves self.now.spot.now.search.now self.now.spot.now.pick (IsMappedFrom self.now.spot.now.branch.now self.now.spot.now.number self.now.form self.now.side self.now.part.now [] facts.now) best.old best.new) }
     {
         match self.spot.branch.undecided(self.part, facts) {
             None => {
-                let step = self.form.on(self.spot.number, copied(alloc, facts)?);
-                self.offer_shown(facts, step, best);
+                let numbers = copied(self.spot.alloc, facts)?;
+                let step = self.form.on(self.spot.number, numbers);
+                self.offer_shown(facts, step, best)?;
                 Ok(())
             }
             Some(_) => Ok(()),
@@ -145,10 +140,15 @@ impl<'a> Mapped<'a> {
     }
 
     /// Offers the step on the facts, which show the part's atoms.
-    fn offer_shown(&self, facts: &[u32], step: Step, best: &mut Option<Found>)
-        requires look { IsLook self.now.spot.now.pick self.now.spot.now.search.now self.now.spot.now.number self.now.spot.now.branch.now self.now.spot.now.quiet self.now.spot.now.recent.now }
+    fn offer_shown(
+        &self,
+        facts: &[u32],
+        step: Step,
+        best: &mut Option<Batch>,
+    ) -> Result<(), AllocError>
+        requires look { IsLook self.now.spot.now.search.now self.now.spot.now.number self.now.spot.now.branch.now self.now.spot.now.quiet self.now.spot.now.recent.now }
         requires is { step ≡ step_of self.now.spot.now.number self.now.form facts.now }
-        ensures { Improves self.now.spot.now.search.now self.now.spot.now.pick (λ it. it ≡ step) best.old best.new }
+        ensures { OnOk result (Improves self.now.spot.now.search.now self.now.spot.now.pick (λ it. it ≡ step) best.old best.new) }
     {
         let round = self.least_round(facts);
         match self.form {
@@ -178,21 +178,21 @@ impl<'a> Mapped<'a> {
         }
     }
 
-    /// Whether the number is that of a fact of the table on the side, and the step on it may come
-    /// before what was found.
-    fn may_take(&self, table: u32, fact: u32, best: &Option<Found>) -> bool
-        ensures { IsTrue result ↔ (IsFactOf self.now.spot.now.branch.now self.now.side table fact × IsTimelyOf self.now.spot.now.pick self.now.spot.now.number self.now.spot.now.branch.now self.now.form fact best.now) }
+    /// Whether the number is that of a fact of the table on the side, and the step on it isn't of a
+    /// later round than what was found.
+    fn may_take(&self, table: u32, fact: u32, best: &Option<Batch>) -> bool
+        ensures { IsTrue result ↔ (IsFactOf self.now.spot.now.branch.now self.now.side table fact × IsTimelyOf self.now.spot.now.branch.now self.now.form fact best.now) }
     {
         self.is_fact(table, fact) && self.is_timely(fact, best)
     }
 
-    fn is_timely(&self, fact: u32, best: &Option<Found>) -> bool
-        ensures { IsTrue result ↔ IsTimelyOf self.now.spot.now.pick self.now.spot.now.number self.now.spot.now.branch.now self.now.form fact best.now }
+    fn is_timely(&self, fact: u32, best: &Option<Batch>) -> bool
+        ensures { IsTrue result ↔ IsTimelyOf self.now.spot.now.branch.now self.now.form fact best.now }
     {
         let round = fact_round(self.spot.branch, fact);
         match self.form {
-            Form::OfRule { .. } => self.spot.is_timely(3, round, best),
-            Form::OfView { .. } => self.spot.is_timely(4, round, best),
+            Form::OfRule { .. } => is_timely(round, best),
+            Form::OfView { .. } => is_timely(round, best),
             Form::OfGoal { .. } => true,
         }
     }

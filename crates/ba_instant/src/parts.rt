@@ -4,11 +4,12 @@ ghost use Rattle.ba_instant.specs.Looks.{IsLook};
 ghost use Rattle.ba_instant.specs.Offers.{Improves, IsGoalStep, IsOfRule, IsOfSides, IsOfView, IsRuleStep, IsViewStep};
 ghost use Rattle.ba_instant.specs.declared.mapped.Form.TheVariants.{OfRule};
 
-use crate::found::{Found, Spot, counted};
+use crate::batch::{Batch, is_timely};
+use crate::found::{Spot, counted};
 use crate::mapped::{Form, Mapped};
 use ba_facts::Side;
 use ba_model::{Part, Rule, View};
-use std::alloc::{AllocError, Global};
+use std::alloc::AllocError;
 
 impl<'a> Spot<'a> {
     /// The policy's views.
@@ -54,35 +55,30 @@ impl<'a> Spot<'a> {
     }
 
     /// Offers the steps by views.
-    pub fn offer_views(&self, alloc: Global, best: &mut Option<Found>) -> Result<(), AllocError>
-        requires { IsLook self.now.pick self.now.search.now self.now.number self.now.branch.now self.now.quiet self.now.recent.now }
+    pub fn offer_views(&self, best: &mut Option<Batch>) -> Result<(), AllocError>
+        requires { IsLook self.now.search.now self.now.number self.now.branch.now self.now.quiet self.now.recent.now }
         ensures { OnOk result (Improves self.now.search.now self.now.pick (IsViewStep self.now.number) best.old best.new) }
     {
-        if self.is_timely(4, self.quiet, best) {
-            self.offer_all_views(alloc, best)?;
+        if is_timely(self.quiet, best) {
+            self.offer_all_views(best)?;
         }
         Ok(())
     }
 
-    fn offer_all_views(&self, alloc: Global, best: &mut Option<Found>) -> Result<(), AllocError>
-        requires { IsLook self.now.pick self.now.search.now self.now.number self.now.branch.now self.now.quiet self.now.recent.now }
+    fn offer_all_views(&self, best: &mut Option<Batch>) -> Result<(), AllocError>
+        requires { IsLook self.now.search.now self.now.number self.now.branch.now self.now.quiet self.now.recent.now }
         ensures { OnOk result (Improves self.now.search.now self.now.pick (IsViewStep self.now.number) best.old best.new) }
     {
         let count = counted(self.search.problem().policy.views.len())?;
         for view in 0..count {
-            self.offer_view(alloc, view, best)?;
+            self.offer_view(view, best)?;
         }
         Ok(())
     }
 
     /// Offers the steps by the view.
-    fn offer_view(
-        &self,
-        alloc: Global,
-        view: u32,
-        best: &mut Option<Found>,
-    ) -> Result<(), AllocError>
-        requires look { IsLook self.now.pick self.now.search.now self.now.number self.now.branch.now self.now.quiet self.now.recent.now }
+    fn offer_view(&self, view: u32, best: &mut Option<Batch>) -> Result<(), AllocError>
+        requires look { IsLook self.now.search.now self.now.number self.now.branch.now self.now.quiet self.now.recent.now }
         requires there { view < length self.now.search.now.problem.policy.views }
         ensures { OnOk result (Improves self.now.search.now self.now.pick (IsOfView self.now.number view) best.old best.new) }
     {
@@ -95,48 +91,43 @@ impl<'a> Spot<'a> {
                 part: it.query.parts.get(part as usize),
                 side: Side::One,
             };
-            mapped.offer(alloc, best)?;
+            mapped.offer(best)?;
         }
         Ok(())
     }
 
     /// Offers the steps by rules.
-    pub fn offer_rules(&self, alloc: Global, best: &mut Option<Found>) -> Result<(), AllocError>
-        requires { IsLook self.now.pick self.now.search.now self.now.number self.now.branch.now self.now.quiet self.now.recent.now }
+    pub fn offer_rules(&self, best: &mut Option<Batch>) -> Result<(), AllocError>
+        requires { IsLook self.now.search.now self.now.number self.now.branch.now self.now.quiet self.now.recent.now }
         ensures { OnOk result (Improves self.now.search.now self.now.pick (IsRuleStep self.now.number) best.old best.new) }
     {
-        if self.is_timely(3, self.quiet, best) {
-            self.offer_all_rules(alloc, best)?;
+        if is_timely(self.quiet, best) {
+            self.offer_all_rules(best)?;
         }
         Ok(())
     }
 
-    fn offer_all_rules(&self, alloc: Global, best: &mut Option<Found>) -> Result<(), AllocError>
-        requires { IsLook self.now.pick self.now.search.now self.now.number self.now.branch.now self.now.quiet self.now.recent.now }
+    fn offer_all_rules(&self, best: &mut Option<Batch>) -> Result<(), AllocError>
+        requires { IsLook self.now.search.now self.now.number self.now.branch.now self.now.quiet self.now.recent.now }
         ensures { OnOk result (Improves self.now.search.now self.now.pick (IsRuleStep self.now.number) best.old best.new) }
     {
         let count = counted(self.search.problem().policy.schema.rules.len())?;
         for rule in 0..count {
-            self.offer_rule(alloc, rule, best)?;
+            self.offer_rule(rule, best)?;
         }
         Ok(())
     }
 
     /// Offers the steps by the rule.
-    fn offer_rule(
-        &self,
-        alloc: Global,
-        rule: u32,
-        best: &mut Option<Found>,
-    ) -> Result<(), AllocError>
-        requires look { IsLook self.now.pick self.now.search.now self.now.number self.now.branch.now self.now.quiet self.now.recent.now }
+    fn offer_rule(&self, rule: u32, best: &mut Option<Batch>) -> Result<(), AllocError>
+        requires look { IsLook self.now.search.now self.now.number self.now.branch.now self.now.quiet self.now.recent.now }
         requires there { rule < length self.now.search.now.problem.policy.schema.rules }
         ensures { OnOk result (Improves self.now.search.now self.now.pick (IsOfRule self.now.number rule) best.old best.new) }
     {
         let it = self.rule_at(rule);
         let count = counted(it.left.parts.len())?;
         for part in 0..count {
-            self.offer_rule_part(alloc, rule, part, it.left.parts.get(part as usize), best)?;
+            self.offer_rule_part(rule, part, it.left.parts.get(part as usize), best)?;
         }
         Ok(())
     }
@@ -144,13 +135,12 @@ impl<'a> Spot<'a> {
     /// Offers the steps by the rule's left part, on both sides.
     fn offer_rule_part(
         &self,
-        alloc: Global,
         rule: u32,
         number: u32,
         part: &Part,
-        best: &mut Option<Found>,
+        best: &mut Option<Batch>,
     ) -> Result<(), AllocError>
-        requires { IsLook self.now.pick self.now.search.now self.now.number self.now.branch.now self.now.quiet self.now.recent.now }
+        requires { IsLook self.now.search.now self.now.number self.now.branch.now self.now.quiet self.now.recent.now }
         ensures { OnOk result (Improves self.now.search.now self.now.pick (IsOfSides self.now.branch.now self.now.number (OfRule rule number) part.now) best.old best.new) }
     {
         let form = Form::OfRule { rule, part: number };
@@ -160,15 +150,15 @@ impl<'a> Spot<'a> {
             part,
             side: Side::One,
         };
-        mapped.offer(alloc, best)?;
+        mapped.offer(best)?;
         mapped.side = Side::Two;
-        mapped.offer(alloc, best)?;
+        mapped.offer(best)?;
         Ok(())
     }
 
     /// Offers the steps that reach the goal.
-    pub fn offer_goals(&self, alloc: Global, best: &mut Option<Found>) -> Result<(), AllocError>
-        requires { IsLook self.now.pick self.now.search.now self.now.number self.now.branch.now self.now.quiet self.now.recent.now }
+    pub fn offer_goals(&self, best: &mut Option<Batch>) -> Result<(), AllocError>
+        requires { IsLook self.now.search.now self.now.number self.now.branch.now self.now.quiet self.now.recent.now }
         ensures { OnOk result (Improves self.now.search.now self.now.pick (IsGoalStep self.now.number) best.old best.new) }
     {
         let count = counted(self.goal_parts().len())?;
@@ -179,7 +169,7 @@ impl<'a> Spot<'a> {
                 part: self.goal_part(part),
                 side: Side::Two,
             };
-            mapped.offer(alloc, best)?;
+            mapped.offer(best)?;
         }
         Ok(())
     }

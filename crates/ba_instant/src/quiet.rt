@@ -1,63 +1,83 @@
 //! Steps after which nothing of an earlier round is new on their branch.
-ghost use Rattle.std.specs.Prelude.{◌≡◌, ◌↔◌, ◌<◌, ◌⊎◌, All, IsTrue, false, nat_eq};
+ghost use Rattle.std.specs.Prelude.{◌≡◌, ◌↔◌, All, IfOk, IsTrue, false, nat_eq};
 ghost use Rattle.std.specs.List.{IsDistinct};
+ghost use Rattle.std.specs.Option.{option_copied};
 ghost use Rattle.ba_facts.specs.Known.{seen};
 ghost use Rattle.ba_facts.specs.Matches.{Under};
-ghost use Rattle.ba_kernel.specs.Courses.{ProblemFits};
+ghost use Rattle.ba_kernel.specs.Courses.{ProblemFits, branch_of};
 ghost use Rattle.ba_kernel.specs.Effects.{rows_at};
-ghost use Rattle.ba_instant.specs.Nexts.{IsLeftQuiet};
+ghost use Rattle.ba_kernel.specs.Tests.{open_at};
+ghost use Rattle.ba_instant.specs.Nexts.{IsLeft, IsQuietAt};
 ghost use Rattle.ba_instant.specs.QuietSteps.{IsPlain, IsQuietLink, IsQuietStep, IsQuietView};
 
+use crate::agenda::Agenda;
 use crate::found::Found;
+use crate::given::is_quiet_entry;
 use ba_facts::{Branch, TermRef};
 use ba_kernel::{Problem, Search, Step};
 use ba_model::{Atom, Op};
+use std::alloc::{AllocError, Global};
 
-/// Up to which round no step will be new that tells the step's branch something, if it is taken as
-/// the branch's due step. It has this round.
-pub fn quiet_after(search: &Search, found: &Found) -> u32
-    ensures is { IsLeftQuiet search.now found.now result }
+/// What is left of the agenda after the due step: all, if the step is sure to leave its branch as
+/// quiet as it was, else nothing.
+pub fn left_after(
+    alloc: Global,
+    search: &Search,
+    found: &Found,
+    agenda: Agenda,
+) -> Result<Agenda, AllocError>
+    ensures left { IfOk result (IsLeft search.now (record { found = found.now; agenda = agenda })) }
     ensures fits { ProblemFits search.now.problem }
 {
     let problem = search.problem();
-    match search.branch(found.step.branch()) {
-        Some(branch) => {
-            if is_quiet_step(problem, branch, &found.step) {
-                round_before(found.round)
-            } else {
-                0
-            }
-        }
-        None => 0,
+    let branch = search.branch(found.step.branch());
+    let is_quiet = is_quiet_at(alloc, problem, branch, &found.step)?;
+    if is_quiet && agenda.round <= found.round {
+        Ok(agenda)
+    } else {
+        Ok(Agenda::none(alloc))
     }
 }
 
-/// A number before the round: that of the round before it, as far as 32 bits go.
-fn round_before(round: u64) -> u32
-    ensures { (result ≡ 0) ⊎ (result < round) }
+fn is_quiet_at(
+    alloc: Global,
+    problem: &Problem,
+    branch: Option<&Branch>,
+    step: &Step,
+) -> Result<bool, AllocError>
+    ensures { IfOk result (λ it. IsTrue it → IsQuietAt problem.now (option_copied branch.entry) step.now) }
 {
-    round.saturating_sub(1).min(0xffff_ffff) as u32
+    match branch {
+        Some(branch) => is_quiet_step(alloc, problem, branch, step),
+        None => Ok(false),
+    }
 }
 
 /// Whether the step is sure to leave its branch as quiet as it was: a link adds a row whose unknowns
-/// stand for nothing else, and so does a view that shows what was told as it is.
-fn is_quiet_step(problem: &Problem, branch: &Branch, step: &Step) -> bool
-    ensures { IsTrue result → IsQuietStep problem.now branch.now step.now }
+/// stand for nothing else, a view shows what was told as it is, an entry says no more than what is
+/// known of its constants.
+fn is_quiet_step(
+    alloc: Global,
+    problem: &Problem,
+    branch: &Branch,
+    step: &Step,
+) -> Result<bool, AllocError>
+    ensures { IfOk result (λ it. IsTrue it → IsQuietStep problem.now branch.now step.now) }
 {
     match step {
-        Step::Link { link, fact, .. } => is_quiet_link(problem, branch, *link, *fact),
+        Step::Entry { entry, .. } => is_quiet_entry(alloc, problem, branch, *entry),
+        Step::Link { link, fact, .. } => Ok(is_quiet_link(problem, branch, *link, *fact)),
         Step::View {
             view,
             part,
             facts,
             ..
-        } => is_quiet_view(problem, branch, *view, *part, facts.as_slice()),
-        Step::Key { .. } => false,
-        Step::Split { .. } => false,
-        Step::Entry { .. } => false,
-        Step::Rule { .. } => false,
-        Step::Absurd { .. } => false,
-        Step::Goal { .. } => false,
+        } => Ok(is_quiet_view(problem, branch, *view, *part, facts.as_slice())),
+        Step::Key { .. } => Ok(false),
+        Step::Split { .. } => Ok(false),
+        Step::Rule { .. } => Ok(false),
+        Step::Absurd { .. } => Ok(false),
+        Step::Goal { .. } => Ok(false),
     }
 }
 
@@ -133,7 +153,8 @@ fn is_plain(branch: &Branch, facts: &[u32], atom: &Atom) -> bool
     }
 }
 
-fn is_plain_of(branch: &Branch, op: Op, left: TermRef<'_>, right: TermRef<'_>) -> bool
+/// Whether the comparison, which is shown of the terms, is known of them as it would be told.
+pub fn is_plain_of(branch: &Branch, op: Op, left: TermRef<'_>, right: TermRef<'_>) -> bool
     ensures { IsTrue result → IsPlain branch.now.known op (seen left.entry) (seen right.entry) }
 {
     match op {

@@ -1,13 +1,11 @@
-//! Recent facts, and what may come before what was found.
-ghost use Rattle.std.specs.Prelude.{◌≡◌, ◌↔◌, IfOk, IsTrue};
+//! Recent facts.
+ghost use Rattle.std.specs.Prelude.{◌≡◌, IfOk};
 ghost use Rattle.ba_facts.specs.Matches.{round_of};
-ghost use Rattle.ba_instant.specs.Looks.{AreRecent, ComeAfter, IsAhead, IsTimely};
+ghost use Rattle.ba_instant.specs.Looks.{AreRecent};
 ghost use Rattle.ba_instant.specs.Offers.{fact_round};
 
-use crate::found::{Found, Spot, counted};
-use crate::order::{Pick, rank_of};
+use crate::found::counted;
 use ba_facts::Branch;
-use ba_kernel::Step;
 use std::alloc::{AllocError, Global};
 
 /// The facts whose round is at least the bound, by number.
@@ -43,33 +41,4 @@ pub fn greatest_round(branch: &Branch, facts: &[u32]) -> u32
         greatest = greatest.max(fact_round(branch, *fact));
     }
     greatest
-}
-
-impl<'a> Spot<'a> {
-    /// Whether a step of the kind whose round is more than this may come before what was found.
-    pub fn is_timely(&self, rank: u8, round: u32, best: &Option<Found>) -> bool
-        ensures { IsTrue result ↔ IsTimely self.now.pick self.now.number rank round best.now }
-    {
-        match best {
-            Some(found) => self.is_ahead(rank, round, found),
-            None => true,
-        }
-    }
-
-    fn is_ahead(&self, rank: u8, round: u32, found: &Found) -> bool
-        ensures { IsTrue result ↔ IsAhead self.now.pick self.now.number rank round found.now }
-    {
-        let round = u64::from(round);
-        round < found.round && (!self.come_after(rank, &found.step) || round + 1 < found.round)
-    }
-
-    /// Whether the steps of the kind on the branch are picked after this one.
-    fn come_after(&self, rank: u8, step: &Step) -> bool
-        ensures { IsTrue result ↔ ComeAfter self.now.pick self.now.number rank step.now }
-    {
-        match self.pick {
-            Pick::First => step.branch() == self.number && rank_of(step) < rank,
-            Pick::Last => false,
-        }
-    }
 }

@@ -6,7 +6,8 @@ ghost use Rattle.ba_kernel.specs.Courses.{IsOpen};
 ghost use Rattle.ba_instant.specs.Looks.{AreEquations, IsLook};
 ghost use Rattle.ba_instant.specs.Offers.{Improves, IsSplitOfAtom, IsSplitOfConds, IsSplitOfPart, IsSplitOfParts, IsSplitOfRules, IsSplitOfSides, IsSplitOfViews, IsSplitStep};
 
-use crate::found::{Found, Spot};
+use crate::batch::{Batch, is_timely};
+use crate::found::Spot;
 use ba_facts::{Side, Term, TermAtom, TermRef};
 use ba_kernel::Step;
 use ba_model::{Atom, Duplicate, Op, Part, Rule, Same, View};
@@ -14,86 +15,70 @@ use std::alloc::{AllocError, Global};
 
 impl<'a> Spot<'a> {
     /// Offers the splits.
-    pub fn offer_splits(&self, alloc: Global, best: &mut Option<Found>) -> Result<(), AllocError>
-        requires { IsLook self.now.pick self.now.search.now self.now.number self.now.branch.now self.now.quiet self.now.recent.now }
+    pub fn offer_splits(&self, best: &mut Option<Batch>) -> Result<(), AllocError>
+        requires { IsLook self.now.search.now self.now.number self.now.branch.now self.now.quiet self.now.recent.now }
         ensures { OnOk result (Improves self.now.search.now self.now.pick (IsSplitStep self.now.number) best.old best.new) }
     {
-        if self.is_timely(5, self.quiet, best) {
-            self.offer_all_splits(alloc, best)?;
+        if is_timely(self.quiet, best) {
+            self.offer_all_splits(best)?;
         }
         Ok(())
     }
 
-    fn offer_all_splits(&self, alloc: Global, best: &mut Option<Found>) -> Result<(), AllocError>
+    fn offer_all_splits(&self, best: &mut Option<Batch>) -> Result<(), AllocError>
         requires { IsOpen self.now.search.now.slots self.now.number self.now.branch.now }
         ensures { OnOk result (Improves self.now.search.now self.now.pick (IsSplitStep self.now.number) best.old best.new) }
     {
-        self.offer_view_splits(alloc, self.views(), best)?;
-        self.offer_rule_splits(alloc, self.rules(), best)?;
-        self.offer_part_splits(alloc, self.goal_parts(), Side::Two, best)?;
+        self.offer_view_splits(self.views(), best)?;
+        self.offer_rule_splits(self.rules(), best)?;
+        self.offer_part_splits(self.goal_parts(), Side::Two, best)?;
         Ok(())
     }
 
     /// Offers the splits by atoms of the views, mapped to side One.
-    fn offer_view_splits(
-        &self,
-        alloc: Global,
-        views: &[View],
-        best: &mut Option<Found>,
-    ) -> Result<(), AllocError>
+    fn offer_view_splits(&self, views: &[View], best: &mut Option<Batch>) -> Result<(), AllocError>
         requires { IsOpen self.now.search.now.slots self.now.number self.now.branch.now }
         ensures { OnOk result (Improves self.now.search.now self.now.pick (IsSplitOfViews self.now.branch.now self.now.number views.now) best.old best.new) }
     {
         for view in views {
-            self.offer_part_splits(alloc, view.query.parts.as_slice(), Side::One, best)?;
+            self.offer_part_splits(view.query.parts.as_slice(), Side::One, best)?;
         }
         Ok(())
     }
 
     /// Offers the splits by atoms of the rules' left queries, mapped to both sides.
-    fn offer_rule_splits(
-        &self,
-        alloc: Global,
-        rules: &[Rule],
-        best: &mut Option<Found>,
-    ) -> Result<(), AllocError>
+    fn offer_rule_splits(&self, rules: &[Rule], best: &mut Option<Batch>) -> Result<(), AllocError>
         requires { IsOpen self.now.search.now.slots self.now.number self.now.branch.now }
         ensures { OnOk result (Improves self.now.search.now self.now.pick (IsSplitOfRules self.now.branch.now self.now.number rules.now) best.old best.new) }
     {
         for rule in rules {
-            self.offer_side_splits(alloc, rule.left.parts.as_slice(), best)?;
+            self.offer_side_splits(rule.left.parts.as_slice(), best)?;
         }
         Ok(())
     }
 
     /// Offers the splits by atoms of the parts, mapped to both sides.
-    fn offer_side_splits(
-        &self,
-        alloc: Global,
-        parts: &[Part],
-        best: &mut Option<Found>,
-    ) -> Result<(), AllocError>
+    fn offer_side_splits(&self, parts: &[Part], best: &mut Option<Batch>) -> Result<(), AllocError>
         requires { IsOpen self.now.search.now.slots self.now.number self.now.branch.now }
         ensures { OnOk result (Improves self.now.search.now self.now.pick (IsSplitOfSides self.now.branch.now self.now.number parts.now) best.old best.new) }
     {
-        self.offer_part_splits(alloc, parts, Side::One, best)?;
-        self.offer_part_splits(alloc, parts, Side::Two, best)?;
+        self.offer_part_splits(parts, Side::One, best)?;
+        self.offer_part_splits(parts, Side::Two, best)?;
         Ok(())
     }
 
     /// Offers the splits by atoms of the parts, mapped to the side.
     fn offer_part_splits(
         &self,
-        alloc: Global,
         parts: &[Part],
         side: Side,
-        best: &mut Option<Found>,
+        best: &mut Option<Batch>,
     ) -> Result<(), AllocError>
         requires { IsOpen self.now.search.now.slots self.now.number self.now.branch.now }
         ensures { OnOk result (Improves self.now.search.now self.now.pick (IsSplitOfParts self.now.branch.now self.now.number side parts.now) best.old best.new) }
     {
         for part in parts {
-            self.offer_splits_of(alloc, part, side, best)?;
+            self.offer_splits_of(part, side, best)?;
         }
         Ok(())
     }
@@ -101,10 +86,9 @@ impl<'a> Spot<'a> {
     /// Offers the splits by atoms of the part, mapped to the side. None is by an `=`.
     fn offer_splits_of(
         &self,
-        alloc: Global,
         part: &Part,
         side: Side,
-        best: &mut Option<Found>,
+        best: &mut Option<Batch>,
     ) -> Result<(), AllocError>
         requires { IsOpen self.now.search.now.slots self.now.number self.now.branch.now }
         ensures { OnOk result (Improves self.now.search.now self.now.pick (IsSplitOfPart self.now.branch.now self.now.number side part.now) best.old best.new) }
@@ -112,9 +96,9 @@ impl<'a> Spot<'a> {
         if are_equations(part) {
             return Ok(());
         }
-        let found = self.branch.matches(alloc, part, side)?;
+        let found = self.branch.matches(self.alloc, part, side)?;
         for mapping in found.as_slice() {
-            self.offer_atoms(alloc, mapping.facts.as_slice(), part.conds.as_slice(), best)?;
+            self.offer_atoms(mapping.facts.as_slice(), part.conds.as_slice(), best)?;
         }
         Ok(())
     }
@@ -122,15 +106,14 @@ impl<'a> Spot<'a> {
     /// Offers the splits by the atoms over the facts.
     fn offer_atoms(
         &self,
-        alloc: Global,
         facts: &[u32],
         conds: &[Atom],
-        best: &mut Option<Found>,
+        best: &mut Option<Batch>,
     ) -> Result<(), AllocError>
         ensures { OnOk result (Improves self.now.search.now self.now.pick (IsSplitOfConds self.now.branch.now self.now.number facts.now conds.now) best.old best.new) }
     {
         for atom in conds {
-            self.offer_atom(alloc, facts, atom, best)?;
+            self.offer_atom(facts, atom, best)?;
         }
         Ok(())
     }
@@ -138,10 +121,9 @@ impl<'a> Spot<'a> {
     /// Offers the split by the atom over the facts.
     fn offer_atom(
         &self,
-        alloc: Global,
         facts: &[u32],
         atom: &Atom,
-        best: &mut Option<Found>,
+        best: &mut Option<Batch>,
     ) -> Result<(), AllocError>
         ensures { OnOk result (Improves self.now.search.now self.now.pick (IsSplitOfAtom self.now.branch.now self.now.number facts.now atom.now) best.old best.new) }
     {
@@ -150,13 +132,12 @@ impl<'a> Spot<'a> {
             self.branch.term_of(facts, &atom.right),
         ) {
             (Some(left), Some(right)) => {
-                let atom = term_atom(alloc, atom.op, left, right)?;
+                let atom = term_atom(self.alloc, atom.op, left, right)?;
                 let step = Step::Split {
                     branch: self.number,
                     atom,
                 };
-                self.offer(step, best);
-                Ok(())
+                self.offer(step, best)
             }
             _ => Ok(()),
         }

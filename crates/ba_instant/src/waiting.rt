@@ -1,63 +1,68 @@
 //! What is known of branches from the step before.
 ghost use Rattle.std.specs.Prelude.{◌≡◌, ◌↔◌, IsTrue, length};
-ghost use Rattle.ba_facts.specs.declared.branch.Branch.{Branch as ABranch};
-ghost use Rattle.ba_kernel.specs.Courses.{IsOpen, branch_of};
+ghost use Rattle.ba_kernel.specs.Courses.{branch_of};
 ghost use Rattle.ba_kernel.specs.Tests.{Course};
+ghost use Rattle.ba_instant.specs.Agendas.{IsAgendaAt, IsNone};
 ghost use Rattle.ba_instant.specs.Nexts.{AreWaiting, Waits};
-ghost use Rattle.ba_instant.specs.Windows.{EarlierAreOld, IsQuietUpto};
 ghost use Rattle.ba_instant.specs.declared.order.Pick.{Pick};
 
+use crate::agenda::Agenda;
 use ba_kernel::{Search, Step};
+use std::alloc::Global;
+use std::mem;
 
 /// The branches that wait: those of a number below the bound but one, of which each that is open has
-/// a new step. On the one that doesn't wait no step that tells it something is new whose round is at
-/// most `quiet`; unless that is 0, none of the round after it is picked before the step that was
-/// taken last.
-#[derive(Clone, Copy)]
+/// a new step. The one that doesn't wait has the agenda.
+#[derive(Drop)]
 pub struct Waiting {
     pub below: u32,
     pub but: u32,
-    pub quiet: u32,
+    pub agenda: Agenda,
 }
 
 impl Waiting {
     /// None.
-    pub fn none() -> Waiting
+    pub fn none(alloc: Global) -> Waiting
         ensures below { result.below ≡ 0 }
-        ensures quiet { result.quiet ≡ 0 }
+        ensures agenda { IsNone result.agenda }
     {
         Waiting {
             below: 0,
             but: 0,
-            quiet: 0,
+            agenda: Agenda::none(alloc),
         }
     }
 
-    /// All but that of the step, which is quiet up to the round.
-    pub fn beside(search: &Search, step: &Step, quiet: u32) -> Waiting
+    /// All but that of the step, which has the agenda.
+    pub fn beside(search: &Search, step: &Step, agenda: Agenda) -> Waiting
         ensures below { result.below ≡ length search.now.slots }
         ensures but { result.but ≡ branch_of step.now }
-        ensures quiet { result.quiet ≡ quiet }
+        ensures agenda { result.agenda ≡ agenda }
     {
         Waiting {
             below: search.branches(),
             but: step.branch(),
-            quiet,
+            agenda,
         }
     }
 
     /// Whether the branch waits.
-    pub fn has(self, number: u32) -> bool
-        ensures { IsTrue result ↔ Waits self number }
+    pub fn has(&self, number: u32) -> bool
+        ensures { IsTrue result ↔ Waits self.now number }
     {
         number < self.below && number != self.but
     }
 
-    /// Up to which round no step is new on the branch that tells it something.
-    pub fn quiet_of(self, number: u32) -> u32
-        ensures quiet { (pick : Pick) (c : Course) (b : ABranch) → AreWaiting pick c self → IsOpen c.slots number b → IsQuietUpto c.problem b number result }
-        ensures earlier { (pick : Pick) (c : Course) (b : ABranch) → AreWaiting pick c self → IsOpen c.slots number b → EarlierAreOld pick c b number result }
+    /// Takes the branch's agenda out.
+    pub fn take_agenda(&mut self, alloc: Global, number: u32) -> Agenda
+        ensures agenda { (pick : Pick) (c : Course) → AreWaiting pick c self.old → IsAgendaAt pick c number result }
+        ensures waiting { (pick : Pick) (c : Course) → AreWaiting pick c self.old → AreWaiting pick c self.new }
     {
-        if number == self.but { self.quiet } else { 0 }
+        let none = Agenda::none(alloc);
+        if number == self.but {
+            mem::replace(&mut self.agenda, none)
+        } else {
+            none
+        }
     }
 }

@@ -3,14 +3,14 @@ use Rattle.ba_instant.proofs.ends.take.Goals as goal
 
 pub unreachable-requires : goal.unreachable-requires
 unreachable-requires c =
-    not_refused c.args.pick c.args.search.now c.args.found c.requires.taken c.in-Err-Fault.field-0 c.in-Err-Fault.field-0-0 c.in-Err-Fault.field-0-is c.in-Err-Fault.ensures.fault
+    not_refused c.args.pick c.args.search.now c.args.due c.requires.taken c.in-Err-Fault.field-0 c.in-Err-Fault.field-0-0 c.in-Err-Fault.field-0-is c.in-Err-Fault.ensures.fault
 
 pub returns-in-Ok-clause-searches : goal.returns-in-Ok-clause-searches
 returns-in-Ok-clause-searches c =
-    searches_on c.args.pick c.args.search.now c.args.found c.requires.taken c.apply.new.self c.requires.searches c.in-Ok.ensures.taken c.in-Ok.ensures.steps c.in-Ok.ensures.problem
+    searches_on c.args.pick c.args.search.now c.args.due c.requires.taken c.apply.new.self c.requires.searches c.in-Ok.ensures.taken c.in-Ok.ensures.steps c.in-Ok.ensures.problem
 
 pub returns-in-Ok-clause-waiting : goal.returns-in-Ok-clause-waiting
 returns-in-Ok-clause-waiting c =
-    waiting_after c.args.pick c.args.search.now c.args.found c.requires.taken c.quiet_after-quiet.ensures.fits c.requires.searches c.apply.new.self c.beside-waiting.result
-    c.quiet_after-quiet.result c.beside-waiting.ensures.below c.beside-waiting.ensures.but c.beside-waiting.ensures.quiet c.quiet_after-quiet.ensures.is c.in-Ok.ensures.taken
-    c.in-Ok.ensures.problem c.in-Ok.ensures.steps
+    waiting_after c.args.pick c.args.search.now c.args.due c.requires.taken c.left_after.ensures.fits c.requires.searches c.apply.new.self c.beside-waiting.result
+    c.in_ok-left.left c.beside-waiting.ensures.below c.beside-waiting.ensures.but c.beside-waiting.ensures.agenda c.in_ok-left.ensures.left c.in-Ok.ensures.taken
+    c.in-Ok.ensures.problem

@@ -8,7 +8,7 @@ use Rattle.ba_instant.proofs.found.Spot.offer_all_entries.Goals as goal
 pub loop-entry-preserved : goal.loop-entry-preserved
 loop-entry-preserved c =
     improves_next c.args.self.now.search.now c.args.self.now.pick (λ entry step. step ≡ steps.Entry c.args.self.now.number entry) c.loop-entry.entry c.args.best.now c.loop-entry.best c.offer_entry.new.best c.loop-entry.invariant
-    c.offer_entry.ensures
+    c.in_ok-offer_entry.ensures
 
 pub returns : goal.returns
 returns c =

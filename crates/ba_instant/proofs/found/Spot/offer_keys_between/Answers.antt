@@ -9,7 +9,7 @@ use Rattle.ba_instant.proofs.found.Spot.offer_keys_between.Goals as goal
 pub loop-key-preserved : goal.loop-key-preserved
 loop-key-preserved c =
     improves_next c.args.self.now.search.now c.args.self.now.pick (λ key step. step ≡ steps.Key c.args.self.now.number key c.args.left c.args.right) c.loop-key.key c.args.best.now c.loop-key.best c.offer.new.best c.loop-key.invariant
-    c.offer.ensures
+    c.in_ok-offer.ensures
 
 pub returns : goal.returns
 returns c =

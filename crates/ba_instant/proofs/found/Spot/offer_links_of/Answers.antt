@@ -1,4 +1,4 @@
-use Rattle.std.proofs.Common.{◌≡◌, ◌+◌, ◌≤◌, arith, inl, inr, length, refl}
+use Rattle.std.proofs.Common.{◌≡◌, ◌+◌, ◌≤◌, arith, length}
 use Rattle.std.proofs.lemmas.Grind.{common_steps}
 use Rattle.ba_kernel.specs.declared.step.Step.TheVariants as steps
 use Rattle.ba_instant.specs.Offers.{fact_round, links_at}
@@ -10,15 +10,12 @@ use Rattle.ba_instant.proofs.found.Spot.offer_links_of.Goals as goal
 pub loop-link-preserved : goal.loop-link-preserved
 loop-link-preserved c =
     improves_next c.args.self.now.search.now c.args.self.now.pick (λ link step. step ≡ steps.Link c.args.self.now.number link c.args.fact) c.loop-link.link c.args.best.now c.loop-link.best c.offer_at.new.best c.loop-link.invariant
-    c.offer_at.ensures
+    c.in_ok-offer_at.ensures
 
-pub offer_at-requires-clause-round : goal.offer_at-requires-clause-round
-offer_at-requires-clause-round c =
+pub offer_at-requires : goal.offer_at-requires
+offer_at-requires c =
     link_in c.args.self.now.search.now c.args.self.now.number c.args.self.now.quiet c.args.self.now.branch.now c.args.self.now.recent.now c.requires c.args.fact c.loop-link.link _
     (let e : _ ≡ 1 + fact_round c.args.self.now.branch.now c.args.fact = omega (arith, c.from-round.ensures, c.fact_round.ensures) in e)
-
-pub offer_at-requires-clause-telling : goal.offer_at-requires-clause-telling
-offer_at-requires-clause-telling c = inl (inl (inl (inl (inr (c.args.fact, (c.loop-link.link, refl))))))
 
 pub returns : goal.returns
 returns c =

@@ -1,25 +1,15 @@
 use Rattle.std.proofs.Common.{subst, sym}
-use Rattle.ba_instant.proofs.TakeLemmas.{least_late, shown_round, shown_tells}
+use Rattle.ba_instant.proofs.TakeLemmas.{least_late, shown_round}
 use Rattle.ba_instant.specs.Looks.{TellsOf}
 use Rattle.ba_instant.proofs.mapped.Mapped.offer_shown.Goals as goal
 
-pub offer_at-requires-clause-telling : goal.offer_at-requires-clause-telling
-offer_at-requires-clause-telling c =
-    shown_tells c.args.self.now.spot.now.search.now c.args.self.now.spot.now.pick c.args.self.now.spot.now.branch.now c.args.self.now.spot.now.number c.args.self.now.form c.args.self.now.side c.args.self.now.part.now c.args.self.now.spot.now.quiet c.args.self.now.spot.now.recent.now c.requires.look
-    c.args.facts.now c.args.step c.requires.is (subst TellsOf (sym c.in-OfRule.is) tt)
-
-pub offer_at-requires-clause-round : goal.offer_at-requires-clause-round
-offer_at-requires-clause-round c =
+pub offer_at-requires : goal.offer_at-requires
+offer_at-requires c =
     shown_round c.args.self.now.spot.now.search.now c.args.self.now.spot.now.pick c.args.self.now.spot.now.branch.now c.args.self.now.spot.now.number c.args.self.now.form c.args.self.now.side c.args.self.now.part.now c.args.self.now.spot.now.quiet c.args.self.now.spot.now.recent.now c.requires.look
     c.args.facts.now c.args.step c.least_round-round.result c.requires.is c.least_round-round.ensures (subst TellsOf (sym c.in-OfRule.is) tt)
 
-pub offer_at-requires-in-OfView-clause-telling : goal.offer_at-requires-in-OfView-clause-telling
-offer_at-requires-in-OfView-clause-telling c =
-    shown_tells c.args.self.now.spot.now.search.now c.args.self.now.spot.now.pick c.args.self.now.spot.now.branch.now c.args.self.now.spot.now.number c.args.self.now.form c.args.self.now.side c.args.self.now.part.now c.args.self.now.spot.now.quiet c.args.self.now.spot.now.recent.now c.requires.look
-    c.args.facts.now c.args.step c.requires.is (subst TellsOf (sym c.in-OfView.is) tt)
-
-pub offer_at-requires-in-OfView-clause-round : goal.offer_at-requires-in-OfView-clause-round
-offer_at-requires-in-OfView-clause-round c =
+pub offer_at-requires-in-OfView : goal.offer_at-requires-in-OfView
+offer_at-requires-in-OfView c =
     shown_round c.args.self.now.spot.now.search.now c.args.self.now.spot.now.pick c.args.self.now.spot.now.branch.now c.args.self.now.spot.now.number c.args.self.now.form c.args.self.now.side c.args.self.now.part.now c.args.self.now.spot.now.quiet c.args.self.now.spot.now.recent.now c.requires.look
     c.args.facts.now c.args.step c.least_round-round.result c.requires.is c.least_round-round.ensures (subst TellsOf (sym c.in-OfView.is) tt)
 

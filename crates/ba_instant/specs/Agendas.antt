@@ -1,0 +1,83 @@
+-- What is left to do of a round on a branch.
+use Rattle.std.specs.Prelude.{◌≡◌, ◌≢◌, ◌⊎◌, ℕ, ◌-◌, ◌<◌, ◌≤◌, List, [], Contains, IsPermutation, IsTrue, Option, Some, None, false, length, slice_get, slice_index_or, take}
+use Rattle.std.specs.declared.cmp.Ordering.TheVariants.{Greater}
+use Rattle.ba_facts.specs.declared.branch.Branch.{Branch}
+use Rattle.ba_kernel.specs.Courses.{IsOpen, branch_of}
+use Rattle.ba_kernel.specs.News.{IsNewOn, IsRound}
+use Rattle.ba_kernel.specs.Tests.{Course}
+use Rattle.ba_kernel.specs.declared.problem.Problem.{Problem}
+use Rattle.ba_kernel.specs.declared.step.Step.{Step}
+use Rattle.ba_instant.specs.Offers.{IsNewIn, IsRoundIn, IsTelling, Offers, is_single}
+use Rattle.ba_instant.specs.Order.{pick_cmp}
+use Rattle.ba_instant.specs.declared.agenda.Agenda.{Agenda}
+use Rattle.ba_instant.specs.declared.batch.Batch.{Batch}
+use Rattle.ba_instant.specs.declared.found.Found.{Found}
+use Rattle.ba_instant.specs.declared.order.Pick.{Pick}
+
+-- a single step of the list isn't picked after this one, which is single too
+pub record IsStoodFor (pick : Pick) (steps : List Step) (step : Step) : Type 0 where
+  pub single : IsTrue (is_single step)
+  pub other : Step
+  pub there : Contains steps other
+  pub other_single : IsTrue (is_single other)
+  pub before : pick_cmp pick other step ≢ Greater
+
+abbrev pub IsListed : Pick → List Step → Step → Type 0
+IsListed pick steps step = Contains steps step ⊎ IsStoodFor pick steps step
+
+-- those at the end are picked first
+abbrev pub AreInTurn : Pick → List Step → Type 0
+AreInTurn pick steps = (i j : ℕ) (d : Step) → i ≤ j → j < length steps → pick_cmp pick (slice_index_or steps j d) (slice_index_or steps i d) ≢ Greater
+
+-- the same steps, those at the end to be picked first
+pub record IsInTurn (pick : Pick) (old new : List Step) : Type 0 where
+  pub moved : IsPermutation old new
+  pub in_turn : AreInTurn pick new
+
+-- Of the new steps that tell the branch something none is of a lesser round than the agenda's, and those of its round are listed, those at the end to be picked first.
+pub record IsAgenda (pick : Pick) (p : Problem) (number : ℕ) (b : Branch) (agenda : Agenda) : Type 0 where
+  pub on : (step : Step) → Contains agenda.steps.items step → branch_of step ≡ number
+  pub in_turn : AreInTurn pick agenda.steps.items
+  pub listed : (step : Step) (round : ℕ) → IsTelling number step → IsNewOn p b step → IsRound p b step round → round ≤ agenda.round →
+      (round ≡ agenda.round) × IsListed pick agenda.steps.items step
+
+-- so it is of the branch of the number, if that is open
+pub record IsAgendaAt (pick : Pick) (c : Course) (number : ℕ) (agenda : Agenda) : Type 0 where
+  pub of : (b : Branch) → IsOpen c.slots number b → IsAgenda pick c.problem number b agenda
+
+-- ---- what is done with an agenda
+
+-- the batch's steps, in turn
+pub record IsAgendaOf (pick : Pick) (batch : Batch) (agenda : Agenda) : Type 0 where
+  pub round : agenda.round ≡ batch.round
+  pub has : (step : Step) → Offers batch step → Contains agenda.steps.items step
+  pub from : (step : Step) → Contains agenda.steps.items step → Offers batch step
+  pub in_turn : AreInTurn pick agenda.steps.items
+
+-- the last step with the round, or none where the agenda has none
+abbrev pub IsFirstOf : Agenda → Option Found → Type 0
+IsFirstOf agenda None = agenda.steps.items ≡ []
+IsFirstOf agenda (Some it) = (it.round ≡ agenda.round) × (slice_get agenda.steps.items (length agenda.steps.items - 1) ≡ Some it.step)
+
+-- the step is new, and of the round
+abbrev pub IsNewHere : Course → ℕ → Step → Type 0
+IsNewHere c round step = IsNewIn c step × IsRoundIn c step round
+
+-- the last step isn't
+pub record EndsOld (c : Course) (agenda : Agenda) : Type 0 where
+  pub step : Step
+  pub last : slice_get agenda.steps.items (length agenda.steps.items - 1) ≡ Some step
+  pub old : ¬ (IsNewHere c agenda.round step)
+
+-- nothing is left
+abbrev pub IsNone : Agenda → Type 0
+IsNone agenda = (agenda.round ≡ 0) × (agenda.steps.items ≡ [])
+
+-- the last step is gone, and with a single one all
+abbrev pub IsWithoutLast : Agenda → Agenda → Type 0
+IsWithoutLast old new = IsNone new ⊎ ((new.round ≡ old.round) × (new.steps.items ≡ take (length old.steps.items - 1) old.steps.items) ×
+    ((step : Step) → slice_get old.steps.items (length old.steps.items - 1) ≡ Some step → is_single step ≡ false))
+
+-- what was an agenda of an open branch is one still
+pub record IsTrimmed (c : Course) (old new : Agenda) : Type 0 where
+  pub keeps : (pick : Pick) (number : ℕ) (b : Branch) → IsOpen c.slots number b → IsAgenda pick c.problem number b old → IsAgenda pick c.problem number b new
