@@ -1,5 +1,5 @@
 -- The agenda of a branch: its due step, what is left of it, and how it is filled.
-use Rattle.std.proofs.Common.{◌≡◌, ◌∙◌, ℕ, zero, suc, ◌+◌, ◌-◌, ◌<◌, ◌≤◌, ◌⊎◌, Bool, true, false, inl, inr, List, [], ◌++◌, length, take, refl, sym, ap, subst, arith}
+use Rattle.std.proofs.Common.{◌≡◌, ◌∙◌, ℕ, zero, suc, ◌-◌, ◌<◌, ◌≤◌, ◌⊎◌, Bool, true, false, inl, inr, List, [], ◌++◌, length, take, refl, sym, ap, subst, arith}
 use Rattle.std.proofs.lemmas.Bool.{cases_lt}
 use Rattle.std.proofs.lemmas.Cmp.{back_total}
 use Rattle.std.proofs.lemmas.List.{get_or-take, length-take-le}
@@ -8,7 +8,7 @@ use Rattle.std.proofs.lemmas.List.Sorted.{Contains-permutation, IsPermutation-sy
 use Rattle.std.proofs.lemmas.Option.{get_or_from_slice_get, slice_get_within}
 use Rattle.std.specs.Cmp.{tied_itself, upto}
 use Rattle.std.specs.List.Sorted.{IsSortedBy}
-use Rattle.std.specs.Ordering.{flip_args, is_gt, is_lt, ordering_index, ordering_reverse}
+use Rattle.std.specs.Ordering.{flip_args, is_lt, ordering_index, ordering_reverse}
 use Rattle.std.specs.declared.cmp.Ordering.{Ordering}
 use Rattle.std.specs.declared.cmp.Ordering.TheVariants.{Less, Equal, Greater}
 use Rattle.std.specs.Prelude.{◌≢◌, Contains, IsTrue, Option, Some, None, option_to_list, slice_get, slice_index_or}
@@ -24,9 +24,9 @@ use Rattle.ba_instant.proofs.DueLemmas.{closing_on, closing_round, gt_false, new
 use Rattle.ba_instant.proofs.OrderLemmas.{pick_total}
 use Rattle.ba_instant.proofs.QuietLemmas.{quiet_at_first}
 use Rattle.ba_instant.proofs.RoundLemmas.{is_new, not_new, round_at_once}
-use Rattle.ba_instant.specs.Agendas.{AreInTurn, EndsOld, IsAgenda, IsAgendaOf, IsFirstOf, IsInTurn, IsListed, IsNewHere, IsNone, IsStoodFor, IsTrimmed, IsWithoutLast}
+use Rattle.ba_instant.specs.Agendas.{AreInTurn, EndsOld, IsAgenda, IsAgendaOf, IsFirstOf, IsInTurn, IsListed, IsNewHere, IsNone, IsTrimmed, IsWithoutLast}
 use Rattle.ba_instant.specs.Dues.{IsDue}
-use Rattle.ba_instant.specs.Offers.{Improves, IsClosing, IsDueIfAny, IsDueOn, IsFound, IsHeld, IsNewIn, IsRoundIn, IsTelling, IsWhole, Leads, NoneCloses, Offers, Reaches, is_single}
+use Rattle.ba_instant.specs.Offers.{Improves, IsClosing, IsDueIfAny, IsDueOn, IsFound, IsHeld, IsNewIn, IsRoundIn, IsTelling, IsWhole, Leads, NoneCloses, Offers, is_single}
 use Rattle.ba_instant.specs.Order.{pick_cmp, step_cmp}
 use Rattle.ba_instant.specs.Windows.{IsQuietUpto}
 use Rattle.ba_instant.specs.declared.agenda.Agenda.{Agenda}

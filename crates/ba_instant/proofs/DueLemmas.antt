@@ -1,11 +1,9 @@
 -- The due step of a branch, and of all open branches.
-use Rattle.std.proofs.Common.{◌≡◌, ◌∙◌, ℕ, ◌<◌, ◌≤◌, ◌⊎◌, true, false, inl, inr, refl, sym, ap, subst, arith}
-use Rattle.std.proofs.lemmas.Bool.{cases_lt}
-use Rattle.std.specs.Cmp.{nat_cmp_is}
-use Rattle.std.specs.Ordering.{is_gt, nat_cmp, ordering_then}
+use Rattle.std.proofs.Common.{◌≡◌, ◌∙◌, ℕ, ◌≤◌, ◌⊎◌, true, false, inl, inr, refl, sym, ap, subst, arith}
+use Rattle.std.specs.Ordering.{is_gt}
 use Rattle.std.specs.declared.cmp.Ordering.{Ordering}
 use Rattle.std.specs.declared.cmp.Ordering.TheVariants.{Less, Equal, Greater}
-use Rattle.std.specs.Prelude.{◌≢◌, Option, Some, None, slice_get}
+use Rattle.std.specs.Prelude.{◌≢◌, Option, Some, slice_get}
 use Rattle.ba_facts.specs.declared.branch.Branch.{Branch}
 use Rattle.ba_kernel.specs.Courses.{IsOpen, Slots, branch_of}
 use Rattle.ba_kernel.specs.Effects.{IsEntryRound}
@@ -14,11 +12,9 @@ use Rattle.ba_kernel.specs.Tests.{Course, open_at}
 use Rattle.ba_kernel.specs.declared.problem.ProblemEntry.{ProblemEntry}
 use Rattle.ba_kernel.specs.declared.step.Step.{Step}
 use Rattle.ba_kernel.specs.declared.step.Step.TheVariants as steps
-use Rattle.ba_instant.proofs.ChaseLemmas.{new_on, open_is}
+use Rattle.ba_instant.proofs.ChaseLemmas.{open_is}
 use Rattle.ba_instant.proofs.OfferLemmas.{improves_as, improves_both}
-use Rattle.ba_instant.specs.Dues.{IsDue}
-use Rattle.ba_instant.specs.Offers.{IsByMapping, IsTaught, Improves, IsClosing, IsDueIfAny, IsDueOn, IsEntryOf, IsFound, IsGoalStep, IsKeyStep, IsLinkStep, IsNewIn, IsOn, IsRoundAt, IsRoundIn, IsRuleStep, IsSplitStep, IsTelling, IsViewStep}
-use Rattle.ba_instant.specs.Order.{pick_cmp}
+use Rattle.ba_instant.specs.Offers.{IsByMapping, IsTaught, Improves, IsClosing, IsEntryOf, IsGoalStep, IsKeyStep, IsLinkStep, IsNewIn, IsRoundAt, IsRoundIn, IsRuleStep, IsSplitStep, IsTelling, IsViewStep}
 use Rattle.ba_instant.specs.declared.batch.Batch.{Batch}
 use Rattle.ba_instant.specs.declared.order.Pick.{Pick}
 

@@ -6,7 +6,7 @@ use Rattle.std.specs.Cmp.{ranked, tied_itself, upto}
 use Rattle.std.specs.Ordering.{is_gt, nat_cmp, ordering_reverse}
 use Rattle.std.specs.declared.cmp.Ordering.{Ordering}
 use Rattle.std.specs.declared.cmp.Ordering.TheVariants.{Less, Equal, Greater}
-use Rattle.std.specs.Prelude.{◌≢◌, ◌∷◌, Contains, IsTrue, Option, Some, None}
+use Rattle.std.specs.Prelude.{◌≢◌, ◌∷◌, IsTrue, Option, Some, None}
 use Rattle.ba_model.proofs.ElementLemmas.{Contains-nil}
 use Rattle.ba_kernel.specs.Courses.{branch_of}
 use Rattle.ba_kernel.specs.News.{IsNewRound}
@@ -16,7 +16,7 @@ use Rattle.ba_facts.proofs.PlaceLemmas.{upto as up_to_bound}
 use Rattle.ba_instant.proofs.OrderLemmas.{pick_total}
 use Rattle.ba_instant.proofs.RoundLemmas.{is_new, not_new, round_at_once}
 use Rattle.ba_instant.specs.Order.{pick_cmp}
-use Rattle.ba_instant.specs.Offers.{Improves, IsFilled, IsFound, IsHeld, IsNewIn, IsOffered, IsRoundIn, IsWhole, Leads, OfAny, Offers, Reaches, Upto, batch_of, empty_batch, first_by, first_single, is_single, with_found, with_found_by, with_step, with_step_by}
+use Rattle.ba_instant.specs.Offers.{Improves, IsFound, IsHeld, IsNewIn, IsOffered, IsRoundIn, IsWhole, Leads, OfAny, Offers, Reaches, Upto, batch_of, empty_batch, first_by, first_single, is_single, with_found, with_found_by, with_step, with_step_by}
 use Rattle.ba_instant.specs.declared.batch.Batch.{Batch}
 use Rattle.ba_instant.specs.declared.found.Found.{Found}
 use Rattle.ba_instant.specs.declared.order.Pick.{Pick}

@@ -24,7 +24,6 @@ use Rattle.ba_instant.proofs.LookLemmas.{recent_or}
 use Rattle.ba_instant.proofs.OfferLemmas.{improves_as, improves_both, improves_end, improves_next}
 use Rattle.ba_instant.specs.Looks.{AreEqualBy, AreRecent, IsKeyInTurn, IsKeyOfTwo, IsTimelyKey, IsTurn, KeysAreLate, ShareKey}
 use Rattle.ba_instant.specs.Offers.{Improves, IsFound, IsKeyOfPair, IsKeyStep, IsNewIn, OfAny, Upto, fact_round}
-use Rattle.ba_instant.specs.Order.{step_rank}
 use Rattle.ba_instant.specs.declared.batch.Batch.{Batch}
 use Rattle.ba_instant.specs.declared.found.Found.{Found}
 use Rattle.ba_instant.specs.declared.order.Pick.{Pick}

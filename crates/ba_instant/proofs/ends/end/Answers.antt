@@ -1,4 +1,4 @@
-use Rattle.std.proofs.Common.{◌≤◌, arith, length, refl, subst}
+use Rattle.std.proofs.Common.{arith, length, refl, subst}
 use Rattle.ba_instant.proofs.NextLemmas.{may_close, may_saturate, may_spend}
 use Rattle.ba_instant.specs.Nexts.{IsNext}
 use Rattle.ba_instant.proofs.ends.end.Goals as goal

@@ -1,5 +1,4 @@
 use Rattle.std.proofs.Common.{◌≡◌, subst}
-use Rattle.std.specs.Prelude.{IsTrue}
 use Rattle.ba_instant.proofs.ChoiceLemmas.{gives_some}
 use Rattle.ba_instant.specs.Givens.{GivesSome}
 use Rattle.ba_instant.proofs.given.is_row_given.Goals as goal

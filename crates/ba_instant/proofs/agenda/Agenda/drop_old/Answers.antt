@@ -1,4 +1,4 @@
-use Rattle.ba_instant.proofs.AgendaLemmas.{shorter, trimmed_first, trimmed_next, without_last}
+use Rattle.ba_instant.proofs.AgendaLemmas.{trimmed_next, without_last}
 use Rattle.ba_instant.proofs.agenda.Agenda.drop_old.Goals as goal
 
 pub loop-alloc-preserved : goal.loop-alloc-preserved
