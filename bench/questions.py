@@ -5,6 +5,14 @@ FIRST_ASK = example("title_as_first_ask", "title_as_first_ask_is_refuted", "refu
 SCHEMA, POLICY = FIRST_ASK.schema, FIRST_ASK.policy
 OWN = "SELECT UId, EId, At FROM Attendances WHERE UId = 2"
 
+# How many rows are recorded before a question, and whether one ask records them all. A request has at most 256 asks, the question's
+# own among them.
+ENTRIES = [(1, False), (8, False), (8, True), (64, False), (64, True), (255, False), (256, True)]
+# How many views a policy has: the greatest number is the most that it may have.
+VIEWS = [1, 8, 128]
+# The budgets that are spent: the least that there may be, and on.
+STEPS = [16, 50, 100, 500, 1_000, 2_000, 5_000, 10_000, 20_000]
+
 
 def attended(count):
     """Tables in which user 2 attends so many events, from event 5 on, and not event 4."""
@@ -106,6 +114,13 @@ def eight_places():
     return Ask("a view of eight tables", SCHEMA, policy, tables, {}, [], f"SELECT t0.Name FROM {sources('Users', 8)}", "")
 
 
+def greatest(wide):
+    """The widest question after the longest trace: 255 entries with 100 rows each of the table that it asks of."""
+    tables = {"T": [[n, n, n % 10, 11] for n in range(25_500)]}
+    before = [f"SELECT Id, A FROM T WHERE A < 10 AND Id >= {n * 100} AND Id < {n * 100 + 100}" for n in range(255)]
+    return Ask("32 parts after 25,500 recorded rows", CHAIN, COMPARED, tables, {}, before, wide, "")
+
+
 def slow():
     """Questions within the limits that take long."""
     wide = " UNION ".join(chain(63, f"t0.A < {n}") for n in range(32))
@@ -114,4 +129,5 @@ def slow():
         hidden_last(),
         odd_circle(),
         eight_places(),
+        greatest(wide),
     ]

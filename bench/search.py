@@ -88,16 +88,16 @@ class Bench:
             line(ask.name, ask.said, *self.asked(ask, self.given.asks), *(self.cell(ask, it) for it in found))
 
     def entries(self):
-        table("recorded rows", "by", "asks", "own event, proof", "other event, refuted")
-        for count in (1, 8, 32, 64):
-            for is_together in (False, True):
-                asks = [questions.after(count, *it, is_together) for it in ((5, "proof"), (4, "refuted"))]
-                cells = [self.asked(it, max(1, self.given.asks // 10)) for it in asks]
-                line(count, "one ask" if is_together else "an ask each", cells[0][0], *(it[1] for it in cells))
+        table("recorded rows", "by", "own event, proof (asks)", "other event, refuted (asks)")
+        for count, is_together in questions.ENTRIES:
+            asks = [questions.after(count, *it, is_together) for it in ((5, "proof"), (4, "refuted"))]
+            cells = [self.asked(it, max(1, self.given.asks // 10)) for it in asks]
+            times = [f"{cost} ({count})" if cost else "" for count, cost in cells]
+            line(count, "one ask" if is_together else "an ask each", *times)
 
     def views(self):
         table("views", "asks", "first ask, refuted", "after an attendance, proof")
-        for count in (1, 8, 128):
+        for count in questions.VIEWS:
             cells = [self.asked(questions.viewed(count, it), self.given.asks) for it in (True, False)]
             line(count, cells[0][0], *(it[1] for it in cells))
 
@@ -117,7 +117,7 @@ class Bench:
 
     def memory(self):
         table("steps", "said", "s", "MiB of the question", "MiB")
-        for steps in (50, 1_000, 2_000, 20_000, 100_000):
+        for steps in questions.STEPS:
             line(f"{steps:,}", *self.once(questions.cyclic(steps)))
 
     def slow(self):
