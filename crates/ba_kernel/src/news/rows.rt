@@ -51,12 +51,15 @@ pub fn link_is_met(problem: &Problem, branch: &Branch, link: u32, fact: u32) -> 
     }
 }
 
+/// Whether one of the branch's facts is the target of the fact's link. The newest come first: mostly it
+/// is one of these.
 fn has_target(branch: &Branch, fact: &Fact, link: &Link) -> bool
     ensures { IsTrue result ↔ Any (IsTargetOf branch.now fact.now link.now) branch.now.facts }
 {
     let facts = branch.facts.as_slice();
     facts
         .iter()
+        .rev()
         .any(|other| is_target_of(branch, fact, link, other))
 }
 
