@@ -8,4 +8,5 @@ pub mod KeyLemmas
 pub mod SearchLemmas
 pub mod StepLemmas
 pub mod TieLemmas
+pub mod TurnLemmas
 pub mod VisitLemmas

@@ -1,3 +1,4 @@
 pub mod Index
 pub mod Search
+pub mod Turn
 pub mod Visits

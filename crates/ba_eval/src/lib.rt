@@ -6,8 +6,10 @@ mod found;
 mod kept;
 mod part;
 mod place;
+mod plan;
 mod steps;
 mod tie;
+mod turn;
 
 ghost use Rattle.std.specs.Prelude.{◌≡◌, ◌↔◌, ◌<◌, [], All, IsTrue, IfOk};
 ghost use Rattle.ba_index.specs.Orders.{IsOrderOf};
@@ -18,6 +20,7 @@ ghost use Rattle.ba_eval.specs.Visits.{StepsWithin};
 use crate::found::Found;
 use crate::part::Search;
 use crate::place::places_of;
+use crate::turn::turned;
 use ba_index::{Indexed, Order};
 use ba_model::{Context, List, Query, Row, RowSet};
 use std::alloc::{AllocError, Global};
@@ -61,7 +64,9 @@ pub fn answer_counted<L: Ledger>(
 /// `answer` over rows with the orders of their keys.
 ///
 /// Where equations tie the first columns of a key, and nothing else of the table, to constants, parameters or the tables before,
-/// the rows are found by that key's order: a question for the row with a key reads that row alone.
+/// the rows are found by that key's order: a question for the row with a key reads that row alone. The tables of a part are taken
+/// in the turn that its equations serve, whatever their turn in the text: what constants and parameters tie first, then what
+/// these tie.
 pub fn answer_indexed(
     alloc: Global,
     rows: &Indexed,
@@ -70,10 +75,11 @@ pub fn answer_indexed(
 ) -> Result<List<Row>, AllocError>
     ensures { IfOk result (λ list. IsAnswer query.now ctx.now rows.now list) }
 {
-    answer_indexed_with::<Brand>(alloc, rows, ctx, query, Blank::new(1))
+    let other = turned(alloc, rows.orders(), query)?;
+    answer_indexed_with::<Brand>(alloc, rows, ctx, &other, Blank::new(1))
 }
 
-/// `answer_indexed`, which tells how many rows it reads: never more than [`answer_counted`] may.
+/// `answer_indexed` in the turn of the text, which tells how many rows it reads: never more than [`answer_counted`] may.
 pub fn answer_indexed_counted<L: Ledger>(
     alloc: Global,
     rows: &Indexed,

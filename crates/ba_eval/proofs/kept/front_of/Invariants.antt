@@ -1,5 +1,3 @@
-use Rattle.std.proofs.Common.{take}
-use Rattle.ba_eval.specs.Index.{IsFront}
 use Rattle.ba_eval.proofs.KeptLemmas.{IsFrontOf}
 use Rattle.ba_eval.proofs.kept.front_of.Given as goal
 

@@ -1,0 +1,7 @@
+use Rattle.ba_eval.proofs.KeptLemmas.{if_ok_weaker}
+use Rattle.ba_eval.proofs.TurnLemmas.{answer_as}
+use Rattle.ba_eval.proofs.answer_indexed.Goals as goal
+
+pub returns : goal.returns
+returns c =
+    if_ok_weaker c.answer_indexed_with.result (λ list h. answer_as _ _ _ _ _ c.in_ok-other.ensures h) c.answer_indexed_with.ensures
