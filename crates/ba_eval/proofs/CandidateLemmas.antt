@@ -1,6 +1,6 @@
 -- In an index that was made for the answer the entries with the key of the chosen rows are those of the rows that make the
 -- place's equations true beside them.
-use Rattle.std.proofs.Common.{◌≡◌, ◌≢◌, ℕ, zero, suc, ◌<◌, ◌⊎◌, inl, inr, false, List, [], ◌∷◌, ◌++◌, length, get_or, map, Option, Some, None, slice_get, eqb, refl, sym, ap, ◌∙◌, subst, arith}
+use Rattle.std.proofs.Common.{Bool, ◌≡◌, ◌≢◌, ℕ, zero, suc, ◌<◌, ◌⊎◌, inl, inr, false, List, [], ◌∷◌, ◌++◌, length, get_or, map, Option, Some, None, slice_get, eqb, refl, sym, ap, ◌∙◌, subst, arith}
 use Rattle.std.proofs.lemmas.List.Elements.{All-contains, All-from_recursion, Contains-append_cases, Contains-append_left, Contains-append_right, Contains-get_or, Contains-push, Contains-push_cases, recursion_from_All}
 use Rattle.std.proofs.lemmas.Option.{slice_get_within}
 use Rattle.std.specs.Borrow.{Bor}
@@ -220,9 +220,9 @@ module _ (c : Context) (part : Part) (chosen : List (List Value)) (ties : List T
       let e = tie_met c chosen row s.0 tie s.2 (due s.0 s.1 (inr (tie, s.2))) in
       (e.value, e.left, e.right))
 
-  pub none_tied : (d : RowSet) (table : ℕ) → IsKey g ties None → AreCandidates c d part table chosen []
+  pub none_tied : (bounded : Bool) (d : RowSet) (table : ℕ) → IsKey g ties None → AreCandidates bounded c d part table chosen []
   unfolding IsDistinct
-  none_tied d table none = record {
+  none_tied bounded d table none = record {
     sound = λ entry h. absurd (Contains-nil entry h);
     complete = λ number row at due. let keys = tied row due in absurd (none keys.key keys.right);
     distinct = tt;
@@ -234,7 +234,7 @@ module _ (c : Context) (part : Part) (chosen : List (List Value)) (ties : List T
       let e = both_at (f row) g ties key (subst (λ k. map (f row) ties ≡ map Some k) same has) key_is tie there in
       tie_holds c chosen row atom tie is (record { value = e.0; left = e.1; right = e.2 })
 
-module _ (c : Context) (d : RowSet) (part : Part) (chosen : List (List Value)) (table : ℕ) (rows : List (List Value)) (ties : List Tie) (entries : List Entry) (rows_are : rows ≡ rows_of d table) (is : IsMade c part.conds (length chosen) rows ties entries) where
+module _ (bounded : Bool) (c : Context) (d : RowSet) (part : Part) (chosen : List (List Value)) (table : ℕ) (rows : List (List Value)) (ties : List Tie) (entries : List Entry) (rows_are : rows ≡ rows_of d table) (is : IsMade c part.conds (length chosen) rows ties entries) where
   in_table : (number : ℕ) (row : List Value) → slice_get (rows_of d table) number ≡ Some row → slice_get rows number ≡ Some row
   in_table number row e = subst (λ rows. slice_get rows number ≡ Some row) (sym rows_are) e
 
@@ -250,7 +250,7 @@ module _ (c : Context) (d : RowSet) (part : Part) (chosen : List (List Value)) (
         let own = is.ties_are.complete atom tie there is_tie in
         tie_known c part chosen ties is.ties_are.sound key (key_of entry) key_is row has same atom own.0 own.1 own.2
 
-    candidates : AreCandidates c d part table chosen (map number_of found)
+    candidates : AreCandidates bounded c d part table chosen (map number_of found)
     candidates = record {
       sound = λ number h.
           let by = Contains-in_map number_of found number h in
@@ -258,7 +258,7 @@ module _ (c : Context) (d : RowSet) (part : Part) (chosen : List (List Value)) (
           let there = have.only entry by.1 in
           let e = All-contains (IsEntry c part.conds (length chosen) rows ties) entries entry is.entered.sound there in
           let same = All-contains (λ x. key_of x ≡ key) found entry have.sound by.1 in
-          (e.row, subst (λ rows. slice_get rows number ≡ Some e.row) rows_are (subst (λ n. slice_get rows n ≡ Some e.row) by.2 e.row_is), due_met entry e.row e.within e.key same);
+          (e.row, subst (λ rows. slice_get rows number ≡ Some e.row) rows_are (subst (λ n. slice_get rows n ≡ Some e.row) by.2 e.row_is), λ bound. due_met entry e.row e.within e.key same);
       complete = λ number row at due.
           let keys = tied c part chosen ties is.ties_are.sound row due in
           let at_own = in_table number row at in
@@ -267,9 +267,9 @@ module _ (c : Context) (d : RowSet) (part : Part) (chosen : List (List Value)) (
       distinct = distinct_numbers found (have.distinct is.entered.distinct);
     }
 
-  by_key : (key : Option (List (Bor Value))) (found : List Entry) → IsKey (g c part chosen ties is.ties_are.sound) ties key → HaveKeyIfAny entries key found → AreCandidates c d part table chosen (map number_of found)
-  by_key None found k h = subst (λ es. AreCandidates c d part table chosen (map number_of es)) (sym h) (none_tied c part chosen ties is.ties_are.sound d table k)
+  by_key : (key : Option (List (Bor Value))) (found : List Entry) → IsKey (g c part chosen ties is.ties_are.sound) ties key → HaveKeyIfAny entries key found → AreCandidates bounded c d part table chosen (map number_of found)
+  by_key None found k h = subst (λ es. AreCandidates bounded c d part table chosen (map number_of es)) (sym h) (none_tied c part chosen ties is.ties_are.sound bounded d table k)
   by_key (Some key) found k h = candidates (map (λ v. v.now) key) k found h
 
-  pub made_candidates : (key : Option (List (Bor Value))) (numbers : List ℕ) → IsKey (g c part chosen ties is.ties_are.sound) ties key → HaveNumbers entries key numbers → AreCandidates c d part table chosen numbers
-  made_candidates key numbers k h = subst (AreCandidates c d part table chosen) (sym h.are) (by_key key h.found k h.have)
+  pub made_candidates : (key : Option (List (Bor Value))) (numbers : List ℕ) → IsKey (g c part chosen ties is.ties_are.sound) ties key → HaveNumbers entries key numbers → AreCandidates bounded c d part table chosen numbers
+  made_candidates key numbers k h = subst (AreCandidates bounded c d part table chosen) (sym h.are) (by_key key h.found k h.have)

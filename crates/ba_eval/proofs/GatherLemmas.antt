@@ -1,5 +1,5 @@
 -- What the search finds by the candidates of a place.
-use Rattle.std.proofs.Common.{◌≡◌, ℕ, zero, suc, ◌+◌, ◌<◌, ◌≤◌, inl, inr, List, [], ◌∷◌, ◌++◌, length, get_or, take, map, Option, Some, slice_get, refl, sym, ap, ◌∙◌, subst, arith}
+use Rattle.std.proofs.Common.{◌≡◌, Bool, ℕ, zero, suc, ◌+◌, ◌<◌, ◌≤◌, inl, inr, List, [], ◌∷◌, ◌++◌, length, get_or, take, map, Option, Some, slice_get, refl, sym, ap, ◌∙◌, subst, arith}
 use Rattle.std.proofs.lemmas.List.{length-append, map-append, take_all, take_more}
 use Rattle.std.proofs.lemmas.List.Elements.{All-contains}
 use Rattle.std.proofs.lemmas.Option.{slice_get_within, get_or_from_slice_get, slice_get_read}
@@ -112,7 +112,7 @@ module _ (c : Context) (d : RowSet) (part : Part) (from : List ℕ) (chosen : Li
   row_in : (rows : List (List Value)) (k : ℕ) (row : List Value) → slice_get rows k ≡ Some row → Contains rows row
   row_in rows k row e = (k, slice_get_within rows k row e, get_or_from_slice_get rows k row row e)
 
-  module _ (table : ℕ) (numbers : List ℕ) (are : AreCandidates c d part table chosen numbers) where
+  module _ (bounded : Bool) (table : ℕ) (numbers : List ℕ) (are : AreCandidates bounded c d part table chosen numbers) where
     from_number : (r : List Value) → BySome (FromNumber (rows_of d table)) numbers r → GivesFrom c d part (table ∷ from) chosen r
     from_number r (number, there, (row, at, g)) = from_row c d part table from chosen r (row, row_in (rows_of d table) number row at, g)
 
@@ -142,9 +142,9 @@ no_tables [] e = refl
 no_tables (place ∷ places) e = absurd (omega arith)
 
 -- the first of the places, over the chosen rows
-module _ (c : Context) (d : RowSet) (part : Part) (chosen : List (List Value)) (places rest : List Place) (place : Place) (split : places ≡ place ∷ rest) (are : ArePlaces c d part (length chosen) places) (numbers : List ℕ) (candidates : AreCandidates c d part place.table chosen numbers) where
-  first : IsPlace c d part (length chosen) place
-  first = (subst (ArePlaces c d part (length chosen)) split are).0
+module _ (bounded : Bool) (c : Context) (d : RowSet) (part : Part) (chosen : List (List Value)) (places rest : List Place) (place : Place) (split : places ≡ place ∷ rest) (are : ArePlaces bounded c d part (length chosen) places) (numbers : List ℕ) (candidates : AreCandidates bounded c d part place.table chosen numbers) where
+  first : IsPlace bounded c d part (length chosen) place
+  first = (subst (ArePlaces bounded c d part (length chosen)) split are).0
 
   pub row_there : (i : ℕ) (number : ℕ) → i < length numbers → number ≡ get_or numbers i number → number < length place.rows.now
   row_there i number below at =
@@ -154,14 +154,14 @@ module _ (c : Context) (d : RowSet) (part : Part) (chosen : List (List Value)) (
   pub gathers_all : (n : ℕ) (old new : List (List Value)) → length numbers ≤ n → Adds (BySome (FromNumber c d part (map table_of rest) chosen place.rows.now) (take n numbers)) old new → Adds (GivesFrom c d part (map table_of places) chosen) old new
   gathers_all n old new all h =
       subst (λ ps. Adds (GivesFrom c d part (map table_of ps) chosen) old new) (sym split)
-      (numbers_all c d part (map table_of rest) chosen place.table numbers candidates place.rows.now n old new first.rows_are all h)
+      (numbers_all c d part (map table_of rest) chosen bounded place.table numbers candidates place.rows.now n old new first.rows_are all h)
 
 -- one place more
 
-pub places_push : (c : Context) (d : RowSet) (part : Part) (at : ℕ) (places : List Place) (place : Place) → ArePlaces c d part at places → IsPlace c d part (at + length places) place → ArePlaces c d part at (places ++ place ∷ [])
-places_push c d part at [] place h is = (subst (λ n. IsPlace c d part n place) (omega arith) is, tt)
-places_push c d part at (first ∷ places) place h is =
-    (h.0, places_push c d part (at + 1) places place h.1 (subst (λ n. IsPlace c d part n place) (omega arith) is))
+pub places_push : (bounded : Bool) (c : Context) (d : RowSet) (part : Part) (at : ℕ) (places : List Place) (place : Place) → ArePlaces bounded c d part at places → IsPlace bounded c d part (at + length places) place → ArePlaces bounded c d part at (places ++ place ∷ [])
+places_push bounded c d part at [] place h is = (subst (λ n. IsPlace bounded c d part n place) (omega arith) is, tt)
+places_push bounded c d part at (first ∷ places) place h is =
+    (h.0, places_push bounded c d part (at + 1) places place h.1 (subst (λ n. IsPlace bounded c d part n place) (omega arith) is))
 
 pub tables_more : (tables : List ℕ) (i : ℕ) → i < length tables → (places new : List Place) (place : Place) → new ≡ places ++ place ∷ [] → map table_of places ≡ take i tables → place.table ≡ get_or tables i 0 → map table_of new ≡ take (i + 1) tables
 tables_more tables i below places new place is before e =
@@ -169,6 +169,6 @@ tables_more tables i below places new place is before e =
     let right : take (i + 1) tables ≡ take i tables ++ get_or tables i 0 ∷ [] = take_more tables i 0 below in
     cc
 
-pub more_places : (c : Context) (d : RowSet) (part : Part) (places new : List Place) (place : Place) → new ≡ places ++ place ∷ [] → ArePlaces c d part 0 places → IsPlace c d part (length places) place → ArePlaces c d part 0 new
-more_places c d part places new place e h is =
-    subst (ArePlaces c d part 0) (sym e) (places_push c d part 0 places place h (subst (λ n. IsPlace c d part n place) (omega arith) is))
+pub more_places : (bounded : Bool) (c : Context) (d : RowSet) (part : Part) (places new : List Place) (place : Place) → new ≡ places ++ place ∷ [] → ArePlaces bounded c d part 0 places → IsPlace bounded c d part (length places) place → ArePlaces bounded c d part 0 new
+more_places bounded c d part places new place e h is =
+    subst (ArePlaces bounded c d part 0) (sym e) (places_push bounded c d part 0 places place h (subst (λ n. IsPlace bounded c d part n place) (omega arith) is))

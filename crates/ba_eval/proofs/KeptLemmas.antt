@@ -6,7 +6,7 @@ use Rattle.std.proofs.lemmas.List.{length-append, map-append, take_more}
 use Rattle.std.proofs.lemmas.Option.{slice_get_within}
 use Rattle.std.specs.Borrow.{Bor}
 use Rattle.std.specs.List.{All, Contains}
-use Rattle.std.specs.Prelude.{option_and_then, Bool, true, false, not, IfOk, IsTrue, Result, Ok, Err}
+use Rattle.std.specs.Prelude.{option_and_then, Bool, true, false, not, ◌⊎◌, IfOk, IfSome, IsTrue, Result, Ok, Err}
 use Rattle.ba_model.proofs.ElementLemmas.{Contains-nil}
 use Rattle.ba_index.specs.Orders.{or_null, value_at, values_at, HasFront, HaveFront, IsInOrder, IsOrderOf}
 use Rattle.ba_index.specs.declared.order.Order.{Order}
@@ -21,7 +21,8 @@ use Rattle.ba_model.specs.declared.value.Value.{Value}
 use Rattle.ba_model.specs.declared.value.Value.TheVariants.{Null, Int, Text}
 use Rattle.ba_eval.proofs.CandidateLemmas.{f, g, tied, none_tied, tie_known}
 use Rattle.ba_eval.proofs.HeadLemmas.{one_head}
-use Rattle.ba_eval.specs.Index.{known, AreCandidates, AreTies, HaveFrontIfAny, IsCovered, IsFront, IsKept, IsKey, IsTie, IsTied, Ties}
+use Rattle.ba_eval.specs.Index.{known, AreCandidates, AreTies, HaveFrontIfAny, IsCovered, IsFront, IsKept, IsKey, IsTie, IsTied, IsTiedOrder, Ties}
+use Rattle.ba_eval.specs.declared.kept.Kept.{Kept}
 use Rattle.ba_eval.specs.declared.tie.Tie.{Tie}
 
 -- a key of values that are there is the same as one with NULL for what isn't
@@ -83,7 +84,7 @@ row_there [] number h = absurd (omega arith)
 row_there (r ∷ rows) zero h = (r, refl)
 row_there (r ∷ rows) (suc n) h = row_there rows n (omega arith)
 
-module _ (c : Context) (d : RowSet) (part : Part) (chosen : List (List Value)) (table : ℕ) (rows : List (List Value)) (ties : List Tie) (order : Order) (rows_are : rows ≡ rows_of d table) (is : IsKept part.conds (length chosen) rows ties order) where
+module _ (bounded : Bool) (c : Context) (d : RowSet) (part : Part) (chosen : List (List Value)) (table : ℕ) (rows : List (List Value)) (ties : List Tie) (order : Order) (rows_are : rows ≡ rows_of d table) (is : IsKept bounded part.conds (length chosen) rows ties order) where
   -- the values of a row of this number on the tied columns
   front_of_row : (number : ℕ) (row : List Value) → slice_get rows number ≡ Some row → (key : List Value) → length key ≡ length ties → values_at rows (take (length key) order.columns) number ≡ map (λ t. or_null (slice_get row t.column)) ties
   front_of_row number row at key long =
@@ -94,7 +95,7 @@ module _ (c : Context) (d : RowSet) (part : Part) (chosen : List (List Value)) (
     long : length key ≡ length ties
     long = as_long _ _ ties key key_is
 
-    pub order_candidates : AreCandidates c d part table chosen numbers
+    pub order_candidates : AreCandidates bounded c d part table chosen numbers
     order_candidates = record {
       sound = λ number h.
           let at = row_there rows number (All-contains (λ n. n < length rows) numbers number have.below h) in
@@ -102,8 +103,8 @@ module _ (c : Context) (d : RowSet) (part : Part) (chosen : List (List Value)) (
           let known_key = keys_known (λ t. slice_get at.0 t.column) (λ t. value_of c chosen t.other.now) ties key key_is (sym (front_of_row number at.0 at.1 key long) ∙ has) in (
             at.0,
             subst (λ rows. slice_get rows number ≡ Some at.0) rows_are at.1,
-            λ atom in_part due.
-                let own = is.complete atom in_part due in
+            λ bound atom in_part due.
+                let own = is.complete bound atom in_part due in
                 tie_known c part chosen ties is.sound key key key_is at.0 known_key refl atom own.0 own.1 own.2,
           );
       complete = λ number row at due.
@@ -115,8 +116,8 @@ module _ (c : Context) (d : RowSet) (part : Part) (chosen : List (List Value)) (
       distinct = have.distinct;
     }
 
-  pub kept_candidates : (key : Option (List (Bor Value))) (numbers : List ℕ) → IsKey (g c part chosen ties is.sound) ties key → HaveFrontIfAny rows order key numbers → AreCandidates c d part table chosen numbers
-  kept_candidates None numbers k h = subst (AreCandidates c d part table chosen) (sym h) (none_tied c part chosen ties is.sound d table k)
+  pub kept_candidates : (key : Option (List (Bor Value))) (numbers : List ℕ) → IsKey (g c part chosen ties is.sound) ties key → HaveFrontIfAny rows order key numbers → AreCandidates bounded c d part table chosen numbers
+  kept_candidates None numbers k h = subst (AreCandidates bounded c d part table chosen) (sym h) (none_tied c part chosen ties is.sound bounded d table k)
   kept_candidates (Some key) numbers k h = order_candidates (map (λ v. v.now) key) k numbers h
 
 -- a tie for each of the first n columns
@@ -158,18 +159,49 @@ tied_by at ties atom tie is own there e f = (
     side : {x y : Operand} → Ties at x y tie → Ties at x y own
     side {x} {y} t = record { own_is = t.own_is ∙ ap (λ k. Col at k) (sym e); other_is = t.other_is ∙ sym f; outside = t.outside }
 
-pub kept_here : (d : RowSet) (atoms : List Atom) (at table : ℕ) (all ties : List Tie) (orders : List Order) (order : Order) (i : ℕ) (columns : List ℕ) (conds : List Atom) (front : List Tie) → All (IsOrderOf d) orders → i < length orders → order ≡ get_or orders i order → order.table ≡ table → columns ≡ order.columns → conds ≡ atoms → front ≡ ties → AreTies at atoms all → IsFront all columns ties → IsCovered at conds front → IsKept atoms at (rows_of d table) ties order
-kept_here d atoms at table all ties orders order i columns conds front are below here same_table same_columns same_conds same_ties all_are is_front covered = record {
+pub kept_here : (bounded : Bool) (d : RowSet) (atoms : List Atom) (at table : ℕ) (all ties : List Tie) (orders : List Order) (order : Order) (i : ℕ) (columns : List ℕ) (conds : List Atom) (front : List Tie) → All (IsOrderOf d) orders → i < length orders → order ≡ get_or orders i order → order.table ≡ table → columns ≡ order.columns → conds ≡ atoms → front ≡ ties → AreTies at atoms all → IsFront all columns ties → (IsTrue bounded → IsCovered at conds front) → IsKept bounded atoms at (rows_of d table) ties order
+kept_here bounded d atoms at table all ties orders order i columns conds front are below here same_table same_columns same_conds same_ties all_are is_front covered = record {
   order_is = subst (λ n. IsInOrder (rows_of d n) order) same_table (subst (IsOrderOf d) (sym here) (are i order below));
   columns_are = is_front.columns_are ∙ ap (take (length ties)) same_columns;
   sound = λ tie h. all_are.sound tie (is_front.some tie h);
-  complete = subst (IsCovered at atoms) same_ties (subst (λ xs. IsCovered at xs front) same_conds covered);
+  complete = λ bound. subst (IsCovered at atoms) same_ties (subst (λ xs. IsCovered at xs front) same_conds (covered bound));
 }
 
-pub not_both : (b : Bool) → IsTrue b → IsTrue (not b) → ⊥
-not_both true e f = cc
-not_both false e f = cc
+pub tied_here : (d : RowSet) (table : ℕ) (all ties : List Tie) (orders : List Order) (order : Order) (i : ℕ) (columns : List ℕ) → All (IsOrderOf d) orders → i < length orders → order ≡ get_or orders i order → order.table ≡ table → columns ≡ order.columns → IsFront all columns ties → IsTiedOrder (rows_of d table) all ties order
+tied_here d table all ties orders order i columns are below here same_table same_columns is_front = record {
+  order_is = subst (λ n. IsInOrder (rows_of d n) order) same_table (subst (IsOrderOf d) (sym here) (are i order below));
+  front = subst (λ xs. IsFront all xs ties) same_columns is_front;
+}
+
+-- the kept order is one of the rows with some of the ties
+abbrev pub HasTiedOrder : List (List Value) → List Tie → Kept → Type 0
+HasTiedOrder rows all by = IsTiedOrder rows all by.ties.items by.order.now
+
+pub one_of : (rows : List (List Value)) (all : List Tie) (best new : Option Kept) (other : Kept) → IfSome best (HasTiedOrder rows all) → HasTiedOrder rows all other → (new ≡ best) ⊎ (new ≡ Some other) → IfSome new (HasTiedOrder rows all)
+one_of rows all best new other h k (inl e) = subst (λ o. IfSome o (HasTiedOrder rows all)) (sym e) h
+one_of rows all best new other h k (inr e) = subst (λ o. IfSome o (HasTiedOrder rows all)) (sym e) k
+
+if_some_weaker : {X : Type 0} {P Q : X → Type 0} (o : Option X) → ((x : X) → P x → Q x) → IfSome o P → IfSome o Q
+if_some_weaker (Some x) f h = f x h
+if_some_weaker None f h = tt
+
+not_true : (b : Bool) → b ≡ false → IsTrue b → ⊥
+not_true true e h = cc
+not_true false e h = cc
 
 pub if_ok_weaker : {X E : Type 0} {P Q : X → Type 0} (r : Result X E) → ((x : X) → P x → Q x) → IfOk r P → IfOk r Q
 if_ok_weaker (Ok x) f h = f x h
 if_ok_weaker (Err e) f h = tt
+
+pub kept_unbounded : {E : Type 0} (bounded : Bool) (atoms : List Atom) (at : ℕ) (rows : List (List Value)) (all : List Tie) (r : Result (Option Kept) E) → bounded ≡ false → AreTies at atoms all → IfOk r (λ o. IfSome o (HasTiedOrder rows all)) → IfOk r (λ o. IfSome o (λ by. IsKept bounded atoms at rows by.ties.items by.order.now))
+kept_unbounded bounded atoms at rows all r free are h =
+    if_ok_weaker r (λ o. if_some_weaker o (λ by t. record {
+      order_is = t.order_is;
+      columns_are = t.front.columns_are;
+      sound = λ tie k. are.sound tie (t.front.some tie k);
+      complete = λ bound. absurd (not_true bounded free bound);
+    })) h
+
+pub not_both : (b : Bool) → IsTrue b → IsTrue (not b) → ⊥
+not_both true e f = cc
+not_both false e f = cc

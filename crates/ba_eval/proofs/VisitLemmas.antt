@@ -5,6 +5,7 @@ use Rattle.std.proofs.lemmas.List.{append_cancel_left, length-append, take_more}
 use Rattle.std.proofs.lemmas.List.Elements.{All-append, All-contains, All-cons, All-from_recursion, All-head, All-nil, All-tail, All-weaker, Contains-append_left, Contains-push}
 use Rattle.std.proofs.lemmas.List.Kept.{AllPairs-cons}
 use Rattle.std.specs.List.{All, AllPairs, Contains, IsDistinct}
+use Rattle.std.specs.Prelude.{IsTrue}
 use Rattle.ba_model.specs.Meaning.{rows_of}
 use Rattle.ba_model.specs.declared.policy.Context.{Context}
 use Rattle.ba_model.specs.declared.query.Atom.{Atom}
@@ -238,13 +239,13 @@ some_row : {X : Type 0} (o : Option X) (x y : X) → o ≡ Some x → o ≡ Some
 some_row o x y a b = let e : Some x ≡ Some y = sym a ∙ b in cc
 
 -- the first of the places, over the chosen rows
-module _ (c : Context) (d : RowSet) (part : Part) (chosen : List (List Value)) (places rest : List Place) (place : Place) (split : places ≡ place ∷ rest) (are : ArePlaces c d part (length chosen) places) (numbers : List ℕ) (candidates : AreCandidates c d part place.table chosen numbers) (before : List ℕ) (at : Reached c d part (map table_of places) before chosen) where
+module _ (bounded : Bool) (bound : IsTrue bounded) (c : Context) (d : RowSet) (part : Part) (chosen : List (List Value)) (places rest : List Place) (place : Place) (split : places ≡ place ∷ rest) (are : ArePlaces bounded c d part (length chosen) places) (numbers : List ℕ) (candidates : AreCandidates bounded c d part place.table chosen numbers) (before : List ℕ) (at : Reached c d part (map table_of places) before chosen) where
   pub steps_more : (i : ℕ) (number : ℕ) → i < length numbers → number ≡ get_or numbers i number → (row : List Value) → slice_get place.rows.now number ≡ Some row → (deeper : List (List Value)) → deeper ≡ chosen ++ row ∷ [] → (old mid read new : ℕ) → read ≡ mid + 1 → Visiting c d part before (take i numbers) old mid → ((positions : List ℕ) → Reached c d part (map table_of rest) positions deeper → Visited c d part positions read new) → Visiting c d part before (take (i + 1) numbers) old new
   steps_more i number below here row row_is deeper e old mid read new tick first child =
-      let own = subst (ArePlaces c d part (length chosen)) split are in
+      let own = subst (ArePlaces bounded c d part (length chosen)) split are in
       let in_table = subst (λ rows. slice_get rows number ≡ Some row) own.0.rows_are row_is in
       let s = candidates.sound number (i, below, sym here) in
-      let due = subst (MeetsDue c part chosen) (some_row (slice_get (rows_of d place.table) number) s.0 row s.1 in_table) s.2 in
+      let due = subst (MeetsDue c part chosen) (some_row (slice_get (rows_of d place.table) number) s.0 row s.1 in_table) (s.2 bound) in
       let here_at = subst (λ ps. Reached c d part (map table_of ps) before chosen) split at in
       let further = reached c d part place.table (map table_of rest) before chosen here_at number row in_table due in
       let below_it = child (before ++ number ∷ []) (subst (Reached c d part (map table_of rest) (before ++ number ∷ [])) (sym e) further) in

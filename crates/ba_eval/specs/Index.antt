@@ -1,5 +1,5 @@
 -- How the rows of a place of a part are found by what equations tie them to.
-use Rattle.std.specs.Prelude.{⊤, ◌≡◌, ◌≢◌, ◌⊎◌, ℕ, ◌+◌, ◌<◌, Bool, List, [], ◌∷◌, ◌++◌, All, Contains, length, Option, Some, None, map, slice_get, take, eqb}
+use Rattle.std.specs.Prelude.{⊤, ◌≡◌, ◌≢◌, ◌⊎◌, ℕ, ◌+◌, ◌<◌, Bool, List, [], ◌∷◌, ◌++◌, All, Contains, length, Option, Some, None, map, slice_get, take, eqb, IsTrue}
 use Rattle.std.specs.Borrow.{Bor}
 use Rattle.std.specs.List.{IsDistinct}
 use Rattle.std.specs.List.Sorted.{IsPermutation, IsSortedByKey}
@@ -184,21 +184,26 @@ pub record IsMade (c : Context) (atoms : List Atom) (at : ℕ) (rows : List (Lis
   pub entered : Entered c atoms at rows ties (length rows) entries
   pub sorted : IsSortedByKey key_of row_cmp entries
 
--- an order of the rows whose first columns are tied by every equation that the place settles
-pub record IsKept (atoms : List Atom) (at : ℕ) (rows : List (List Value)) (ties : List Tie) (order : Order) : Type 0 where
+-- an order of the rows with some of the ties, on its first columns
+pub record IsTiedOrder (rows : List (List Value)) (all ties : List Tie) (order : Order) : Type 0 where
+  pub order_is : IsInOrder rows order
+  pub front : IsFront all order.columns ties
+
+-- an order of the rows whose first columns are tied: in a bounded search by every equation that the place settles
+pub record IsKept (bounded : Bool) (atoms : List Atom) (at : ℕ) (rows : List (List Value)) (ties : List Tie) (order : Order) : Type 0 where
   pub order_is : IsInOrder rows order
   pub columns_are : map (λ tie. tie.column) ties ≡ take (length ties) order.columns
   pub sound : (tie : Tie) → Contains ties tie → (atom : Atom) × Contains atoms atom × IsTie at atom tie
-  pub complete : IsCovered at atoms ties
+  pub complete : IsTrue bounded → IsCovered at atoms ties
 
-abbrev pub IsSource : Context → List Atom → ℕ → List (List Value) → List Tie → Source → Type 0
-IsSource c atoms at rows ties (Made entries) = IsMade c atoms at rows ties entries.items
-IsSource c atoms at rows ties (Kept order) = IsKept atoms at rows ties order.now
+abbrev pub IsSource : Bool → Context → List Atom → ℕ → List (List Value) → List Tie → Source → Type 0
+IsSource bounded c atoms at rows ties (Made entries) = IsMade c atoms at rows ties entries.items
+IsSource bounded c atoms at rows ties (Kept order) = IsKept bounded atoms at rows ties order.now
 
 -- the place's index
-pub record IsPlace (c : Context) (d : RowSet) (part : Part) (at : ℕ) (place : Place) : Type 0 where
+pub record IsPlace (bounded : Bool) (c : Context) (d : RowSet) (part : Part) (at : ℕ) (place : Place) : Type 0 where
   pub rows_are : place.rows.now ≡ rows_of d place.table
-  pub source_is : IsSource c part.conds at place.rows.now place.ties.items place.source
+  pub source_is : IsSource bounded c part.conds at place.rows.now place.ties.items place.source
 
 -- the numbers of the rows that have the key as their front in the order, or none without a key
 abbrev pub HaveFrontIfAny : List (List Value) → Order → Option (List (Bor Value)) → List ℕ → Type 0
@@ -206,16 +211,16 @@ HaveFrontIfAny rows order None numbers = numbers ≡ []
 HaveFrontIfAny rows order (Some key) numbers = HaveFront rows order (map (λ v. v.now) key) numbers
 
 -- the indexes of further places, the first of them at this one
-abbrev pub ArePlaces : Context → RowSet → Part → ℕ → List Place → Type 0
-ArePlaces c d part at [] = ⊤
-ArePlaces c d part at (place ∷ places) = IsPlace c d part at place × ArePlaces c d part (at + 1) places
+abbrev pub ArePlaces : Bool → Context → RowSet → Part → ℕ → List Place → Type 0
+ArePlaces bounded c d part at [] = ⊤
+ArePlaces bounded c d part at (place ∷ places) = IsPlace bounded c d part at place × ArePlaces bounded c d part (at + 1) places
 
 -- the row makes true beside the chosen rows what it settles
 abbrev pub MeetsDue : Context → Part → List (List Value) → List Value → Type 0
 MeetsDue c part chosen row = (atom : Atom) → Contains part.conds atom → IsDue (length chosen) atom → Holds c (chosen ++ row ∷ []) atom
 
--- the numbers of exactly the rows that make true beside the chosen rows what they settle, each once
-pub record AreCandidates (c : Context) (d : RowSet) (part : Part) (table : ℕ) (chosen : List (List Value)) (numbers : List ℕ) : Type 0 where
-  pub sound : (number : ℕ) → Contains numbers number → (row : List Value) × (slice_get (rows_of d table) number ≡ Some row) × MeetsDue c part chosen row
+-- the numbers of the rows that make true beside the chosen rows what they settle, each once: in a bounded search of no other rows
+pub record AreCandidates (bounded : Bool) (c : Context) (d : RowSet) (part : Part) (table : ℕ) (chosen : List (List Value)) (numbers : List ℕ) : Type 0 where
+  pub sound : (number : ℕ) → Contains numbers number → (row : List Value) × (slice_get (rows_of d table) number ≡ Some row) × (IsTrue bounded → MeetsDue c part chosen row)
   pub complete : (number : ℕ) (row : List Value) → slice_get (rows_of d table) number ≡ Some row → MeetsDue c part chosen row → Contains numbers number
   pub distinct : IsDistinct eqb numbers

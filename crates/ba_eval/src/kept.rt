@@ -1,8 +1,8 @@
 //! Places that are searched by an order of their table.
-ghost use Rattle.std.specs.Prelude.{◌≡◌, ◌↔◌, All, Contains, IfOk, IfSome, IsTrue};
+ghost use Rattle.std.specs.Prelude.{◌≡◌, ◌↔◌, ◌⊎◌, Some, All, Contains, IfOk, IfSome, IsTrue};
 ghost use Rattle.ba_index.specs.Orders.{IsInOrder, IsOrderOf};
 ghost use Rattle.ba_model.specs.Meaning.{rows_of};
-ghost use Rattle.ba_eval.specs.Index.{AreTies, HaveFrontIfAny, IsCovered, IsFront, IsKept, IsDue, IsTied};
+ghost use Rattle.ba_eval.specs.Index.{AreTies, HaveFrontIfAny, IsCovered, IsFront, IsKept, IsDue, IsTied, IsTiedOrder};
 
 use crate::part::Search;
 use crate::tie::{Tie, is_within, tie_of};
@@ -17,9 +17,31 @@ pub struct Kept<'a> {
     pub ties: Vec<Tie<'a>>,
 }
 
-/// An order of the table that serves the place, if there is one: its first columns are tied by every equation that the place
-/// settles.
+/// An order of the table that serves the place, if there is one; `once` says that the place is asked for rows once.
+///
+/// A search that isn't bounded tests on the rows found what the ties don't say. Where it asks for rows once it takes the order
+/// with the most ties rather than make an index.
 pub fn kept_by<'a>(
+    alloc: Global,
+    search: &Search<'a>,
+    at: usize,
+    once: bool,
+    table: u32,
+    ties: &[Tie<'a>],
+) -> Result<Option<Kept<'a>>, AllocError>
+    requires orders { All (IsOrderOf search.now.rows.now) search.now.orders.now }
+    requires ties { AreTies at search.now.part.now.conds ties.now }
+    ensures { IfOk result (λ kept. IfSome kept (λ by. IsKept search.now.bounded search.now.part.now.conds at (rows_of search.now.rows.now table) by.ties.items by.order.now)) }
+{
+    let serving = serving_order(alloc, search, at, table, ties)?;
+    if serving.is_some() || search.bounded || !once {
+        return Ok(serving);
+    }
+    longest_front(alloc, search, table, ties)
+}
+
+/// The first order of the table that serves the place however often it is asked.
+fn serving_order<'a>(
     alloc: Global,
     search: &Search<'a>,
     at: usize,
@@ -28,17 +50,61 @@ pub fn kept_by<'a>(
 ) -> Result<Option<Kept<'a>>, AllocError>
     requires orders { All (IsOrderOf search.now.rows.now) search.now.orders.now }
     requires ties { AreTies at search.now.part.now.conds ties.now }
-    ensures { IfOk result (λ kept. IfSome kept (λ by. IsKept search.now.part.now.conds at (rows_of search.now.rows.now table) by.ties.items by.order.now)) }
+    ensures { IfOk result (λ kept. IfSome kept (λ by. IsKept search.now.bounded search.now.part.now.conds at (rows_of search.now.rows.now table) by.ties.items by.order.now)) }
 {
     for order in search.orders {
         if order.table == table {
             let front = front_of(alloc, ties, order.columns.as_slice())?;
-            if are_covered(search.part.conds.as_slice(), at, front.as_slice()) {
+            if serves(search, at, order, front.as_slice()) {
                 return Ok(Some(Kept { order, ties: front }));
             }
         }
     }
     Ok(None)
+}
+
+/// Whether the ties are all that the place settles or, in a search that isn't bounded, on all columns of the order.
+fn serves(search: &Search, at: usize, order: &Order, front: &[Tie]) -> bool
+    ensures { IsTrue result → IsTrue search.now.bounded → IsCovered at search.now.part.now.conds front.now }
+{
+    let whole = !search.bounded && front.len() >= order.columns.len();
+    whole || are_covered(search.part.conds.as_slice(), at, front)
+}
+
+/// The order of the table with the most ties on its first columns, if the table has an order.
+fn longest_front<'a>(
+    alloc: Global,
+    search: &Search<'a>,
+    table: u32,
+    ties: &[Tie<'a>],
+) -> Result<Option<Kept<'a>>, AllocError>
+    requires { All (IsOrderOf search.now.rows.now) search.now.orders.now }
+    ensures { IfOk result (λ kept. IfSome kept (λ by. IsTiedOrder (rows_of search.now.rows.now table) ties.now by.ties.items by.order.now)) }
+{
+    let mut longest = None;
+    for order in search.orders {
+        if order.table == table {
+            let front = front_of(alloc, ties, order.columns.as_slice())?;
+            longest = longer(longest, Kept { order, ties: front });
+        }
+    }
+    Ok(longest)
+}
+
+/// The one with more ties; of equals the first.
+fn longer<'a>(best: Option<Kept<'a>>, other: Kept<'a>) -> Option<Kept<'a>>
+    ensures { (result ≡ best.entry) ⊎ (result ≡ Some other.entry) }
+{
+    match best {
+        Some(own) => {
+            if own.ties.len() < other.ties.len() {
+                Some(other)
+            } else {
+                Some(own)
+            }
+        }
+        None => Some(other),
+    }
 }
 
 /// The ties on the columns in turn, up to the first column that has none.

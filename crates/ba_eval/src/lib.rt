@@ -57,16 +57,16 @@ pub fn answer_counted<L: Ledger>(
     ensures answer { IfOk result (λ list. IsAnswer query.now ctx.now rows.now list) }
     ensures steps { StepsWithin ctx.now rows.now query.now.parts steps.old steps.new }
 {
-    let found = all_rows(alloc, rows, &[], ctx, query, steps)?;
+    let found = all_rows(alloc, rows, &[], ctx, query, true, steps)?;
     Ok(found.in_order())
 }
 
 /// `answer` over rows with the orders of their keys.
 ///
-/// Where equations tie the first columns of a key, and nothing else of the table, to constants, parameters or the tables before,
-/// the rows are found by that key's order: a question for the row with a key reads that row alone. The tables of a part are taken
-/// in the turn that its equations serve, whatever their turn in the text: what constants and parameters tie first, then what
-/// these tie.
+/// Where equations tie all columns of a key to constants, parameters or the tables before, the rows are found by that key's order,
+/// and what else is asked of them is tested on these rows: a question for the row with a key reads that row alone. So it is where
+/// they tie the first columns of a key and nothing else of the table. The tables of a part are taken in the turn that its equations
+/// serve, whatever their turn in the text: what constants and parameters tie first, then what these tie.
 pub fn answer_indexed(
     alloc: Global,
     rows: &Indexed,
@@ -76,10 +76,11 @@ pub fn answer_indexed(
     ensures { IfOk result (λ list. IsAnswer query.now ctx.now rows.now list) }
 {
     let other = turned(alloc, rows.orders(), query)?;
-    answer_indexed_with::<Brand>(alloc, rows, ctx, &other, Blank::new(1))
+    answer_unbounded::<Brand>(alloc, rows, ctx, &other, Blank::new(1))
 }
 
-/// `answer_indexed` in the turn of the text, which tells how many rows it reads: never more than [`answer_counted`] may.
+/// `answer_indexed` in the turn of the text, which tells how many rows it reads: never more than [`answer_counted`] may. So a key's
+/// order serves only where equations tie its first columns and nothing else of the table.
 pub fn answer_indexed_counted<L: Ledger>(
     alloc: Global,
     rows: &Indexed,
@@ -90,11 +91,12 @@ pub fn answer_indexed_counted<L: Ledger>(
     ensures answer { IfOk result (λ list. IsAnswer query.now ctx.now rows.now list) }
     ensures steps { StepsWithin ctx.now rows.now query.now.parts steps.old steps.new }
 {
-    let found = all_rows(alloc, rows.rows(), rows.orders(), ctx, query, steps)?;
+    let found = all_rows(alloc, rows.rows(), rows.orders(), ctx, query, true, steps)?;
     Ok(found.in_order())
 }
 
-fn answer_indexed_with<L: Ledger>(
+/// `answer_indexed` in the turn of the text.
+fn answer_unbounded<L: Ledger>(
     alloc: Global,
     rows: &Indexed,
     ctx: &Context,
@@ -107,7 +109,16 @@ fn answer_indexed_with<L: Ledger>(
     ensures { IfOk result (λ list. IsAnswer query.now ctx.now rows.now list) }
 {
     let mut steps = Steps::<L>::new(blank);
-    answer_indexed_counted(alloc, rows, ctx, query, &mut steps)
+    let found = all_rows(
+        alloc,
+        rows.rows(),
+        rows.orders(),
+        ctx,
+        query,
+        false,
+        &mut steps,
+    )?;
+    Ok(found.in_order())
 }
 
 fn answer_with<L: Ledger>(
@@ -143,6 +154,7 @@ pub fn contains(
             orders: &[],
             ctx,
             part,
+            bounded: true,
         };
         let found = search.finds(part.from.as_slice(), &mut chosen, row)?;
         if found {
@@ -159,11 +171,12 @@ fn all_rows<L: Ledger>(
     orders: &[Order],
     ctx: &Context,
     query: &Query,
+    bounded: bool,
     steps: &mut Steps<L>,
 ) -> Result<Found, AllocError>
     requires { All (IsOrderOf rows.now) orders.now }
     ensures found { IfOk result (λ found. Adds (InAnswer query.now ctx.now rows.now) [] found) }
-    ensures steps { StepsWithin ctx.now rows.now query.now.parts steps.old steps.new }
+    ensures steps { IsTrue bounded → StepsWithin ctx.now rows.now query.now.parts steps.old steps.new }
 {
     let mut found = Found::new(alloc);
     for part in query.parts.as_slice() {
@@ -173,6 +186,7 @@ fn all_rows<L: Ledger>(
             orders,
             ctx,
             part,
+            bounded,
         };
         let places = places_of(alloc, &search, steps)?;
         search.gather(alloc, places.as_slice(), &mut chosen, &mut found, steps)?;

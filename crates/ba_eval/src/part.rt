@@ -23,6 +23,8 @@ pub struct Search<'a> {
     pub orders: &'a [Order],
     pub ctx: &'a Context,
     pub part: &'a Part,
+    /// Whether no row may be read, beside those of indexes that are made, but such that make true what the places so far settle.
+    pub bounded: bool,
 }
 
 impl<'a> Search<'a> {
@@ -35,10 +37,10 @@ impl<'a> Search<'a> {
         found: &mut Found,
         steps: &mut Steps<L>,
     ) -> Result<(), AllocError>
-        requires { ArePlaces self.now.ctx.now self.now.rows.now self.now.part.now (length (map (λ row. row.now) chosen.old.items)) places.now }
+        requires { ArePlaces self.now.bounded self.now.ctx.now self.now.rows.now self.now.part.now (length (map (λ row. row.now) chosen.old.items)) places.now }
         ensures chosen { OnOk result (chosen.new.items ≡ chosen.old.items) }
         ensures found { OnOk result (Adds (GivesFrom self.now.ctx.now self.now.rows.now self.now.part.now (map (λ place. place.table) places.now) (map (λ row. row.now) chosen.old.items)) found.old found.new) }
-        ensures steps { (before : Listed ℕ) → Reached self.now.ctx.now self.now.rows.now self.now.part.now (map (λ place. place.table) places.now) before (map (λ row. row.now) chosen.old.items) → Visited self.now.ctx.now self.now.rows.now self.now.part.now before steps.old steps.new }
+        ensures steps { IsTrue self.now.bounded → (before : Listed ℕ) → Reached self.now.ctx.now self.now.rows.now self.now.part.now (map (λ place. place.table) places.now) before (map (λ row. row.now) chosen.old.items) → Visited self.now.ctx.now self.now.rows.now self.now.part.now before steps.old steps.new }
     {
         match places.split_first() {
             None => self.add_row(alloc, chosen, found),

@@ -29,7 +29,7 @@ pub struct Entry<'a> {
 pub enum Source<'a> {
     /// The entries of the table's rows that meet the equations within the place, by key.
     Made(Vec<Entry<'a>>),
-    /// An order of the table, whose first columns are tied by every equation that the place settles.
+    /// An order of the table, whose first columns are tied: in a bounded search by every equation that the place settles.
     Kept(&'a Order),
 }
 
@@ -44,22 +44,23 @@ pub struct Place<'a> {
 }
 
 impl<'a> Place<'a> {
-    /// The place with this number, over the table's rows.
+    /// The place with this number, over the table's rows; `once` says that it is asked for rows once.
     pub fn new<L: Ledger>(
         alloc: Global,
         search: &Search<'a>,
         at: usize,
+        once: bool,
         table: u32,
         steps: &mut Steps<L>,
     ) -> Result<Place<'a>, AllocError>
         requires { All (IsOrderOf search.now.rows.now) search.now.orders.now }
         ensures table { IfOk result (λ place. place.table ≡ table) }
-        ensures place { IfOk result (IsPlace search.now.ctx.now search.now.rows.now search.now.part.now at) }
+        ensures place { IfOk result (IsPlace search.now.bounded search.now.ctx.now search.now.rows.now search.now.part.now at) }
         ensures steps { steps.new ≤ steps.old + length (rows_of search.now.rows.now table) }
     {
         let rows = rows_of_table(search.rows, table);
         let ties = ties_of(alloc, search.part.conds.as_slice(), at)?;
-        let kept = kept_by(alloc, search, at, table, ties.as_slice())?;
+        let kept = kept_by(alloc, search, at, once, table, ties.as_slice())?;
         match kept {
             Some(by) => Ok(Place {
                 table,
@@ -82,7 +83,7 @@ impl<'a> Place<'a> {
     ) -> Result<Place<'a>, AllocError>
         requires { AreTies at search.now.part.now.conds ties.items }
         ensures table { IfOk result (λ place. place.table ≡ table) }
-        ensures place { IfOk result (IsPlace search.now.ctx.now search.now.rows.now search.now.part.now at) }
+        ensures place { IfOk result (IsPlace search.now.bounded search.now.ctx.now search.now.rows.now search.now.part.now at) }
         ensures steps { steps.new ≤ steps.old + length (rows_of search.now.rows.now table) }
     {
         let rows = rows_of_table(search.rows, table);
@@ -96,15 +97,23 @@ impl<'a> Place<'a> {
         })
     }
 
-    /// The numbers of exactly the rows that make the place's equations true beside the chosen rows.
+    /// Whether it finds one row at most, if the columns of an order are a key.
+    fn finds_one(&self) -> bool {
+        match &self.source {
+            Source::Made(entries) => entries.len() < 2,
+            Source::Kept(order) => self.ties.len() >= order.columns.len(),
+        }
+    }
+
+    /// The numbers of the rows that make the place's equations true beside the chosen rows: in a bounded search of no other rows.
     pub fn candidates(
         &self,
         alloc: Global,
         search: &Search<'a>,
         chosen: &[&'a Row],
     ) -> Result<Vec<usize>, AllocError>
-        requires { IsPlace search.now.ctx.now search.now.rows.now search.now.part.now (length (map (λ row. row.now) chosen.now)) self.now }
-        ensures { IfOk result (λ numbers. AreCandidates search.now.ctx.now search.now.rows.now search.now.part.now self.now.table (map (λ row. row.now) chosen.now) numbers.items) }
+        requires { IsPlace search.now.bounded search.now.ctx.now search.now.rows.now search.now.part.now (length (map (λ row. row.now) chosen.now)) self.now }
+        ensures { IfOk result (λ numbers. AreCandidates search.now.bounded search.now.ctx.now search.now.rows.now search.now.part.now self.now.table (map (λ row. row.now) chosen.now) numbers.items) }
     {
         let key = key_of_chosen(alloc, self.ties.as_slice(), search.ctx, chosen)?;
         match &self.source {
@@ -231,12 +240,14 @@ pub fn places_of<'a, L: Ledger>(
 ) -> Result<Vec<Place<'a>>, AllocError>
     requires { All (IsOrderOf search.now.rows.now) search.now.orders.now }
     ensures tables { IfOk result (λ places. map (λ place. place.table) places.items ≡ search.now.part.now.from) }
-    ensures places { IfOk result (λ places. ArePlaces search.now.ctx.now search.now.rows.now search.now.part.now 0 places.items) }
+    ensures places { IfOk result (λ places. ArePlaces search.now.bounded search.now.ctx.now search.now.rows.now search.now.part.now 0 places.items) }
     ensures steps { steps.new ≤ steps.old + rows_read search.now.rows.now search.now.part.now }
 {
     let mut places = Vec::new(alloc);
+    let mut once = true;
     for table in search.part.from.as_slice() {
-        let place = Place::new(alloc, search, places.len(), *table, steps)?;
+        let place = Place::new(alloc, search, places.len(), once, *table, steps)?;
+        once = once && place.finds_one();
         places.push(place)?;
     }
     Ok(places)

@@ -1,4 +1,5 @@
 use Rattle.std.proofs.Common.{take, []}
+use Rattle.std.specs.Prelude.{IsTrue}
 use Rattle.ba_model.specs.Meaning.{InPart}
 use Rattle.ba_eval.specs.Search.{Adds, BySome}
 use Rattle.ba_eval.specs.Visits.{StepsWithin}
@@ -8,5 +9,5 @@ use Rattle.ba_eval.proofs.all_rows.Given as goal
 abbrev pub invariant-loop-part : goal.invariant-loop-part
 invariant-loop-part g l = record {
   found : Adds (BySome (InPart l.ctx l.rows) (take l.part-index l.part-items)) [] l.found;
-  steps : StepsWithin l.ctx l.rows (take l.part-index l.part-items) l.fn.steps l.steps;
+  steps : IsTrue l.bounded → StepsWithin l.ctx l.rows (take l.part-index l.part-items) l.fn.steps l.steps;
 }

@@ -4,4 +4,4 @@ use Rattle.ba_eval.proofs.answer_indexed.Goals as goal
 
 pub returns : goal.returns
 returns c =
-    if_ok_weaker c.answer_indexed_with.result (λ list h. answer_as _ _ _ _ _ c.in_ok-other.ensures h) c.answer_indexed_with.ensures
+    if_ok_weaker c.answer_unbounded.result (λ list h. answer_as _ _ _ _ _ c.in_ok-other.ensures h) c.answer_unbounded.ensures

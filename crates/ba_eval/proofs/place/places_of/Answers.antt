@@ -7,10 +7,10 @@ use Rattle.ba_eval.proofs.place.places_of.Goals as goal
 pub loop-table-preserved : goal.loop-table-preserved
 loop-table-preserved g c =
     let s = c.args.search.now in
-    let is = subst (λ n. IsPlace s.ctx.now s.rows.now s.part.now n c.in_ok-place.place) (c.len.ensures ∙ c.loop-table.places.ok.0) c.in_ok-place.ensures.place in
+    let is = subst (λ n. IsPlace s.bounded s.ctx.now s.rows.now s.part.now n c.in_ok-place.place) (c.len.ensures ∙ c.loop-table.places.ok.0) c.in_ok-place.ensures.place in
     record {
       tables = tables_more _ _ c.loop-table-test.true _ _ _ c.in_ok-push.ensures.items c.loop-table.invariant.tables c.in_ok-place.ensures.table;
-      places = more_places _ _ _ _ _ _ c.in_ok-push.ensures.items c.loop-table.invariant.places is;
+      places = more_places _ _ _ _ _ _ _ c.in_ok-push.ensures.items c.loop-table.invariant.places is;
       steps = table_more _ _ _ c.loop-table-test.true _ _ _ c.loop-table.invariant.steps c.in_ok-place.ensures.steps;
     }
 

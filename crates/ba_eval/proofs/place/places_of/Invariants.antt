@@ -9,6 +9,6 @@ use Rattle.ba_eval.proofs.place.places_of.Given as goal
 abbrev pub invariant-loop-table : goal.invariant-loop-table
 invariant-loop-table g l = record {
   tables : map table_of l.places.items ≡ take l.table-index l.table-items;
-  places : ArePlaces l.search.ctx.now l.search.rows.now l.search.part.now 0 l.places.items;
+  places : ArePlaces l.search.bounded l.search.ctx.now l.search.rows.now l.search.part.now 0 l.places.items;
   steps : l.steps ≤ l.fn.steps + sum_by (λ table. length (rows_of l.search.rows.now table)) (take l.table-index l.table-items);
 }

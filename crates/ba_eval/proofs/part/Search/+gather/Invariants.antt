@@ -1,4 +1,5 @@
 use Rattle.std.proofs.Common.{◌≡◌, ℕ, List, length, map, take}
+use Rattle.std.specs.Prelude.{IsTrue}
 use Rattle.ba_eval.proofs.GatherLemmas.{FromNumber, table_of}
 use Rattle.ba_eval.proofs.VisitLemmas.{Visiting}
 use Rattle.ba_eval.specs.Visits.{Reached}
@@ -13,5 +14,5 @@ abbrev pub invariant-loop-number : goal.invariant-loop-number
 invariant-loop-number g l = record {
   chosen : l.chosen.items ≡ l.fn.chosen.items;
   found : Adds (BySome (FromNumber l.self.ctx.now l.self.rows.now l.self.part.now (map (λ place. place.table) l.rest) (map (λ row. row.now) l.fn.chosen.items) l.place.rows.now) (take l.number-index l.number-items)) l.fn.found l.found;
-  steps : (before : List ℕ) → Reached l.self.ctx.now l.self.rows.now l.self.part.now (map table_of l.places) before (map (λ row. row.now) l.fn.chosen.items) → Visiting l.self.ctx.now l.self.rows.now l.self.part.now before (take l.number-index l.number-items) l.fn.steps l.steps;
+  steps : IsTrue l.self.bounded → (before : List ℕ) → Reached l.self.ctx.now l.self.rows.now l.self.part.now (map table_of l.places) before (map (λ row. row.now) l.fn.chosen.items) → Visiting l.self.ctx.now l.self.rows.now l.self.part.now before (take l.number-index l.number-items) l.fn.steps l.steps;
 }
