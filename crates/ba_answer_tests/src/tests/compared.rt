@@ -61,8 +61,8 @@ fn agree(rt: &impl Handle, policy: &Policy, question: &str, seed: u64) -> bool {
     plain == made && plain == kept
 }
 
-/// By a key, by its first column, by part of what is tied, by no key; a column twice, a table with itself, conditions that no
-/// index has.
+/// By a key, by its first column, by part of what is tied, by no key; a column twice, a table with itself, tables that are best
+/// taken in another turn, conditions that no index has.
 const QUESTIONS: &str = "SELECT Name FROM Users WHERE UId = 5
 SELECT Name FROM Users WHERE UId = ?N
 SELECT UId FROM Users WHERE UId = 5 AND Name = 'x'
@@ -79,6 +79,10 @@ SELECT b.UId FROM Attendances a, Attendances b WHERE b.UId = a.UId AND b.EId = a
 SELECT b.UId FROM Attendances a, Attendances b WHERE b.UId = a.EId AND b.EId <= 2
 SELECT T.Shown, U.Shown FROM T, U WHERE T.Hidden = U.Hidden
 SELECT T.Shown FROM T, U, Attendances a WHERE T.Hidden = U.Hidden AND a.UId = T.Shown AND a.EId = U.Shown
+SELECT a.UId, b.UId FROM Attendances a, Users u, Attendances b WHERE b.EId = a.EId AND b.UId = u.UId AND u.UId = 5
+SELECT a.EId, u.Name FROM T, Attendances a, Users u WHERE a.UId = T.Shown AND a.EId = 5 AND u.UId = a.UId AND T.Hidden = 1
+SELECT a.EId, u.Name FROM Attendances a, Users u WHERE u.Name = 'x' AND a.UId = u.UId AND u.UId = ?N AND a.EId < u.UId
+SELECT UId, EId FROM Attendances WHERE UId = 5 AND EId = 5 AND UId = EId
 SELECT UId FROM Users WHERE UId = 5 OR UId = 1 OR Name = 'x'
 SELECT UId FROM Users UNION SELECT EId FROM Attendances WHERE UId = 5";
 
