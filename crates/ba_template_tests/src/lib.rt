@@ -1,4 +1,5 @@
-//! Tests of decision templates and their shapes (ba_template), by values worked out by hand.
+//! Tests of drafts of problems (ba_kernel) and of decision templates and their shapes (ba_template), by
+//! values worked out by hand.
 #![tactic(auto)]
 
 #[cfg(test)]

@@ -1,1 +1,6 @@
+mod checked;
+mod given;
+mod problems;
 mod shapes;
+mod templates;
+mod words;
