@@ -1,5 +1,5 @@
-//! Tests of drafts of problems (ba_kernel) and of decision templates and their shapes (ba_template), by
-//! values worked out by hand.
+//! Tests of drafts of problems (ba_kernel), of decision templates and their shapes (ba_template), and of
+//! their matches (ba_match), by values worked out by hand.
 #![tactic(auto)]
 
 #[cfg(test)]

@@ -1,5 +1,6 @@
 mod checked;
 mod given;
+mod matches;
 mod problems;
 mod shapes;
 mod templates;

@@ -13,7 +13,7 @@ use ba_model::{
 use std::alloc::{AllocError, Global};
 
 /// A table of a whole number and a text that may be NULL, and a view of the whole table.
-const POLICY: &str = "table iT; parameter; view 0 | | a.0 a.1";
+pub(super) const POLICY: &str = "table iT; parameter; view 0 | | a.0 a.1";
 
 fn no_name(alloc: Global) -> Str {
     Str::from_string(String::new(alloc))
@@ -112,7 +112,7 @@ fn fill_policy(alloc: Global, policy: &mut Policy, text: &str) -> Result<(), All
     Ok(())
 }
 
-fn policy(alloc: Global, text: &str) -> Result<Shared<Policy>, AllocError> {
+pub(super) fn policy(alloc: Global, text: &str) -> Result<Shared<Policy>, AllocError> {
     let mut policy = empty_policy(alloc, empty_schema(alloc)?);
     fill_policy(alloc, &mut policy, text)?;
     Shared::new(alloc, policy)
@@ -186,7 +186,11 @@ fn empty_draft(alloc: Global, policy_text: &str) -> Result<ProblemDraft, AllocEr
 }
 
 /// A draft under the policy.
-fn draft_under(alloc: Global, policy_text: &str, text: &str) -> Result<ProblemDraft, AllocError> {
+pub(super) fn draft_under(
+    alloc: Global,
+    policy_text: &str,
+    text: &str,
+) -> Result<ProblemDraft, AllocError> {
     let mut draft = empty_draft(alloc, policy_text)?;
     add_all(alloc, &mut draft, text)?;
     Ok(draft)

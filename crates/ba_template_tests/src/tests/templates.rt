@@ -57,7 +57,11 @@ fn template_of(alloc: Global, proved: Proved) -> Result<Template, AllocError> {
 }
 
 /// The template of the draft's problem and these steps.
-fn template_from(alloc: Global, draft: ProblemDraft, lines: &str) -> Result<Template, AllocError> {
+pub(super) fn template_from(
+    alloc: Global,
+    draft: ProblemDraft,
+    lines: &str,
+) -> Result<Template, AllocError> {
     let proved = proof(alloc, draft, lines)?;
     template_of(alloc, proved)
 }

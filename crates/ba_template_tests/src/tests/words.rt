@@ -64,6 +64,17 @@ pub(super) fn add_operands(
     Ok(())
 }
 
+pub(super) fn add_values(
+    alloc: Global,
+    all: &mut List<Value>,
+    text: &str,
+) -> Result<(), AllocError> {
+    for word in text.split_whitespace() {
+        all.push(value(alloc, word)?)?;
+    }
+    Ok(())
+}
+
 fn op(word: &str) -> Op {
     match word {
         "=" => Op::Eq,

@@ -1,0 +1,10 @@
+pub mod BindingLemmas
+pub mod PatternLemmas
+pub mod FreeLemmas
+pub mod SearchLemmas
+pub mod OrderLemmas
+pub mod FinishLemmas
+pub mod ConditionLemmas
+pub mod StartLemmas
+pub mod OneLemmas
+pub mod RowLemmas

@@ -1,0 +1,4 @@
+pub mod Bindings
+pub mod Conditions
+pub mod Matching
+pub mod Searches

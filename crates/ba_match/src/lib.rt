@@ -1,0 +1,9 @@
+//! The matcher: whether a decision template serves a question after a trace, and how.
+#![tactic(auto)]
+
+mod bindings;
+mod condition;
+pub mod laws;
+mod matching;
+
+pub use matching::match_template;
