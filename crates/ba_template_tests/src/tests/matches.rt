@@ -123,13 +123,13 @@ fn write_found(text: &mut String, found: &Option<Match>) -> Result<(), AllocErro
     }
 }
 
-fn found_is(
+fn write_answer(
+    text: &mut String,
     template: &Template,
     policy: &Shared<Policy>,
     asked: &Asked,
-    wanted: &mut String,
 ) -> Result<(), AllocError> {
-    let alloc = *wanted.allocator();
+    let alloc = *text.allocator();
     let found = match_template(
         alloc,
         template,
@@ -138,7 +138,7 @@ fn found_is(
         &asked.trace,
         &asked.question,
     )?;
-    write_found(wanted, &found)
+    write_found(text, &found)
 }
 
 fn is_so(
@@ -150,7 +150,7 @@ fn is_so(
     let (given, wanted) = line.split_once(" => ").unwrap_or((line, ""));
     let asked = asked_from(alloc, given)?;
     let mut text = String::new(alloc);
-    found_is(template, policy, &asked, &mut text)?;
+    write_answer(&mut text, template, policy, &asked)?;
     Ok(text.as_str() == wanted)
 }
 
