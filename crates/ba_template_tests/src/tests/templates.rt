@@ -10,7 +10,7 @@ use super::checked::checked;
 use super::given::{draft, is_given};
 use super::words::steps;
 use ba_kernel::{Problem, ProblemDraft, Proved, Step, replay};
-use ba_model::{Kind, List, MAX_BUDGET, Op, Same};
+use ba_model::{Duplicate, Kind, List, MAX_BUDGET, Op, Same};
 use ba_template::{Shape, ShapeAtom, ShapeOperand, ShapePart, Template, each_var_stands};
 use std::alloc::{AllocError, Global};
 use std::fmt::Write;
@@ -168,6 +168,18 @@ fn goal_shape(alloc: Global) -> Result<bool, AllocError> {
 #[test]
 fn template_has_shape(rt: HostRuntime) -> Result<(), Fail> {
     assert!(rt; goal_shape(rt.alloc())?);
+    Ok(())
+}
+
+/// Whether a copy of a shape is one that is made anew.
+fn copied_shape(alloc: Global) -> Result<bool, AllocError> {
+    let copy = shape(alloc)?.copy(alloc)?;
+    Ok(copy.same(&shape(alloc)?))
+}
+
+#[test]
+fn shape_is_copied(rt: HostRuntime) -> Result<(), Fail> {
+    assert!(rt; copied_shape(rt.alloc())?);
     Ok(())
 }
 
