@@ -52,7 +52,13 @@ impl Indexed {
     }
 }
 
-fn orders_of(alloc: Global, tables: &List<Table>, rows: &RowSet) -> Result<List<Order>, AllocError>
+/// For each key of the tables an order of the table's rows, in the order of the tables and of their keys. For n rows of a table
+/// each of its keys takes the time of a sort of n rows. The only error is want of memory.
+pub fn orders_of(
+    alloc: Global,
+    tables: &List<Table>,
+    rows: &RowSet,
+) -> Result<List<Order>, AllocError>
     ensures { IfOk result (All (IsOrderOf rows.now)) }
 {
     let mut orders = List::new(alloc);

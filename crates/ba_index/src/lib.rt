@@ -5,5 +5,5 @@ mod indexed;
 mod order;
 mod place;
 
-pub use indexed::Indexed;
+pub use indexed::{Indexed, orders_of};
 pub use order::Order;

@@ -1,6 +1,7 @@
 //! The order of a table's rows by their values on some columns.
 ghost use Rattle.std.specs.Prelude.{◌≡◌, length, map, IfOk};
 ghost use Rattle.std.specs.List.Sorted.{IsPermutation, IsSortedByKey};
+ghost use Rattle.std.specs.Ordering.{eq_by_cmp};
 ghost use Rattle.ba_model.specs.Order.{row_cmp};
 ghost use Rattle.ba_index.specs.Orders.{values_at, AreNumbers, HaveFront, IsInOrder};
 
@@ -19,7 +20,8 @@ pub struct Order {
 }
 
 impl Order {
-    /// The order of these rows of the table. The only error is want of memory.
+    /// The order of these rows of the table. For n rows it takes the time of a sort, n log n comparisons. The only error is
+    /// want of memory.
     pub fn new(
         alloc: Global,
         table: u32,
@@ -38,6 +40,13 @@ impl Order {
             columns,
             numbers: List::from_vec(numbers),
         })
+    }
+
+    /// Whether the rows with these numbers have the same values on the columns.
+    pub fn ties(&self, rows: &[Row], a: usize, b: usize) -> bool
+        ensures { result ≡ eq_by_cmp row_cmp (values_at rows.now self.now.columns a) (values_at rows.now self.now.columns b) }
+    {
+        order_on(rows, self.columns.as_slice(), a, b).is_eq()
     }
 
     /// The numbers of exactly the rows whose values on the first columns, as many as the key has values, are the key's.
