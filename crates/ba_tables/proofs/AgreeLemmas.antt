@@ -67,7 +67,7 @@ pub row_told : (x y : List Value) → eq_by_cmp row_cmp x y ≡ true → x ≡ y
 row_told x y e = (row_decides x y).0 (row_ties x y ∙ e)
 
 -- the tests by the values that stand on the columns
-no_null_is : (row : List Value) (columns : List ℕ) → has_no_null row columns ≡ list_all (λ o. not (is_null o)) (map (slice_get row) columns)
+pub no_null_is : (row : List Value) (columns : List ℕ) → has_no_null row columns ≡ list_all (λ o. not (is_null o)) (map (slice_get row) columns)
 no_null_is row [] = refl
 no_null_is row (c ∷ cs) = ap (λ b. not (is_null (slice_get row c)) && b) (no_null_is row cs)
 

@@ -114,3 +114,7 @@ tables_conform number d (table ∷ tables) (rows ∷ lists) h fit =
 
 pub unbroken_conforms : (s : Schema) (d : RowSet) → RowsFit s d → s.rules ≡ [] → broken_table 0 d s.tables d.tables ≡ None → Conforms s d
 unbroken_conforms s d fit no_rules h = record { tables = tables_conform 0 d s.tables d.tables h fit.tables; rules = none (RuleHolds d) s.rules no_rules }
+
+-- no broken table, of rows and a schema that are told in other words
+pub none_as : (s t : Schema) (d e : RowSet) → t ≡ s → e ≡ d → broken_table 0 e t.tables e.tables ≡ None → broken_table 0 d s.tables d.tables ≡ None
+none_as s t d e f g h = subst (λ x. broken_table 0 d x.tables d.tables ≡ None) f (subst (λ x. broken_table 0 x t.tables x.tables ≡ None) g h)

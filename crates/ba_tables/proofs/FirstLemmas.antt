@@ -1,6 +1,7 @@
 -- The first broken key or link, as loops over keys, links and tables find it.
-use Rattle.std.proofs.Common.{◌≡◌, ℕ, ◌+◌, ◌≤◌, List, [], ◌∷◌, length, drop, Some, None, refl, sym}
+use Rattle.std.proofs.Common.{◌≡◌, ℕ, ◌+◌, ◌≤◌, List, [], ◌∷◌, length, drop, Some, None, refl, sym, ap, ◌∙◌, arith}
 use Rattle.std.proofs.lemmas.List.{drop_all}
+use Rattle.std.proofs.lemmas.Option.{slice_get-get_or, slice_get_within, unwrap_or-slice_get}
 use Rattle.std.specs.List.{position_from}
 use Rattle.std.specs.Prelude.{slice_get}
 use Rattle.ba_model.specs.Meaning.{rows_of}
@@ -88,3 +89,8 @@ table_next i d tables lists table rows e f h k = rw (drop_element tables i table
 
 pub tables_end : (i : ℕ) (d : RowSet) (tables : List Table) (lists : List (List (List Value))) → length tables ≤ i → broken_table i d (drop i tables) (drop i lists) ≡ None
 tables_end i d tables lists le = rw (drop_all i tables le) (no_table i d (drop i lists))
+
+pub list_there : (d : RowSet) (tables : List Table) (i : ℕ) (table : Table) → length d.tables ≡ length tables → slice_get tables i ≡ Some table → slice_get d.tables i ≡ Some (rows_of d i)
+list_there d tables i table same e =
+    let within = slice_get_within tables i table e in
+    slice_get-get_or d.tables i [] (omega arith) ∙ ap Some (sym (unwrap_or-slice_get d.tables i []))

@@ -1,4 +1,5 @@
 pub mod AgreeLemmas
+pub mod BoundLemmas
 pub mod ClashLemmas
 pub mod ConformLemmas
 pub mod FieldLemmas
@@ -14,4 +15,5 @@ pub mod PositionLemmas
 pub mod RecordLemmas
 pub mod RowsLemmas
 pub mod SpellLemmas
+pub mod TwinLemmas
 pub mod UnbrokenLemmas

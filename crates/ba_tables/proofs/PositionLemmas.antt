@@ -1,5 +1,6 @@
 -- The first place that passes a test.
-use Rattle.std.proofs.Common.{◌≡◌, ℕ, zero, suc, ◌+◌, Bool, true, false, cond, List, [], ◌∷◌, ◌++◌, length, drop, Some, None, refl, ap, ◌∙◌, arith}
+use Rattle.std.proofs.Common.{◌≡◌, ℕ, zero, suc, ◌+◌, ◌≤◌, Bool, true, false, cond, List, [], ◌∷◌, ◌++◌, length, drop, Some, None, refl, sym, ap, ◌∙◌, arith}
+use Rattle.std.proofs.lemmas.List.{drop_all}
 use Rattle.std.specs.List.{position_from}
 use Rattle.std.specs.Option.{option_or}
 use Rattle.std.specs.Prelude.{slice_get}
@@ -39,3 +40,7 @@ position-here p n xs i x e t = rw (drop_element xs i x e, t) refl
 
 pub position-next : {X : Type 0} (p : X → Bool) (n : ℕ) (xs : List X) (i : ℕ) (x : X) → slice_get xs i ≡ Some x → p x ≡ false → position_from p n (drop i xs) ≡ position_from p (n + 1) (drop (i + 1) xs)
 position-next p n xs i x e t = rw (drop_element xs i x e, t) refl
+
+-- where nothing was found up to the end
+pub position-left : {X : Type 0} (p : X → Bool) (n i : ℕ) (xs : List X) → length xs ≤ i → position_from p n (drop i xs) ≡ position_from p 1 xs → position_from p 1 xs ≡ None
+position-left p n i xs le h = sym h ∙ rw (drop_all i xs le) refl

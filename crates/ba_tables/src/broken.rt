@@ -1,11 +1,15 @@
 //! The first broken key or link of tables.
-ghost use Rattle.std.specs.Prelude.{◌≡◌, [], IfOk, length, option_copied, unwrap_or};
+ghost use Rattle.std.specs.Prelude.{◌≡◌, [], All, IfOk, length, option_copied, unwrap_or};
 ghost use Rattle.std.specs.List.{position_from};
+ghost use Rattle.ba_index.specs.Orders.{IsOrderOf};
 ghost use Rattle.ba_model.specs.Meaning.{rows_of};
 ghost use Rattle.ba_model.specs.declared.value.Value.TheVariants.{Null};
-ghost use Rattle.ba_tables.specs.Broken.{broken_key, broken_link, broken_table, clash_after, dangles, is_null};
+ghost use Rattle.ba_tables.specs.Broken.{broken_key, broken_link, broken_table, clash_after, dangles};
 ghost use Rattle.ba_tables.specs.Index.{IsIndex, key_values};
 
+use crate::by_order::{has_twins, none_dangles, order_by};
+use crate::null::is_null;
+use ba_index::{Order, orders_of};
 use ba_model::{Duplicate, Link, List, Row, RowSet, Table, Value};
 use std::alloc::{AllocError, Global};
 use std::collections::{BTreeMap, BTreeSet};
@@ -28,12 +32,6 @@ pub enum TablesFault {
         link: u32,
         row: u64,
     },
-}
-
-fn is_null(value: Option<&Value>) -> bool
-    ensures { result ≡ is_null (option_copied value.entry) }
-{
-    matches!(value, Some(Value::Null))
 }
 
 fn copied_or_null(alloc: Global, value: Option<&Value>) -> Result<Value, AllocError>
@@ -115,19 +113,52 @@ fn first_dangling(
     Ok(None)
 }
 
+/// The rows of a table, none where there is no such table.
+fn rows_of(rows: &RowSet, table: u32) -> &[Row]
+    ensures { result.now ≡ rows_of rows.now table }
+{
+    match rows.tables.find(table as usize) {
+        Some(list) => list.as_slice(),
+        None => &[],
+    }
+}
+
+/// The first clash of a table on the key. It is searched for only where an order shows rows that clash, or there is none.
+fn key_clash(
+    alloc: Global,
+    table: u32,
+    rows: &RowSet,
+    orders: &[Order],
+    key: &List<u32>,
+) -> Result<Option<(u64, u64)>, AllocError>
+    requires { All (IsOrderOf rows.now) orders.now }
+    ensures { IfOk result (λ found. found ≡ clash_after key.now [] (rows_of rows.now table)) }
+{
+    let own = rows_of(rows, table);
+    if let Some(order) = order_by(orders, table, key) {
+        if !has_twins(own, order) {
+            return Ok(None);
+        }
+    }
+    first_clash(alloc, own, key)
+}
+
 fn broken_key(
     alloc: Global,
     table: u32,
-    rows: &[Row],
+    rows: &RowSet,
+    orders: &[Order],
     keys: &List<List<u32>>,
 ) -> Result<Option<TablesFault>, AllocError>
-    ensures { IfOk result (λ found. found ≡ broken_key table 0 rows.now keys.now) }
+    requires { All (IsOrderOf rows.now) orders.now }
+    ensures { IfOk result (λ found. found ≡ broken_key table 0 (rows_of rows.now table) keys.now) }
 {
     let Ok(count) = u32::try_from(keys.len()) else {
         return Err(AllocError);
     };
     for key in 0..count {
-        if let Some((first, second)) = first_clash(alloc, rows, keys.get(key as usize))? {
+        let columns = keys.get(key as usize);
+        if let Some((first, second)) = key_clash(alloc, table, rows, orders, columns)? {
             return Ok(Some(TablesFault::KeyBroken {
                 table,
                 key,
@@ -139,39 +170,57 @@ fn broken_key(
     Ok(None)
 }
 
-/// The rows of a table, none where there is no such table.
-fn rows_of(rows: &RowSet, table: u32) -> &[Row]
-    ensures { result.now ≡ rows_of rows.now table }
+/// The first row of a table that has no target. It is searched for only where no order shows that each row has one.
+fn link_break(
+    alloc: Global,
+    table: u32,
+    rows: &RowSet,
+    orders: &[Order],
+    link: &Link,
+) -> Result<Option<u64>, AllocError>
+    requires { All (IsOrderOf rows.now) orders.now }
+    ensures { IfOk result (λ found. found
+        ≡ position_from (dangles link.now (rows_of rows.now link.now.target)) 1 (rows_of rows.now table)) }
 {
-    match rows.tables.find(table as usize) {
-        Some(list) => list.as_slice(),
-        None => &[],
+    let own = rows_of(rows, table);
+    let targets = rows_of(rows, link.target);
+    if let Some(order) = order_by(orders, link.target, &link.target_columns) {
+        let none = none_dangles(alloc, own, targets, link, order)?;
+        if none {
+            return Ok(None);
+        }
     }
+    first_dangling(alloc, own, targets, link)
 }
 
 fn broken_link(
     alloc: Global,
     table: u32,
-    all: &RowSet,
-    rows: &[Row],
+    rows: &RowSet,
+    orders: &[Order],
     links: &List<Link>,
 ) -> Result<Option<TablesFault>, AllocError>
-    ensures { IfOk result (λ found. found ≡ broken_link table 0 all.now rows.now links.now) }
+    requires { All (IsOrderOf rows.now) orders.now }
+    ensures { IfOk result (λ found. found
+        ≡ broken_link table 0 rows.now (rows_of rows.now table) links.now) }
 {
     let Ok(count) = u32::try_from(links.len()) else {
         return Err(AllocError);
     };
     for link in 0..count {
         let it = links.get(link as usize);
-        if let Some(row) = first_dangling(alloc, rows, rows_of(all, it.target), it)? {
+        if let Some(row) = link_break(alloc, table, rows, orders, it)? {
             return Ok(Some(TablesFault::LinkBroken { table, link, row }));
         }
     }
     Ok(None)
 }
 
-/// The first broken key or link of all tables, if one is. `rows` has a list for each table. For n rows and each key or link
-/// the time is that of n look-ups in a search tree.
+/// The first broken key or link of all tables, if one is. `rows` has a list for each table.
+///
+/// Each key takes the time of a sort of its table's rows: n log n for n of them. A link to a key takes a look-up in that key's
+/// order for each row. Only for a key that is broken, and a link that is broken or leads to no key, the values of rows
+/// are copied, and n rows take n look-ups in a search tree.
 pub fn broken_table(
     alloc: Global,
     tables: &List<Table>,
@@ -180,16 +229,30 @@ pub fn broken_table(
     requires { length rows.now.tables ≡ length tables.now }
     ensures { IfOk result (λ found. found ≡ broken_table 0 rows.now tables.now rows.now.tables) }
 {
+    let orders = orders_of(alloc, tables, rows)?;
+    broken_by(alloc, tables, rows, orders.as_slice())
+}
+
+/// What `broken_table` gives, told from orders that were made: a look-up of n log n for n rows is left for each link.
+pub fn broken_by(
+    alloc: Global,
+    tables: &List<Table>,
+    rows: &RowSet,
+    orders: &[Order],
+) -> Result<Option<TablesFault>, AllocError>
+    requires tables { length rows.now.tables ≡ length tables.now }
+    requires orders { All (IsOrderOf rows.now) orders.now }
+    ensures { IfOk result (λ found. found ≡ broken_table 0 rows.now tables.now rows.now.tables) }
+{
     let Ok(count) = u32::try_from(tables.len()) else {
         return Err(AllocError);
     };
     for number in 0..count {
         let table = tables.get(number as usize);
-        let list = rows.tables.get(number as usize).as_slice();
-        if let Some(fault) = broken_key(alloc, number, list, &table.keys)? {
+        if let Some(fault) = broken_key(alloc, number, rows, orders, &table.keys)? {
             return Ok(Some(fault));
         }
-        if let Some(fault) = broken_link(alloc, number, rows, list, &table.links)? {
+        if let Some(fault) = broken_link(alloc, number, rows, orders, &table.links)? {
             return Ok(Some(fault));
         }
     }

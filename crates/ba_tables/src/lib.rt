@@ -2,6 +2,7 @@
 #![tactic(auto)]
 
 mod broken;
+mod by_order;
 mod conforming;
 mod fault;
 mod field;
@@ -9,6 +10,7 @@ mod file;
 pub mod laws;
 mod line;
 mod lines;
+mod null;
 mod tables;
 
 pub use broken::{TablesFault, broken_table};

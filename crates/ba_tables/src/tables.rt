@@ -5,7 +5,7 @@ ghost use Rattle.ba_model.specs.Readings.{Gives};
 ghost use Rattle.ba_tables.specs.Broken.{checked};
 ghost use Rattle.ba_tables.specs.TableSet.{RowsFit};
 
-use crate::broken::{TablesFault, broken_table};
+use crate::broken::{TablesFault, broken_by};
 use ba_index::Indexed;
 use ba_model::{Duplicate, Failure, RowSet, Schema, Shared};
 use std::alloc::Global;
@@ -34,6 +34,9 @@ impl Tables {
     ///
     /// A key is a UNIQUE constraint and a link a FOREIGN KEY with MATCH SIMPLE of the SQL standard: NULL on a key's columns breaks
     /// nothing, and NULL in a link's columns needs no target. Two equal rows break a key. The rows are dropped with an error.
+    ///
+    /// Each key takes one sort of row numbers, n log n for the n rows of its table, and its order stays. Where no key is broken and
+    /// each link leads to a key and isn't broken, a link takes a look-up in that order for each row, and no value is copied.
     pub fn check(
         alloc: Global,
         schema: &Shared<Schema>,
@@ -43,10 +46,10 @@ impl Tables {
         requires rules { schema.now.rules ≡ [] }
         ensures { Gives result (checked schema.now rows) }
     {
-        if let Some(fault) = broken_table(alloc, &schema.tables, &rows)? {
+        let rows = Indexed::new(alloc, &schema.tables, rows)?;
+        if let Some(fault) = broken_by(alloc, &schema.tables, rows.rows(), rows.orders())? {
             return Err(Failure::Fault(fault));
         }
-        let rows = Indexed::new(alloc, &schema.tables, rows)?;
         let schema = schema.copy(alloc)?;
         Ok(Tables { schema, rows })
     }
