@@ -45,7 +45,8 @@ fn given_for<'a>(name: &Str, members: &'a [Member]) -> Option<&'a Given>
     None
 }
 
-fn of_kind(alloc: Global, kind: Kind, given: &Given) -> Result<Option<Value>, AllocError>
+/// The value of the kind that is given, if it is one.
+pub fn of_kind(alloc: Global, kind: Kind, given: &Given) -> Result<Option<Value>, AllocError>
     ensures { IfOk result (λ value. value ≡ of_kind kind given.now) }
 {
     match (kind, given) {
@@ -89,7 +90,7 @@ fn values_for(
 /// A value of its kind for each parameter, where the members are these and no others. The time is of the order of the members' and
 /// the parameters' numbers multiplied.
 #[tactic(auto, unfolding(crate::specs::Contexts::context_of))]
-pub(crate) fn context_of(
+pub fn context_of(
     alloc: Global,
     params: &[Parameter],
     members: &[Member],

@@ -10,8 +10,9 @@ mod lines;
 mod read;
 mod requests;
 
+pub use context::{context_of, of_kind};
 pub use entry::{Script, ScriptEntry};
 pub use fault::{LineFault, ScriptFault};
-pub use line::{Given, Member, ScriptLine, read_line};
+pub use line::{Given, Member, ScriptLine, given_value, read_line, read_members};
 pub use lines::{Lines, count_lines, script_lines};
 pub use read::read_script;

@@ -135,7 +135,8 @@ fn context_of(alloc: Global, value: &Value) -> Result<List<Member>, Failure<Line
     }
 }
 
-fn read_members(alloc: Global, members: &Map<String, Value>) -> Result<List<Member>, AllocError>
+/// Each member of an object with its value, in the order of the names.
+pub fn read_members(alloc: Global, members: &Map<String, Value>) -> Result<List<Member>, AllocError>
     ensures { IfOk result (λ list. list ≡ given_members (members_view members.now.entries)) }
 {
     let mut list = List::new(alloc);
@@ -147,7 +148,8 @@ fn read_members(alloc: Global, members: &Map<String, Value>) -> Result<List<Memb
     Ok(list)
 }
 
-fn given_value(alloc: Global, value: &Value) -> Result<Given, AllocError>
+/// A text, a whole number of 64 bits with a sign, or anything else.
+pub fn given_value(alloc: Global, value: &Value) -> Result<Given, AllocError>
     ensures { IfOk result (λ it. it ≡ given_of (view value.now)) }
 {
     if let Some(text) = value.as_str() {

@@ -1,0 +1,13 @@
+pub mod ShapeLemmas
+pub mod EachLemmas
+pub mod RowLemmas
+pub mod CheckLemmas
+pub mod PutLemmas
+pub mod ContextLemmas
+pub mod StepLemmas
+pub mod EntryLemmas
+pub mod FitLemmas
+pub mod JsonLemmas
+pub mod WriteLemmas
+pub mod ReadLemmas
+pub mod ReadBackLemmas

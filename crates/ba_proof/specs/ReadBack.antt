@@ -1,0 +1,76 @@
+-- A written proof file reads back as what was written.
+use Rattle.std.specs.Prelude.{◌≡◌, ℕ, ◌<◌, ◌≤◌, ◌^◌, IsTrue, List, All, length, Ok}
+use Rattle.ba_lex.specs.Spelling.{fits}
+use Rattle.ba_model.specs.declared.limits.TheConstants.{MAX_BUDGET}
+use Rattle.ba_model.specs.declared.policy.Context.{Context}
+use Rattle.ba_model.specs.declared.policy.Parameter.{Parameter}
+use Rattle.ba_model.specs.declared.policy.Policy.{Policy}
+use Rattle.ba_model.specs.declared.query.Query.{Query}
+use Rattle.ba_model.specs.declared.value.Value.{Value}
+use Rattle.ba_model.specs.declared.value.Value.TheVariants.{Null, Int, Text}
+use Rattle.ba_comply.specs.declared.trace.TraceEntry.{TraceEntry}
+use Rattle.ba_facts.specs.declared.term.Term.{Term}
+use Rattle.ba_facts.specs.declared.term.Term.TheVariants as term
+use Rattle.ba_facts.specs.declared.term.TermAtom.{TermAtom}
+use Rattle.ba_kernel.specs.Asked.{QuestionFits}
+use Rattle.ba_kernel.specs.Problems.{problem_of}
+use Rattle.ba_kernel.specs.declared.problem.Problem.{Problem}
+use Rattle.ba_kernel.specs.declared.step.Step.{Step}
+use Rattle.ba_kernel.specs.declared.step.Step.TheVariants as steps
+use Rattle.ba_sql_print.specs.ReadBack.{IsComparison, IsPrintable}
+use Rattle.ba_proof.specs.Reading.{proof_of}
+use Rattle.ba_proof.specs.Written.{version_of}
+use Rattle.ba_proof.specs.declared.version.TheConstants.{LAST_VERSION}
+
+-- a whole number has 64 bits; NULL isn't read
+abbrev pub ValueSpells : Value → Type 0
+ValueSpells Null = ⊥
+ValueSpells (Int n) = IsTrue (fits n)
+ValueSpells (Text s) = Unit {0}
+
+-- a number of 32 bits
+abbrev pub IsShort : ℕ → Type 0
+IsShort n = n < 2 ^ 32
+
+-- no variable, and only parameters of the policy
+abbrev pub TermSpells : List Parameter → Term → Type 0
+TermSpells params (term.Unknown n) = IsShort n
+TermSpells params (term.Val v) = ValueSpells v
+TermSpells params (term.Param n) = (n < length params) × IsShort n
+TermSpells params (term.Var n) = ⊥
+
+pub record AtomSpells (params : List Parameter) (atom : TermAtom) : Type 0 where
+  pub op : IsComparison atom.op
+  pub left : TermSpells params atom.left
+  pub right : TermSpells params atom.right
+
+abbrev pub StepSpells : List Parameter → Step → Type 0
+StepSpells params (steps.Entry branch entry) = IsShort branch × (entry < 2 ^ 64)
+StepSpells params (steps.Key branch key left right) = IsShort branch × IsShort key × IsShort left × IsShort right
+StepSpells params (steps.Link branch link fact) = IsShort branch × IsShort link × IsShort fact
+StepSpells params (steps.Rule branch rule part facts) = IsShort branch × IsShort rule × IsShort part × All IsShort facts
+StepSpells params (steps.View branch view part facts) = IsShort branch × IsShort view × IsShort part × All IsShort facts
+StepSpells params (steps.Split branch atom) = IsShort branch × AtomSpells params atom
+StepSpells params (steps.Absurd branch) = IsShort branch
+StepSpells params (steps.Goal branch part facts) = IsShort branch × IsShort part × All IsShort facts
+
+-- its query can be printed, and its rows' values can be written
+pub record RecordSpells (policy : Policy) (it : TraceEntry) : Type 0 where
+  pub query : IsPrintable policy.schema policy.params it.query
+  pub rows : All (All ValueSpells) it.rows
+
+-- A question and steps that can be written and read: its queries can be printed, its numbers have their bits, there is no NULL, and the version is one that
+-- is read.
+pub record IsWritable (policy : Policy) (c : Context) (trace : List TraceEntry) (q : Query) (all : List Step) : Type 0 where
+  pub fits : QuestionFits policy c trace q
+  pub context : All ValueSpells c.values
+  pub entries : All (RecordSpells policy) trace
+  pub goal : IsPrintable policy.schema policy.params q
+  pub few : length all ≤ MAX_BUDGET
+  pub steps : All (StepSpells policy.params) all
+  pub version : version_of all ≤ LAST_VERSION
+
+-- the bytes are read as this problem and these steps, where they are those of a question that can be written
+abbrev pub ReadsBack : Problem → List Step → List ℕ → Type 0
+ReadsBack problem all bytes = (policy : Policy) (c : Context) (trace : List TraceEntry) (q : Query) → IsWritable policy c trace q all →
+    problem ≡ problem_of policy c trace q → proof_of policy bytes ≡ Ok (record { problem = problem; steps = all })

@@ -1,0 +1,4 @@
+mod checked;
+mod forged;
+mod given;
+mod written;
