@@ -24,9 +24,10 @@ use Rattle.ba_instant.proofs.DueLemmas.{closing_on, closing_round, gt_false, new
 use Rattle.ba_instant.proofs.OrderLemmas.{pick_total}
 use Rattle.ba_instant.proofs.QuietLemmas.{quiet_at_first}
 use Rattle.ba_instant.proofs.RoundLemmas.{is_new, not_new, round_at_once}
-use Rattle.ba_instant.specs.Agendas.{AreInTurn, EndsOld, IsAgenda, IsAgendaOf, IsFirstOf, IsInTurn, IsListed, IsNewHere, IsNone, IsTrimmed, IsWithoutLast}
+use Rattle.ba_instant.specs.Agendas.{AreInTurn, EndsOld, IsAgenda, IsAgendaAt, IsAgendaOf, IsFirstOf, IsInTurn, IsListed, IsNewHere, IsNone, IsPast, IsQuietAgenda, IsTrimmed, IsWithoutLast}
 use Rattle.ba_instant.specs.Dues.{IsDue}
-use Rattle.ba_instant.specs.Offers.{Improves, IsClosing, IsDueIfAny, IsDueOn, IsFound, IsHeld, IsNewIn, IsRoundIn, IsTelling, IsWhole, Leads, NoneCloses, Offers, is_single}
+use Rattle.ba_instant.specs.Loose.{IsQuietBeside}
+use Rattle.ba_instant.specs.Offers.{Improves, IsByMapping, IsClosing, IsDueIfAny, IsDueOn, IsFound, IsHeld, IsNewIn, IsRoundIn, IsTelling, IsWhole, Leads, NoneCloses, Offers, Reaches, is_single}
 use Rattle.ba_instant.specs.Order.{pick_cmp, step_cmp}
 use Rattle.ba_instant.specs.Windows.{IsQuietUpto}
 use Rattle.ba_instant.specs.declared.agenda.Agenda.{Agenda}
@@ -149,6 +150,40 @@ none_is_agenda pick p n b agenda none = record {
       let zero = none.0 in
       absurd (let no : ⊥ = omega (arith, late, low, zero) in no);
 }
+
+past_late : (pick : Pick) (round : ℕ) (found : Option Batch) (it : Found) → IsPast round found → Reaches pick found it → round < it.round
+past_late pick round None it past reach = absurd reach
+past_late pick round (Some batch) it past (inl less) = omega (arith, past, less)
+past_late pick round (Some batch) it past (inr same) = let at = same.0 in omega (arith, past, at)
+
+-- what is quiet but for rules and views is quiet, if nothing that was found by these is of the round
+module _ (pick : Pick) (c : Course) (n : ℕ) (b : Branch) (round : ℕ) (found : Option Batch) (open_ : IsOpen c.slots n b) (quiet : IsQuietBeside c.problem b n round)
+    (h : Improves c pick (IsByMapping n) None found) where
+  mapped_late : IsPast round found → (step : Step) (its : ℕ) → IsByMapping n step → IsTelling n step → IsNewOn c.problem b step → IsRound c.problem b step its → round < its
+  mapped_late past step its mapped telling is_new round_is =
+      let on = telling_on c pick n step telling in
+      past_late pick round found (record { round = its; step = step }) past
+      (h.reaches (record { round = its; step = step })
+      (record { of = mapped; new_ = new_in c n b open_ step on is_new; round_is = round_in c n b open_ step its on round_is }))
+
+  telling_late : IsPast round found → (step : Step) (its : ℕ) → IsTelling n step → IsNewOn c.problem b step → IsRound c.problem b step its → round < its
+  telling_late past step its (inl (inl (inl early))) is_new round_is = quiet step its (inl early) is_new round_is
+  telling_late past step its (inl (inl (inr rule))) is_new round_is = mapped_late past step its (inl rule) (inl (inl (inr rule))) is_new round_is
+  telling_late past step its (inl (inr view)) is_new round_is = mapped_late past step its (inr view) (inl (inr view)) is_new round_is
+  telling_late past step its (inr split) is_new round_is = quiet step its (inr split) is_new round_is
+
+  quiet_is_agenda : (agenda : Agenda) → IsQuietAgenda round found agenda → IsAgenda pick c.problem n b agenda
+  quiet_is_agenda agenda (inl none) = none_is_agenda pick c.problem n b agenda none
+  quiet_is_agenda agenda (inr (past, round_are, none)) = record {
+    on = λ step in_. absurd (Contains-nil step (subst (λ xs. Contains xs step) none in_));
+    in_turn = none_in_turn pick agenda.steps.items none;
+    listed = λ step its telling is_new round_is low.
+        let late : round < its = telling_late past step its telling is_new round_is in
+        absurd (let no : ⊥ = omega (arith, late, low, round_are) in no);
+  }
+
+  pub quiet_agenda_at : (agenda : Agenda) → IsQuietAgenda round found agenda → IsAgendaAt pick c n agenda
+  quiet_agenda_at agenda is = record { of = λ d other. subst (λ x. IsAgenda pick c.problem n x agenda) (one_open c.slots n b d open_ other) (quiet_is_agenda agenda is) }
 
 not_listed : (pick : Pick) (step : Step) → IsListed pick [] step → ⊥
 not_listed pick step (inl in_) = Contains-nil step in_

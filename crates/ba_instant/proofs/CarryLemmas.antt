@@ -24,7 +24,7 @@ pub record Carries (k l : Known) (stands : Term → Term) : Type 0 where
 
 -- ---- gaps, one after another
 
-gap_then : {k : Known} {a b c : Term} {n m : ℤ} → ShownGap k a n b → ShownGap k b m c → ShownGap k a (n +ℤ m) c
+pub gap_then : {k : Known} {a b c : Term} {n m : ℤ} → ShownGap k a n b → ShownGap k b m c → ShownGap k a (n +ℤ m) c
 gap_then g h = record { sum = g.sum +ℤ h.sum; enough = omega (arith, ints, g.enough, h.enough); chain = then g.chain h.chain }
 
 gap_as : {k : Known} {a b : Term} {n : ℤ} (m : ℤ) → n ≡ m → ShownGap k a n b → ShownGap k a m b
@@ -33,7 +33,7 @@ gap_as {k} {a} {b} m e g = subst (λ n. ShownGap k a n b) e g
 pub gap_of : {k : Known} {a b : Term} {n : ℤ} → Chain k a n b → ShownGap k a n b
 gap_of {n = n} c = record { sum = n; enough = omega (arith, ints); chain = c }
 
-gap_within : {k : Known} {a b : Term} → OneClass k a b → ShownGap k a (pos 0) b
+pub gap_within : {k : Known} {a b : Term} → OneClass k a b → ShownGap k a (pos 0) b
 gap_within h = gap_of (one_rise (within h))
 
 -- ---- the same

@@ -45,11 +45,11 @@ set_at (x ∷ xs) zero y below = refl
 set_at (x ∷ xs) (suc n) y below = set_at xs n y (omega (arith, below))
 
 -- the cases begin with this one
-abbrev BeginsWith : List Branch → Branch → Type 0
+abbrev pub BeginsWith : List Branch → Branch → Type 0
 BeginsWith [] c = ⊥
 BeginsWith (d ∷ others) c = d ≡ c
 
-first_case : (slots : Slots) (n : ℕ) (cases : List Branch) (c : Branch) → n < length slots → IsOpen (after slots n cases) n c → BeginsWith cases c
+pub first_case : (slots : Slots) (n : ℕ) (cases : List Branch) (c : Branch) → n < length slots → IsOpen (after slots n cases) n c → BeginsWith cases c
 first_case slots n [] c below e = let none = set_at slots n None below in cc
 first_case slots n (d ∷ others) c below e =
     let counted = length-set slots n (Some d) in

@@ -29,4 +29,7 @@ mod FilledRuns
 mod QuietStepLemmas
 mod LinkRowLemmas
 mod KeepLemmas
+mod LooseLemmas
+mod LooseStepLemmas
+mod AfterSplitLemmas
 mod ChoiceLemmas

@@ -21,6 +21,7 @@ use Rattle.ba_kernel.specs.declared.problem.Problem.{Problem}
 use Rattle.ba_kernel.specs.declared.step.Step.{Step}
 use Rattle.ba_kernel.specs.declared.step.StepFault.{StepFault}
 use Rattle.ba_instant.proofs.ChaseLemmas.{open_is}
+use Rattle.ba_instant.proofs.AfterSplitLemmas.{first_quiet, other_quiet, quiet_zero}
 use Rattle.ba_instant.proofs.AgendaLemmas.{none_is_agenda}
 use Rattle.ba_instant.proofs.DueLemmas.{gt_false, new_in, not_greater, one_open}
 use Rattle.ba_instant.proofs.KeepLemmas.{new_after_quiet_step}
@@ -29,7 +30,8 @@ use Rattle.ba_instant.proofs.OrderLemmas.{pick_total}
 use Rattle.ba_instant.proofs.RoundLemmas.{round_once}
 use Rattle.ba_instant.specs.Dues.{DueList, Ends, HasNew, HaveNewBelow, IsDue, IsSaturated, Searches}
 use Rattle.ba_instant.specs.Agendas.{IsAgenda, IsAgendaAt, IsNone}
-use Rattle.ba_instant.specs.Nexts.{AreWaiting, ComesLater, IsFirstBelow, IsLeafOf, IsLeastSaturated, IsLeft, IsPickedBelow, IsQuietAt, IsTaken, Passes, SaturatedAt, Waits, first_step}
+use Rattle.ba_instant.specs.Loose.{IsQuietBeside}
+use Rattle.ba_instant.specs.Nexts.{AreQuietBeside, IsQuietRound, AreWaiting, ComesLater, IsFirstBelow, IsLeafOf, IsLeastSaturated, IsLeft, IsPickedBelow, IsQuietAt, IsTaken, Passes, SaturatedAt, Waits, first_step}
 use Rattle.ba_instant.specs.Offers.{IsDueIfAny, IsDueOn, IsRoundAt, first_by}
 use Rattle.ba_instant.specs.Order.{atom_cmp, numbers_cmp, pick_cmp, step_atom, step_cmp, step_rank}
 use Rattle.ba_instant.specs.declared.waiting.Waiting.{Waiting}
@@ -274,9 +276,10 @@ module _ (pick : Pick) (c : Course) (of : Due) (it : IsTaken pick c of) where
     agenda_after new left b takes to (inr (quiet, same, low)) = subst (IsAgenda pick c.problem (branch_of step) b) (sym same) (listed_after new b takes to quiet low)
 
     -- all other branches are as before
-    pub waiting_after : (new : Course) (waiting : Waiting) (left : Agenda) → waiting.below ≡ length c.slots → waiting.but ≡ branch_of step → waiting.agenda ≡ left → IsLeft c of left →
+    pub waiting_after : (new : Course) (waiting : Waiting) (left : Agenda) → waiting.below ≡ length c.slots → waiting.but ≡ branch_of step → waiting.agenda ≡ left → IsNone waiting.next → IsLeft c of left →
         Takes c.problem c.slots step new.slots → new.problem ≡ c.problem → AreWaiting pick new waiting
-    waiting_after new waiting left below_is but_is agenda_is h takes problem_is = record {
+    waiting_after new waiting left below_is but_is agenda_is next_is h takes problem_is = record {
+      next = record { of = λ b is. none_is_agenda pick new.problem waiting.below b waiting.next next_is };
       waits = λ number b below other is.
           let less : number < length c.slots = omega (arith, below, below_is) in
           let open_ : IsOpen c.slots number b =
@@ -289,6 +292,18 @@ module _ (pick : Pick) (c : Course) (of : Due) (it : IsTaken pick c of) where
             (subst (λ m. IsAgenda pick c.problem m b waiting.agenda) (sym but_is)
             (subst (IsAgenda pick c.problem (branch_of step) b) (sym agenda_is) (agenda_after new left b takes to h)));
       };
+    }
+
+    -- both branches of a loose split are quiet up to the round before it
+    pub quiet_after : (new : Course) (waiting : Waiting) (round : ℕ) → waiting.below ≡ length c.slots → waiting.but ≡ branch_of step → IsQuietRound c of.found round →
+        Takes c.problem c.slots step new.slots → new.problem ≡ c.problem → AreQuietBeside new waiting round
+    quiet_after new waiting round below_is but_is (inl none) takes problem_is = record {
+      first = λ b is. subst (IsQuietBeside new.problem b waiting.but) (sym none) (quiet_zero new.problem b waiting.but);
+      other = λ b is. subst (IsQuietBeside new.problem b waiting.below) (sym none) (quiet_zero new.problem b waiting.below);
+    }
+    quiet_after new waiting round below_is but_is (inr loose) takes problem_is = record {
+      first = λ b is. subst (λ p. IsQuietBeside p b waiting.but round) (sym problem_is) (first_quiet c new of.found round due due_round takes loose waiting.but b but_is is);
+      other = λ b is. subst (λ p. IsQuietBeside p b waiting.below round) (sym problem_is) (other_quiet c new of.found round due due_round takes loose waiting.below b below_is is);
     }
 
   some_open : ¬ (AllClosed c.slots)
@@ -329,8 +344,9 @@ if_ok_as : (P Q : Settled → Type 0) (r : Result Settled AllocError) → ((it :
 if_ok_as P Q (Ok it) to h = to it h
 if_ok_as P Q (Err e) to h = h
 
-pub none_waits : (pick : Pick) (c : Course) (waiting : Waiting) → waiting.below ≡ 0 → IsNone waiting.agenda → AreWaiting pick c waiting
-none_waits pick c waiting below none = record {
+pub none_waits : (pick : Pick) (c : Course) (waiting : Waiting) → waiting.below ≡ 0 → IsNone waiting.agenda → IsNone waiting.next → AreWaiting pick c waiting
+none_waits pick c waiting below none next = record {
+  next = record { of = λ b is. none_is_agenda pick c.problem waiting.below b waiting.next next };
   waits = λ number b less other is. absurd (let no : ⊥ = omega (arith, less, below) in no);
   agenda = record { of = λ b is. none_is_agenda pick c.problem waiting.but b waiting.agenda none };
 }
@@ -347,12 +363,31 @@ pub agenda_on : (waiting : Waiting) (number : ℕ) (agenda : Agenda) (pick : Pic
     IsAgendaAt pick c number agenda
 agenda_on waiting number agenda pick c on is are = subst (λ m. IsAgendaAt pick c m agenda) (sym on) (subst (IsAgendaAt pick c waiting.but) (sym is) are.agenda)
 
--- the same branches wait without the agenda
-pub waits_on : (old new : Waiting) (pick : Pick) (c : Course) → new.below ≡ old.below → new.but ≡ old.but → IsNone new.agenda → AreWaiting pick c old → AreWaiting pick c new
-waits_on old new pick c below_is but_is none are = record {
+-- so has the one at the bound
+pub next_on : (waiting : Waiting) (number : ℕ) (agenda : Agenda) (pick : Pick) (c : Course) → number ≡ waiting.below → agenda ≡ waiting.next → AreWaiting pick c waiting →
+    IsAgendaAt pick c number agenda
+next_on waiting number agenda pick c on is are = subst (λ m. IsAgendaAt pick c m agenda) (sym on) (subst (IsAgendaAt pick c waiting.below) (sym is) are.next)
+
+-- the same branches wait with other agendas of theirs
+pub waits_with : (old new : Waiting) (pick : Pick) (c : Course) → new.below ≡ old.below → new.but ≡ old.but → IsAgendaAt pick c new.but new.agenda → IsAgendaAt pick c new.below new.next →
+    AreWaiting pick c old → AreWaiting pick c new
+waits_with old new pick c below_is but_is agenda next are = record {
   waits = λ number b below other is. are.waits number b (omega (arith, below, below_is)) (λ same. other (same ∙ sym but_is)) is;
-  agenda = none_at pick c new.but new.agenda none;
+  agenda = agenda;
+  next = next;
 }
+
+-- the same branches wait without the agenda
+pub waits_on : (old new : Waiting) (pick : Pick) (c : Course) → new.below ≡ old.below → new.but ≡ old.but → IsNone new.agenda → new.next ≡ old.next → AreWaiting pick c old →
+    AreWaiting pick c new
+waits_on old new pick c below_is but_is none next_is are =
+    waits_with old new pick c below_is but_is (none_at pick c new.but new.agenda none) (next_on old new.below new.next pick c below_is next_is are) are
+
+-- or without that of the branch at the bound
+pub waits_without_next : (old new : Waiting) (pick : Pick) (c : Course) → new.below ≡ old.below → new.but ≡ old.but → IsNone new.next → new.agenda ≡ old.agenda → AreWaiting pick c old →
+    AreWaiting pick c new
+waits_without_next old new pick c below_is but_is none agenda_is are =
+    waits_with old new pick c below_is but_is (agenda_on old new.but new.agenda pick c but_is agenda_is are) (none_at pick c new.below new.next none) are
 
 pub searches_start : (pick : Pick) (c : Course) (p : Problem) → c.problem ≡ p → c.steps ≡ [] → IsStart p c.slots → Searches pick c.problem c.steps c.slots
 searches_start pick c p problem_is none start =

@@ -73,6 +73,15 @@ pub record EndsOld (c : Course) (agenda : Agenda) : Type 0 where
 abbrev pub IsNone : Agenda → Type 0
 IsNone agenda = (agenda.round ≡ 0) × (agenda.steps.items ≡ [])
 
+-- what was found is past the round
+abbrev pub IsPast : ℕ → Option Batch → Type 0
+IsPast round None = Unit {0}
+IsPast round (Some batch) = round < batch.round
+
+-- nothing is left; and it is so up to the round, if what was found is past it
+abbrev pub IsQuietAgenda : ℕ → Option Batch → Agenda → Type 0
+IsQuietAgenda round found agenda = IsNone agenda ⊎ (IsPast round found × (agenda.round ≡ round) × (agenda.steps.items ≡ []))
+
 -- the last step is gone, and with a single one all
 abbrev pub IsWithoutLast : Agenda → Agenda → Type 0
 IsWithoutLast old new = IsNone new ⊎ ((new.round ≡ old.round) × (new.steps.items ≡ take (length old.steps.items - 1) old.steps.items) ×

@@ -2,6 +2,7 @@ pub mod Order
 pub mod Dues
 pub mod Offers
 pub mod Windows
+pub mod Loose
 pub mod QuietSteps
 pub mod Givens
 pub mod Looks

@@ -7,11 +7,15 @@ use Rattle.ba_kernel.specs.Courses.{AllClosed, IsOpen, branch_of}
 use Rattle.ba_kernel.specs.Tests.{Course, open_at}
 use Rattle.ba_kernel.specs.declared.problem.Problem.{Problem}
 use Rattle.ba_kernel.specs.declared.step.Step.{Step}
+use Rattle.ba_kernel.specs.declared.step.Step.TheVariants as steps
+use Rattle.ba_facts.specs.declared.term.TermAtom.{TermAtom}
 use Rattle.ba_instant.specs.Dues.{EachHasNew, HasNew, HaveNewBelow, IsDue, IsPicked, IsSaturated, Searches}
 use Rattle.ba_instant.specs.Offers.{IsRoundIn, first_by}
 use Rattle.ba_instant.specs.Order.{pick_cmp}
 use Rattle.ba_instant.specs.QuietSteps.{IsQuietStep}
 use Rattle.ba_instant.specs.Agendas.{IsAgendaAt, IsNone}
+use Rattle.ba_instant.specs.Loose.{IsLooseAtom, IsQuietBeside}
+use Rattle.ba_instant.specs.declared.found.Found.{Found}
 use Rattle.ba_instant.specs.declared.due.Next.{Next}
 use Rattle.ba_instant.specs.declared.waiting.Waiting.{Waiting}
 use Rattle.ba_instant.specs.declared.due.Next.TheVariants as nexts
@@ -78,10 +82,29 @@ IsLooked pick c number false old new = Passes pick c number old new
 
 -- ---- branches that wait
 
--- each open branch below the bound but one has a new step, and the agenda is that one's
+-- each open branch below the bound but one has a new step; the agendas are that one's, and that of the branch at the bound
 pub record AreWaiting (pick : Pick) (c : Course) (waiting : Waiting) : Type 0 where
   pub waits : (number : ℕ) (branch : Branch) → number < waiting.below → number ≢ waiting.but → IsOpen c.slots number branch → HasNew c.problem number branch
   pub agenda : IsAgendaAt pick c waiting.but waiting.agenda
+  pub next : IsAgendaAt pick c waiting.below waiting.next
+
+-- up to the round nothing is new on both but, maybe, by rules and views
+pub record AreQuietBeside (c : Course) (waiting : Waiting) (round : ℕ) : Type 0 where
+  pub first : (b : Branch) → IsOpen c.slots waiting.but b → IsQuietBeside c.problem b waiting.but round
+  pub other : (b : Branch) → IsOpen c.slots waiting.below b → IsQuietBeside c.problem b waiting.below round
+
+-- a loose split on an open branch, of a round past this one
+pub record SplitsLoosely (c : Course) (it : Found) (round : ℕ) : Type 0 where
+  pub branch : Branch
+  pub open_ : IsOpen c.slots (branch_of it.step) branch
+  pub atom : TermAtom
+  pub split : it.step ≡ steps.Split (branch_of it.step) atom
+  pub loose : IsLooseAtom branch.known atom
+  pub past : round < it.round
+
+-- the step is such a split, or the round is 0
+abbrev pub IsQuietRound : Course → Found → ℕ → Type 0
+IsQuietRound c it round = (round ≡ 0) ⊎ SplitsLoosely c it round
 
 -- the step is quiet on its branch
 abbrev pub IsQuietAt : Problem → Option Branch → Step → Type 0

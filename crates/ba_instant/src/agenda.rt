@@ -1,7 +1,7 @@
 //! What is left to do of a round on a branch.
 ghost use Rattle.std.specs.Prelude.{◌≡◌, ◌↔◌, ◌++◌, ◌-◌, [], IfOk, IsTrue, OnOk, Some, false, length, option_to_list, slice_get};
 ghost use Rattle.ba_kernel.specs.declared.step.Step.{Step as AStep};
-ghost use Rattle.ba_instant.specs.Agendas.{EndsOld, IsAgendaOf, IsFirstOf, IsInTurn, IsNewHere, IsTrimmed, IsWithoutLast};
+ghost use Rattle.ba_instant.specs.Agendas.{EndsOld, IsAgendaOf, IsFirstOf, IsInTurn, IsNewHere, IsPast, IsQuietAgenda, IsTrimmed, IsWithoutLast};
 
 use crate::batch::{Batch, is_single};
 use crate::copies::copy_step;
@@ -28,6 +28,20 @@ impl Agenda {
         Agenda {
             round: 0,
             steps: Vec::new(alloc),
+        }
+    }
+
+    /// Nothing up to the round, if the steps that were found are past it; else nothing.
+    pub fn quiet(alloc: Global, round: u64, found: &Option<Batch>) -> Agenda
+        ensures { IsQuietAgenda round found.now result }
+    {
+        if is_past(round, found) {
+            Agenda {
+                round,
+                steps: Vec::new(alloc),
+            }
+        } else {
+            Agenda::none(alloc)
         }
     }
 
@@ -95,6 +109,16 @@ impl Agenda {
             }
             None => (),
         }
+    }
+}
+
+/// Whether none was found of a round up to this one.
+fn is_past(round: u64, found: &Option<Batch>) -> bool
+    ensures { IsTrue result ↔ IsPast round found.now }
+{
+    match found {
+        Some(batch) => round < batch.round,
+        None => true,
     }
 }
 

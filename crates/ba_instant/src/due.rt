@@ -1,10 +1,12 @@
 //! The due step of a branch, and of all open branches.
 ghost use Rattle.std.specs.Prelude.{◌≡◌, ◌↔◌, [], IfOk, IsTrue, None, OnOk, Some};
 ghost use Rattle.ba_kernel.specs.Courses.{IsOpen};
-ghost use Rattle.ba_instant.specs.Agendas.{IsAgenda};
+ghost use Rattle.ba_instant.specs.Agendas.{IsAgenda, IsAgendaAt};
+ghost use Rattle.ba_instant.specs.Loose.{IsQuietBeside};
+ghost use Rattle.ba_facts.specs.declared.branch.Branch.{Branch as ABranch};
 ghost use Rattle.ba_instant.specs.Looks.{IsLook};
 ghost use Rattle.ba_instant.specs.Windows.{IsQuietUpto};
-ghost use Rattle.ba_instant.specs.Nexts.{AreWaiting, ComesLater, IsLooked, IsNext, Waits, first_step};
+ghost use Rattle.ba_instant.specs.Nexts.{AreQuietBeside, AreWaiting, ComesLater, IsLooked, IsNext, Waits, first_step};
 ghost use Rattle.ba_instant.specs.Offers.{Improves, IsByMapping, IsClosing, IsDueIfAny, IsTaught, IsTelling, NoneCloses};
 
 use crate::agenda::Agenda;
@@ -128,6 +130,26 @@ impl Place<'_> {
         Ok(best)
     }
 
+    /// The new steps by rules and views of the least round.
+    fn mapped_steps(&self, alloc: Global) -> Result<Option<Batch>, AllocError>
+        requires { IsOpen self.now.search.now.slots self.now.number self.now.branch.now }
+        ensures { IfOk result (Improves self.now.search.now self.now.pick (IsByMapping self.now.number) None) }
+    {
+        let recent = recent_facts(alloc, self.branch, 0)?;
+        let spot = Spot {
+            alloc,
+            search: self.search,
+            branch: self.branch,
+            number: self.number,
+            pick: self.pick,
+            quiet: 0,
+            recent: &recent,
+        };
+        let mut best = None;
+        spot.offer_mapped(&mut best)?;
+        Ok(best)
+    }
+
     /// The first of the steps that close the branch.
     fn first_of(&self, alloc: Global, batch: Batch) -> Result<Option<Found>, AllocError>
         requires open { IsOpen self.now.search.now.slots self.now.number self.now.branch.now }
@@ -195,6 +217,55 @@ impl Place<'_> {
         let mut best = None;
         spot.offer_telling(&mut best)?;
         Ok(best)
+    }
+}
+
+/// Keeps both branches of a split as quiet as they are, if no step by a rule or a view is new there
+/// up to the round.
+pub fn keep_quiet(
+    alloc: Global,
+    search: &Search,
+    pick: Pick,
+    round: u64,
+    waiting: &mut Waiting,
+) -> Result<(), AllocError>
+    requires waiting { AreWaiting pick search.now waiting.old }
+    requires quiet { AreQuietBeside search.now waiting.old round }
+    ensures { OnOk result (AreWaiting pick search.now waiting.new) }
+{
+    if round == 0 {
+        return Ok(());
+    }
+    let agenda = quiet_agenda(alloc, search, pick, waiting.but, round)?;
+    let next = quiet_agenda(alloc, search, pick, waiting.below, round)?;
+    waiting.agenda = agenda;
+    waiting.next = next;
+    Ok(())
+}
+
+/// An agenda of the branch, on which up to the round nothing is new but, maybe, by rules and views.
+fn quiet_agenda(
+    alloc: Global,
+    search: &Search,
+    pick: Pick,
+    number: u32,
+    round: u64,
+) -> Result<Agenda, AllocError>
+    requires { (b : ABranch) → IsOpen search.now.slots number b → IsQuietBeside search.now.problem b number round }
+    ensures { IfOk result (IsAgendaAt pick search.now number) }
+{
+    match search.branch(number) {
+        None => Ok(Agenda::none(alloc)),
+        Some(branch) => {
+            let place = Place {
+                search,
+                branch,
+                number,
+                pick,
+            };
+            let mapped = place.mapped_steps(alloc)?;
+            Ok(Agenda::quiet(alloc, round, &mapped))
+        }
     }
 }
 

@@ -9,9 +9,9 @@ ghost use Rattle.ba_instant.specs.declared.ends.Settled.TheVariants.{Proved as B
 ghost use Rattle.ba_instant.specs.declared.order.Pick.TheVariants.{First};
 
 use crate::copies::copy_steps;
-use crate::due::{Due, Next, next_step};
+use crate::due::{Due, Next, keep_quiet, next_step};
 use crate::order::Pick;
-use crate::quiet::left_after;
+use crate::quiet::{left_after, quiet_round};
 use crate::waiting::Waiting;
 use ba_facts::Branch;
 use ba_kernel::{Problem, Proved, Search, Step};
@@ -139,10 +139,14 @@ fn take(alloc: Global, search: &mut Search, pick: Pick, due: Due) -> Result<Wait
     ensures steps { OnOk result (search.new.steps ≡ search.old.steps ++ due.found.step ∷ []) }
 {
     let Due { found, agenda } = due;
+    let quiet = quiet_round(search, &found);
     let left = left_after(alloc, search, &found, agenda)?;
-    let waiting = Waiting::beside(search, &found.step, left);
+    let mut waiting = Waiting::beside(alloc, search, &found.step, left);
     match search.apply(alloc, found.step) {
-        Ok(()) => Ok(waiting),
+        Ok(()) => {
+            keep_quiet(alloc, search, pick, quiet, &mut waiting)?;
+            Ok(waiting)
+        }
         Err(Failure::NoMemory) => Err(AllocError),
         Err(Failure::Fault(_)) => unreachable!(),
     }

@@ -1,5 +1,6 @@
 //! What holds of every search, stated as functions that do nothing.
 ghost use Rattle.ba_instant.specs.Dues.{DueListsAreOne, PickedIsOne, SearchesAreDue};
+ghost use Rattle.ba_instant.specs.Loose.{LooseStays};
 ghost use Rattle.ba_instant.specs.QuietSteps.{GivenCaseIsQuiet, NewAfterQuietStep, QuietStepKeeps, RunsAreFilled};
 ghost use Rattle.ba_instant.specs.Windows.{DueIsQuiet, NewWasNew, QuietAtFirst, QuietIsNotAbsurd, QuietStays, RunsAreGrounded};
 
@@ -33,6 +34,12 @@ pub fn new_was_new()
 /// Where a branch grows quietly by facts of no round below a bound, it stays quiet up to the bound.
 pub fn quiet_stays()
     ensures { QuietStays }
+{}
+
+/// Where a branch is told a loose comparison, it stays quiet up to a bound, but maybe for steps by
+/// rules and views.
+pub fn loose_stays()
+    ensures { LooseStays }
 {}
 
 /// Where a branch grows quietly it isn't absurd if it wasn't.

@@ -13,6 +13,7 @@ mod found;
 mod given;
 mod keys;
 pub mod laws;
+mod loose;
 mod mapped;
 mod order;
 mod parts;

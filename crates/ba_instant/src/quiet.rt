@@ -1,5 +1,5 @@
 //! Steps after which nothing of an earlier round is new on their branch.
-ghost use Rattle.std.specs.Prelude.{◌≡◌, ◌↔◌, All, IfOk, IsTrue, false, nat_eq};
+ghost use Rattle.std.specs.Prelude.{◌≡◌, ◌↔◌, ◌⊎◌, ◌<◌, All, IfOk, IsTrue, false, nat_eq};
 ghost use Rattle.std.specs.List.{IsDistinct};
 ghost use Rattle.std.specs.Option.{option_copied};
 ghost use Rattle.ba_facts.specs.Known.{seen};
@@ -7,16 +7,43 @@ ghost use Rattle.ba_facts.specs.Matches.{Under};
 ghost use Rattle.ba_kernel.specs.Courses.{ProblemFits, branch_of};
 ghost use Rattle.ba_kernel.specs.Effects.{rows_at};
 ghost use Rattle.ba_kernel.specs.Tests.{open_at};
-ghost use Rattle.ba_instant.specs.Nexts.{IsLeft, IsQuietAt};
+ghost use Rattle.ba_instant.specs.Loose.{IsLooseAtom};
+ghost use Rattle.ba_instant.specs.Nexts.{IsLeft, IsQuietAt, IsQuietRound};
 ghost use Rattle.ba_instant.specs.QuietSteps.{IsPlain, IsQuietLink, IsQuietStep, IsQuietView};
 
 use crate::agenda::Agenda;
 use crate::found::Found;
 use crate::given::is_quiet_entry;
-use ba_facts::{Branch, TermRef};
+use crate::loose::is_loose;
+use ba_facts::{Branch, Knowledge, TermAtom, TermRef};
 use ba_kernel::{Problem, Search, Step};
 use ba_model::{Atom, Op};
 use std::alloc::{AllocError, Global};
+
+/// The round up to which both branches of the split stay quiet but, maybe, for rules and views: that
+/// before the split's, if it is loose. Else 0, up to which each branch is quiet.
+pub fn quiet_round(search: &Search, found: &Found) -> u64
+    ensures { IsQuietRound search.now found.now result }
+{
+    match &found.step {
+        Step::Split { branch, atom } => match search.branch(*branch) {
+            Some(on) => loose_round(&on.known, atom, found.round),
+            None => 0,
+        },
+        _ => 0,
+    }
+}
+
+/// The round before, if the atom is loose, or 0.
+fn loose_round(known: &Knowledge, atom: &TermAtom, round: u64) -> u64
+    ensures { (result ≡ 0) ⊎ (IsLooseAtom known.now atom.now × (result < round)) }
+{
+    if is_loose(known, atom) {
+        round.saturating_sub(1)
+    } else {
+        0
+    }
+}
 
 /// What is left of the agenda after the due step: all, if the step is sure to leave its branch as
 /// quiet as it was, else nothing.

@@ -12,12 +12,13 @@ use std::alloc::Global;
 use std::mem;
 
 /// The branches that wait: those of a number below the bound but one, of which each that is open has
-/// a new step. The one that doesn't wait has the agenda.
+/// a new step. The one that doesn't wait has the agenda, and the first from the bound on has one too.
 #[derive(Drop)]
 pub struct Waiting {
     pub below: u32,
     pub but: u32,
     pub agenda: Agenda,
+    pub next: Agenda,
 }
 
 impl Waiting {
@@ -25,24 +26,28 @@ impl Waiting {
     pub fn none(alloc: Global) -> Waiting
         ensures below { result.below ≡ 0 }
         ensures agenda { IsNone result.agenda }
+        ensures next { IsNone result.next }
     {
         Waiting {
             below: 0,
             but: 0,
             agenda: Agenda::none(alloc),
+            next: Agenda::none(alloc),
         }
     }
 
     /// All but that of the step, which has the agenda.
-    pub fn beside(search: &Search, step: &Step, agenda: Agenda) -> Waiting
+    pub fn beside(alloc: Global, search: &Search, step: &Step, agenda: Agenda) -> Waiting
         ensures below { result.below ≡ length search.now.slots }
         ensures but { result.but ≡ branch_of step.now }
         ensures agenda { result.agenda ≡ agenda }
+        ensures next { IsNone result.next }
     {
         Waiting {
             below: search.branches(),
             but: step.branch(),
             agenda,
+            next: Agenda::none(alloc),
         }
     }
 
@@ -61,6 +66,20 @@ impl Waiting {
         let none = Agenda::none(alloc);
         if number == self.but {
             mem::replace(&mut self.agenda, none)
+        } else {
+            self.take_next(number, none)
+        }
+    }
+
+    /// Takes the agenda of the first branch from the bound on out, if it is the number's, and puts the
+    /// one without steps in its place.
+    fn take_next(&mut self, number: u32, none: Agenda) -> Agenda
+        requires { IsNone none }
+        ensures agenda { (pick : Pick) (c : Course) → AreWaiting pick c self.old → IsAgendaAt pick c number result }
+        ensures waiting { (pick : Pick) (c : Course) → AreWaiting pick c self.old → AreWaiting pick c self.new }
+    {
+        if number == self.below {
+            mem::replace(&mut self.next, none)
         } else {
             none
         }

@@ -7,7 +7,7 @@ pub loop-taken-init : goal.loop-taken-init
 loop-taken-init c = record {
   problem = c.in_ok-search.ensures.problem;
   searches = searches_start c.args.pick c.in_ok-search.search c.args.problem c.in_ok-search.ensures.problem c.in_ok-search.ensures.steps c.in_ok-search.ensures.slots;
-  waiting = none_waits c.args.pick c.in_ok-search.search c.none-waiting.result c.none-waiting.ensures.below c.none-waiting.ensures.agenda;
+  waiting = none_waits c.args.pick c.in_ok-search.search c.none-waiting.result c.none-waiting.ensures.below c.none-waiting.ensures.agenda c.none-waiting.ensures.next;
   count = ap length c.in_ok-search.ensures.steps;
 }
 
