@@ -2,7 +2,6 @@
 ghost use Rattle.std.specs.Prelude.{◌≡◌, ◌↔◌, ◌⊎◌, IfOk, IsTrue, OnOk};
 ghost use Rattle.ba_facts.specs.Known.{seen};
 ghost use Rattle.ba_facts.specs.declared.term.Side.TheVariants.{One, Two};
-ghost use Rattle.ba_kernel.specs.Courses.{IsOpen};
 ghost use Rattle.ba_instant.specs.Looks.{AreEquations, IsLook};
 ghost use Rattle.ba_instant.specs.Offers.{Improves, IsSplitOfAtom, IsSplitOfConds, IsSplitOfPart, IsSplitOfParts, IsSplitOfRules, IsSplitOfSides, IsSplitOfViews, IsSplitStep};
 
@@ -26,7 +25,7 @@ impl<'a> Spot<'a> {
     }
 
     fn offer_all_splits(&self, best: &mut Option<Batch>) -> Result<(), AllocError>
-        requires { IsOpen self.now.search.now.slots self.now.number self.now.branch.now }
+        requires { IsLook self.now.search.now self.now.number self.now.branch.now self.now.quiet self.now.recent.now }
         ensures { OnOk result (Improves self.now.search.now self.now.pick (IsSplitStep self.now.number) best.old best.new) }
     {
         self.offer_view_splits(self.views(), best)?;
@@ -37,7 +36,7 @@ impl<'a> Spot<'a> {
 
     /// Offers the splits by atoms of the views, mapped to side One.
     fn offer_view_splits(&self, views: &[View], best: &mut Option<Batch>) -> Result<(), AllocError>
-        requires { IsOpen self.now.search.now.slots self.now.number self.now.branch.now }
+        requires { IsLook self.now.search.now self.now.number self.now.branch.now self.now.quiet self.now.recent.now }
         ensures { OnOk result (Improves self.now.search.now self.now.pick (IsSplitOfViews self.now.branch.now self.now.number views.now) best.old best.new) }
     {
         for view in views {
@@ -48,7 +47,7 @@ impl<'a> Spot<'a> {
 
     /// Offers the splits by atoms of the rules' left queries, mapped to both sides.
     fn offer_rule_splits(&self, rules: &[Rule], best: &mut Option<Batch>) -> Result<(), AllocError>
-        requires { IsOpen self.now.search.now.slots self.now.number self.now.branch.now }
+        requires { IsLook self.now.search.now self.now.number self.now.branch.now self.now.quiet self.now.recent.now }
         ensures { OnOk result (Improves self.now.search.now self.now.pick (IsSplitOfRules self.now.branch.now self.now.number rules.now) best.old best.new) }
     {
         for rule in rules {
@@ -59,7 +58,7 @@ impl<'a> Spot<'a> {
 
     /// Offers the splits by atoms of the parts, mapped to both sides.
     fn offer_side_splits(&self, parts: &[Part], best: &mut Option<Batch>) -> Result<(), AllocError>
-        requires { IsOpen self.now.search.now.slots self.now.number self.now.branch.now }
+        requires { IsLook self.now.search.now self.now.number self.now.branch.now self.now.quiet self.now.recent.now }
         ensures { OnOk result (Improves self.now.search.now self.now.pick (IsSplitOfSides self.now.branch.now self.now.number parts.now) best.old best.new) }
     {
         self.offer_part_splits(parts, Side::One, best)?;
@@ -74,7 +73,7 @@ impl<'a> Spot<'a> {
         side: Side,
         best: &mut Option<Batch>,
     ) -> Result<(), AllocError>
-        requires { IsOpen self.now.search.now.slots self.now.number self.now.branch.now }
+        requires { IsLook self.now.search.now self.now.number self.now.branch.now self.now.quiet self.now.recent.now }
         ensures { OnOk result (Improves self.now.search.now self.now.pick (IsSplitOfParts self.now.branch.now self.now.number side parts.now) best.old best.new) }
     {
         for part in parts {
@@ -90,7 +89,7 @@ impl<'a> Spot<'a> {
         side: Side,
         best: &mut Option<Batch>,
     ) -> Result<(), AllocError>
-        requires { IsOpen self.now.search.now.slots self.now.number self.now.branch.now }
+        requires { IsLook self.now.search.now self.now.number self.now.branch.now self.now.quiet self.now.recent.now }
         ensures { OnOk result (Improves self.now.search.now self.now.pick (IsSplitOfPart self.now.branch.now self.now.number side part.now) best.old best.new) }
     {
         if are_equations(part) {
@@ -110,6 +109,7 @@ impl<'a> Spot<'a> {
         conds: &[Atom],
         best: &mut Option<Batch>,
     ) -> Result<(), AllocError>
+        requires { IsLook self.now.search.now self.now.number self.now.branch.now self.now.quiet self.now.recent.now }
         ensures { OnOk result (Improves self.now.search.now self.now.pick (IsSplitOfConds self.now.branch.now self.now.number facts.now conds.now) best.old best.new) }
     {
         for atom in conds {
@@ -118,13 +118,15 @@ impl<'a> Spot<'a> {
         Ok(())
     }
 
-    /// Offers the split by the atom over the facts.
+    /// Offers the split by the atom over the facts. Its round, which takes long to find, is past the quiet
+    /// ones: where a split of the next round was found that is picked before, it isn't looked at.
     fn offer_atom(
         &self,
         facts: &[u32],
         atom: &Atom,
         best: &mut Option<Batch>,
     ) -> Result<(), AllocError>
+        requires { IsLook self.now.search.now self.now.number self.now.branch.now self.now.quiet self.now.recent.now }
         ensures { OnOk result (Improves self.now.search.now self.now.pick (IsSplitOfAtom self.now.branch.now self.now.number facts.now atom.now) best.old best.new) }
     {
         match (
@@ -137,7 +139,7 @@ impl<'a> Spot<'a> {
                     branch: self.number,
                     atom,
                 };
-                self.offer(step, best)
+                self.offer_late(u64::from(self.quiet) + 1, step, best)
             }
             _ => Ok(()),
         }

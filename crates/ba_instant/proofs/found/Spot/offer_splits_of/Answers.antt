@@ -14,7 +14,7 @@ loop-mapping-preserved c =
 
 pub returns-then-are_equations : goal.returns-then-are_equations
 returns-then-are_equations c =
-    split_none c.args.self.now.search.now c.args.self.now.pick c.args.self.now.number c.args.self.now.branch.now c.requires c.args.side c.args.part.now c.args.best.now (c.are_equations.ensures.0 c.if-are_equations.true)
+    split_none c.args.self.now.search.now c.args.self.now.pick c.args.self.now.number c.args.self.now.branch.now c.requires.open_ c.args.side c.args.part.now c.args.best.now (c.are_equations.ensures.0 c.if-are_equations.true)
 
 pub returns : goal.returns
 returns c =
