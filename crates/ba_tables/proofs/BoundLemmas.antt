@@ -1,5 +1,5 @@
 -- A row whose values on a link's columns an order of the targets has as a front has a target.
-use Rattle.std.proofs.Common.{◌≡◌, ℕ, zero, suc, ◌+◌, ◌<◌, ◌≤◌, Bool, true, false, not, ◌&&◌, ◌==◌, List, [], ◌∷◌, length, map, take, Option, Some, None, refl, sym, ap, ◌∙◌, subst, arith}
+use Rattle.std.proofs.Common.{◌≡◌, ℕ, zero, suc, ◌<◌, Bool, true, false, not, ◌&&◌, ◌==◌, List, [], ◌∷◌, length, map, take, Option, Some, None, refl, sym, ap, ◌∙◌, subst, arith}
 use Rattle.std.proofs.lemmas.List.{length-map, take_all}
 use Rattle.std.proofs.lemmas.List.Elements.{All-head}
 use Rattle.std.proofs.lemmas.Option.{slice_get-get_or}
@@ -17,7 +17,7 @@ use Rattle.ba_model.specs.declared.value.RowSet.{RowSet}
 use Rattle.ba_model.specs.declared.value.Value.{Value}
 use Rattle.ba_model.specs.declared.value.Value.TheVariants.{Null}
 use Rattle.ba_tables.specs.Broken.{agrees, dangles, has_no_null, is_null}
-use Rattle.ba_tables.specs.Index.{has_values, values_on}
+use Rattle.ba_tables.specs.Index.{values_on}
 use Rattle.ba_tables.proofs.AgreeLemmas.{agrees_is, both, halves, no_null_is, row_test}
 use Rattle.ba_tables.proofs.TwinLemmas.{values_there}
 
