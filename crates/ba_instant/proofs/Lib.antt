@@ -33,3 +33,4 @@ mod LooseLemmas
 mod LooseStepLemmas
 mod AfterSplitLemmas
 mod ChoiceLemmas
+mod StandingLemmas

@@ -20,6 +20,7 @@ mod parts;
 mod quiet;
 mod recent;
 mod splits;
+mod standing;
 mod waiting;
 
 pub use ends::{Leaf, Settled, settle};

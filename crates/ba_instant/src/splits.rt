@@ -7,6 +7,7 @@ ghost use Rattle.ba_instant.specs.Offers.{Improves, IsSplitOfAtom, IsSplitOfCond
 
 use crate::batch::{Batch, is_timely};
 use crate::found::Spot;
+use crate::standing::least_standing;
 use ba_facts::{Side, Term, TermAtom, TermRef};
 use ba_kernel::Step;
 use ba_model::{Atom, Duplicate, Op, Part, Rule, Same, View};
@@ -119,7 +120,8 @@ impl<'a> Spot<'a> {
     }
 
     /// Offers the split by the atom over the facts. Its round, which takes long to find, is past the quiet
-    /// ones: where a split of the next round was found that is picked before, it isn't looked at.
+    /// ones and past those of the facts in which its terms stand: where a step of an earlier round was
+    /// found, or a split of the same that is picked before, it isn't looked at.
     fn offer_atom(
         &self,
         facts: &[u32],
@@ -135,11 +137,12 @@ impl<'a> Spot<'a> {
         ) {
             (Some(left), Some(right)) => {
                 let atom = term_atom(self.alloc, atom.op, left, right)?;
+                let before = self.quiet.max(least_standing(self.branch, &atom));
                 let step = Step::Split {
                     branch: self.number,
                     atom,
                 };
-                self.offer_late(u64::from(self.quiet) + 1, step, best)
+                self.offer_late(u64::from(before) + 1, step, best)
             }
             _ => Ok(()),
         }
