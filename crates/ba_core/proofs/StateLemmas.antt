@@ -16,6 +16,7 @@ use Rattle.ba_core.specs.State.{IsAsker, IsState, IsVersion}
 use Rattle.ba_core.specs.declared.opened.Answered.{Answered}
 use Rattle.ba_core.specs.declared.opened.Opened.{Opened}
 use Rattle.ba_facts.proofs.Elements.{get_append_old}
+use Rattle.ba_kernel.specs.Tests.{Proof}
 use Rattle.ba_model.specs.Conform.{Conforms}
 use Rattle.ba_model.specs.Fit.{ContextFits, kinds_of}
 use Rattle.ba_model.specs.Meaning.{IsAnswer}
@@ -46,24 +47,30 @@ asker_after policy versions more asker h = record {
 ≤_absurd m n less more = omega arith
 
 -- one more version
-pub published : (policy : Policy) (versions more : List TableSet) (requests : List (ℕ × Opened)) (log : List Answered) (tables : TableSet)
-    → IsState (record { policy = policy; versions = versions; requests = requests; log = log }) → tables.schema ≡ policy.schema → Conforms tables.schema tables.rows
-    → more ≡ versions ++ tables ∷ [] → IsState (record { policy = policy; versions = more; requests = requests; log = log })
-published policy versions more requests log tables h same conforms e =
-    subst (λ (vs : List TableSet). IsState (record { policy = policy; versions = vs; requests = requests; log = log })) (sym e)
+pub published : (policy : Policy) (versions more : List TableSet) (templates : List Proof) (requests : List (ℕ × Opened)) (log : List Answered) (tables : TableSet)
+    → IsState (record { policy = policy; versions = versions; templates = templates; requests = requests; log = log }) → tables.schema ≡ policy.schema → Conforms tables.schema tables.rows
+    → more ≡ versions ++ tables ∷ [] → IsState (record { policy = policy; versions = more; templates = templates; requests = requests; log = log })
+published policy versions more templates requests log tables h same conforms e =
+    subst (λ (vs : List TableSet). IsState (record { policy = policy; versions = vs; templates = templates; requests = requests; log = log })) (sym e)
     (record {
       policy = h.policy;
       versions = All-push (IsVersion policy) versions tables h.versions (is_version policy tables same conforms);
       requests = λ k asker is. asker_after policy versions (tables ∷ []) asker (h.requests k asker is);
     })
 
+-- one more template
+pub admitted : (policy : Policy) (versions : List TableSet) (templates more : List Proof) (requests : List (ℕ × Opened)) (log : List Answered)
+    → IsState (record { policy = policy; versions = versions; templates = templates; requests = requests; log = log })
+    → IsState (record { policy = policy; versions = versions; templates = more; requests = requests; log = log })
+admitted policy versions templates more requests log h = record { policy = h.policy; versions = h.versions; requests = h.requests }
+
 -- one version
 pub first_state : (policy : Policy) (tables : TableSet) → tables.schema ≡ policy.schema → Conforms tables.schema tables.rows → All (IsVersion policy) (tables ∷ [])
 first_state policy tables same conforms = All-push (IsVersion policy) [] tables (All-nil (IsVersion policy)) (is_version policy tables same conforms)
 
 -- one number's request is changed
-module _ (policy : Policy) (versions : List TableSet) (before after : List (ℕ × Opened)) (log more : List Answered) (k : ℕ) (it : Option Opened)
-    (h : IsState (record { policy = policy; versions = versions; requests = before; log = log }))
+module _ (policy : Policy) (versions : List TableSet) (templates : List Proof) (before after : List (ℕ × Opened)) (log more : List Answered) (k : ℕ) (it : Option Opened)
+    (h : IsState (record { policy = policy; versions = versions; templates = templates; requests = before; log = log }))
     (here : lookup (is_at (nat_cmp k)) after ≡ it)
     (others : (j : ℕ) → j ≢ k → lookup (is_at (nat_cmp j)) after ≡ lookup (is_at (nat_cmp j)) before)
     (fits : (asker : Opened) → it ≡ Some asker → IsAsker policy versions asker) where
@@ -71,7 +78,7 @@ module _ (policy : Policy) (versions : List TableSet) (before after : List (ℕ 
   asker_at j asker is (inl same) = fits asker (sym here ∙ ap (λ n. lookup (is_at (nat_cmp n)) after) (sym same.1) ∙ is)
   asker_at j asker is (inr apart) = h.requests j asker (sym (others j apart.1) ∙ is)
 
-  pub changed : IsState (record { policy = policy; versions = versions; requests = after; log = more })
+  pub changed : IsState (record { policy = policy; versions = versions; templates = templates; requests = after; log = more })
   changed = record {
     policy = h.policy;
     versions = h.versions;
@@ -115,18 +122,18 @@ pub only : (policy : Policy) (versions : List TableSet) (it : Opened) → IsAske
 only policy versions it h asker is = subst (IsAsker policy versions) (some_is it asker is) h
 
 -- an answer that was recorded, or for which there was no memory
-pub kept : (policy : Policy) (versions : List TableSet) (before after : List (ℕ × Opened)) (log more : List Answered) (k : ℕ) (query : Query) (rows : List (List Value))
+pub kept : (policy : Policy) (versions : List TableSet) (templates : List Proof) (before after : List (ℕ × Opened)) (log more : List Answered) (k : ℕ) (query : Query) (rows : List (List Value))
     (r : Result Unit AllocError)
-    → IsState (record { policy = policy; versions = versions; requests = before; log = log })
-    → IsCompliant (record { policy = policy; versions = versions; requests = before; log = log }) k query rows
+    → IsState (record { policy = policy; versions = versions; templates = templates; requests = before; log = log })
+    → IsCompliant (record { policy = policy; versions = versions; templates = templates; requests = before; log = log }) k query rows
     → OnOk r ((asker : Opened) → lookup (is_at (nat_cmp k)) before ≡ Some asker → lookup (is_at (nat_cmp k)) after ≡ Some (record asker { trace = asker.trace ++ record { query = query; rows = rows } ∷ [] }))
     → OnOk r ((j : ℕ) → j ≢ k → lookup (is_at (nat_cmp j)) after ≡ lookup (is_at (nat_cmp j)) before)
     → OnErr r (after ≡ before)
-    → IsState (record { policy = policy; versions = versions; requests = after; log = more })
-kept policy versions before after log more k query rows (Ok u) h it here others err =
+    → IsState (record { policy = policy; versions = versions; templates = templates; requests = after; log = more })
+kept policy versions templates before after log more k query rows (Ok u) h it here others err =
     let told : Opened = record it.asker { trace = it.asker.trace ++ record { query = query; rows = rows } ∷ [] } in
-    changed policy versions before after log more k (Some told) h (here it.asker it.is_open) others
+    changed policy versions templates before after log more k (Some told) h (here it.asker it.is_open) others
     (only policy versions told (asker_told policy versions it.asker it.tables query rows (h.requests k it.asker it.is_open) it.pinned it.recorded it.answer))
-kept policy versions before after log more k query rows (Err e) h it here others err =
-    subst (λ (es : List (ℕ × Opened)). IsState (record { policy = policy; versions = versions; requests = es; log = more })) (sym err)
+kept policy versions templates before after log more k query rows (Err e) h it here others err =
+    subst (λ (es : List (ℕ × Opened)). IsState (record { policy = policy; versions = versions; templates = templates; requests = es; log = more })) (sym err)
     (record { policy = h.policy; versions = h.versions; requests = h.requests })

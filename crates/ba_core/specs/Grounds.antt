@@ -9,7 +9,7 @@ use Rattle.ba_core.specs.declared.event.CoreFault.{CoreFault}
 use Rattle.ba_core.specs.declared.event.CoreReply.{CoreReply}
 use Rattle.ba_core.specs.declared.event.CoreReply.TheVariants.{Refused}
 use Rattle.ba_core.specs.declared.event.Ground.{Ground}
-use Rattle.ba_core.specs.declared.event.Ground.TheVariants.{Cover, Proof, Refuse}
+use Rattle.ba_core.specs.declared.event.Ground.TheVariants.{Cover, Template, Proof, Refuse}
 use Rattle.ba_core.specs.declared.opened.Opened.{Opened}
 use Rattle.ba_model.specs.declared.failure.Failure.{Failure}
 use Rattle.ba_model.specs.declared.failure.Failure.TheVariants.{NoMemory, Fault}
@@ -22,6 +22,7 @@ use Rattle.ba_tables.specs.TableSet.{TableSet}
 -- a ground that fits and isn't a refusal makes the query strongly compliant
 abbrev pub Supports : Policy → Opened → Query → Ground → Type 0
 Supports policy asker query (Cover cover) = Strong policy asker.context asker.trace query
+Supports policy asker query (Template n found) = Strong policy asker.context asker.trace query
 Supports policy asker query (Proof proof) = Strong policy asker.context asker.trace query
 Supports policy asker query Refuse = ⊤
 

@@ -61,4 +61,5 @@ abbrev pub EventFits : Policy → Event → Type 0
 EventFits policy (events.Publish tables) = tables.schema ≡ policy.schema
 EventFits policy (events.Begin k context version) = ContextFits (kinds_of policy.params) context
 EventFits policy (events.Ask k query why) = ⊤
+EventFits policy (events.Admit template) = ⊤
 EventFits policy (events.End k) = ⊤

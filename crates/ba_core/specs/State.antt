@@ -6,15 +6,17 @@ use Rattle.std.specs.Ordering.{nat_cmp}
 use Rattle.ba_comply.specs.Comply.{Records}
 use Rattle.ba_core.specs.declared.opened.Answered.{Answered}
 use Rattle.ba_core.specs.declared.opened.Opened.{Opened}
+use Rattle.ba_kernel.specs.Tests.{Proof}
 use Rattle.ba_model.specs.Conform.{Conforms}
 use Rattle.ba_model.specs.Fit.{ContextFits, PolicyFits, kinds_of}
 use Rattle.ba_model.specs.declared.policy.Policy.{Policy}
 use Rattle.ba_tables.specs.TableSet.{TableSet}
 
--- the policy, the versions of the tables, the open requests by rising numbers, and all answers that were given
+-- the policy, the versions of the tables, the templates that were admitted, the open requests by rising numbers, and all answers that were given
 pub record State : Type 0 where
   pub policy : Policy
   pub versions : List TableSet
+  pub templates : List Proof
   pub requests : List (ℕ × Opened)
   pub log : List Answered
 
@@ -27,10 +29,11 @@ pub record ChangesOnly (old new : State) (k : ℕ) (it : Option Opened) : Type 0
   pub here : opened_at new k ≡ it
   pub others : (j : ℕ) → j ≢ k → opened_at new j ≡ opened_at old j
 
--- before any event: the tables are the first version, no request is open, nothing was answered
+-- before any event: the tables are the first version, no template was admitted, no request is open, nothing was answered
 pub record IsFirst (policy : Policy) (tables : TableSet) (s : State) : Type 0 where
   pub policy_is : s.policy ≡ policy
   pub versions_are : s.versions ≡ tables ∷ []
+  pub templates_are : s.templates ≡ []
   pub none_open : s.requests ≡ []
   pub log_is : s.log ≡ []
 

@@ -1,34 +1,51 @@
 -- The steps of the machine, by cases over its events.
-use Rattle.std.specs.Prelude.{◌≡◌, ◌≢◌, ℕ, ◌≤◌, ◌<◌, List, [], ◌∷◌, ◌++◌, Some, None, IsSome, length, slice_get}
+use Rattle.std.specs.Prelude.{◌≡◌, ◌≢◌, ℕ, ◌≤◌, ◌<◌, List, [], ◌∷◌, ◌++◌, Some, None, IsSome, length, slice_get, ⊤}
 use Rattle.ba_core.specs.State.{ChangesOnly, State, opened_at}
 use Rattle.ba_core.specs.declared.event.Asked.{Asked}
 use Rattle.ba_core.specs.declared.event.Asked.TheVariants.{Answer, Blocked}
 use Rattle.ba_core.specs.declared.event.CoreFault.{CoreFault}
-use Rattle.ba_core.specs.declared.event.CoreFault.TheVariants.{Taken, NoRequest, NoVersion, Unfit}
+use Rattle.ba_core.specs.declared.event.CoreFault.TheVariants.{Taken, NoRequest, NoVersion, NoTemplate, Unfit}
 use Rattle.ba_core.specs.declared.event.CoreReply.{CoreReply}
 use Rattle.ba_core.specs.declared.event.CoreReply.TheVariants as replies
 use Rattle.ba_core.specs.declared.event.Event.{Event}
 use Rattle.ba_core.specs.declared.event.Event.TheVariants as events
 use Rattle.ba_core.specs.declared.event.Ground.{Ground}
-use Rattle.ba_core.specs.declared.event.Ground.TheVariants.{Cover, Proof, Refuse}
+use Rattle.ba_core.specs.declared.event.Ground.TheVariants.{Cover, Template, Proof, Refuse}
 use Rattle.ba_core.specs.declared.opened.Opened.{Opened}
 use Rattle.ba_direct.specs.Cover.{Covered, IsCover}
 use Rattle.ba_kernel.specs.Problems.{problem_of}
+use Rattle.ba_kernel.specs.Tests as kernel
 use Rattle.ba_model.specs.Meaning.{IsAnswer}
 use Rattle.ba_model.specs.declared.policy.Context.{Context}
 use Rattle.ba_model.specs.declared.policy.Policy.{Policy}
 use Rattle.ba_model.specs.declared.query.Query.{Query}
 use Rattle.ba_model.specs.declared.value.Value.{Value}
 use Rattle.ba_tables.specs.TableSet.{TableSet}
+use Rattle.ba_template.specs.Found.{IsMatch}
+use Rattle.ba_template.specs.declared.found.Match.{Match}
 
 -- ---- grounds
 
--- The ground is one for the request's query: a cover of it, a proof of just this question after just this trace, or a refusal
--- where the query isn't covered.
-abbrev pub Fits : Policy → Opened → Query → Ground → Type 0
-Fits policy asker query (Cover cover) = IsCover policy asker.context query cover
-Fits policy asker query (Proof proof) = proof.problem ≡ problem_of policy asker.context asker.trace query
-Fits policy asker query Refuse = Covered policy asker.context query → ⊥
+-- the match is one of the template of the number with the request's query
+pub record IsServed (policy : Policy) (templates : List kernel.Proof) (asker : Opened) (query : Query) (n : ℕ) (found : Match) : Type 0 where
+  pub template : kernel.Proof
+  pub there : slice_get templates n ≡ Some template
+  pub is_match : IsMatch template.problem policy asker.context asker.trace query found
+
+-- The ground is one for the request's query: a cover of it, a match of a template that was admitted, a proof of just this question after just this trace, or a
+-- refusal where the query isn't covered.
+abbrev pub Fits : Policy → List kernel.Proof → Opened → Query → Ground → Type 0
+Fits policy templates asker query (Cover cover) = IsCover policy asker.context query cover
+Fits policy templates asker query (Template n found) = IsServed policy templates asker query n found
+Fits policy templates asker query (Proof proof) = proof.problem ≡ problem_of policy asker.context asker.trace query
+Fits policy templates asker query Refuse = Covered policy asker.context query → ⊥
+
+-- the template that the ground names, if it names one, is there
+abbrev pub HasTemplate : List kernel.Proof → Ground → Type 0
+HasTemplate templates (Cover cover) = ⊤
+HasTemplate templates (Template n found) = n < length templates
+HasTemplate templates (Proof proof) = ⊤
+HasTemplate templates Refuse = ⊤
 
 -- ---- events that aren't refused
 
@@ -36,6 +53,11 @@ Fits policy asker query Refuse = Covered policy asker.context query → ⊥
 pub record IsPublished (old : State) (tables : TableSet) (n : ℕ) (new : State) : Type 0 where
   pub number : n ≡ length old.versions
   pub state : new ≡ record old { versions = old.versions ++ tables ∷ [] }
+
+-- the template becomes the last one, and its number is told
+pub record IsAdmitted (old : State) (template : kernel.Proof) (n : ℕ) (new : State) : Type 0 where
+  pub number : n ≡ length old.templates
+  pub state : new ≡ record old { templates = old.templates ++ template ∷ [] }
 
 -- the request wasn't open; it is open on the version, and has asked nothing
 pub record IsBegun (old : State) (k : ℕ) (context : Context) (version : ℕ) (new : State) : Type 0 where
@@ -48,7 +70,7 @@ pub record IsBegun (old : State) (k : ℕ) (context : Context) (version : ℕ) (
 pub record IsReleased (old : State) (k : ℕ) (query : Query) (why : Ground) (rows : List (List Value)) : Type 0 where
   pub asker : Opened
   pub is_open : opened_at old k ≡ Some asker
-  pub fits : Fits old.policy asker query why
+  pub fits : Fits old.policy old.templates asker query why
   pub no_refusal : why ≢ Refuse
   pub tables : TableSet
   pub pinned : slice_get old.versions asker.version ≡ Some tables
@@ -70,7 +92,7 @@ pub record IsAnswered (old : State) (k : ℕ) (query : Query) (why : Ground) (ro
 pub record IsBlocked (old : State) (k : ℕ) (query : Query) (why : Ground) : Type 0 where
   pub asker : Opened
   pub is_open : opened_at old k ≡ Some asker
-  pub fits : Fits old.policy asker query why
+  pub fits : Fits old.policy old.templates asker query why
   pub refusal : why ≡ Refuse
 
 -- the request, which was open, is closed
@@ -81,20 +103,28 @@ pub record IsEnded (old : State) (k : ℕ) (new : State) : Type 0 where
 
 -- ---- refusals, in order
 
+-- the request is open, and the template that the ground names isn't there
+pub record LacksTemplate (old : State) (k : ℕ) (why : Ground) : Type 0 where
+  pub is_open : IsSome (opened_at old k)
+  pub lacks : HasTemplate old.templates why → ⊥
+
 -- the ground isn't one for the request's query
 pub record IsUnfit (old : State) (k : ℕ) (query : Query) (why : Ground) : Type 0 where
   pub asker : Opened
   pub is_open : opened_at old k ≡ Some asker
-  pub unfit : Fits old.policy asker query why → ⊥
+  pub named : HasTemplate old.templates why
+  pub unfit : Fits old.policy old.templates asker query why → ⊥
 
 abbrev pub RefusesBegin : State → ℕ → ℕ → CoreFault → Type 0
 RefusesBegin old k version Taken = IsSome (opened_at old k)
 RefusesBegin old k version NoVersion = (opened_at old k ≡ None) × (length old.versions ≤ version)
 RefusesBegin old k version NoRequest = ⊥
+RefusesBegin old k version NoTemplate = ⊥
 RefusesBegin old k version Unfit = ⊥
 
 abbrev pub RefusesAsk : State → ℕ → Query → Ground → CoreFault → Type 0
 RefusesAsk old k query why NoRequest = opened_at old k ≡ None
+RefusesAsk old k query why NoTemplate = LacksTemplate old k why
 RefusesAsk old k query why Unfit = IsUnfit old k query why
 RefusesAsk old k query why Taken = ⊥
 RefusesAsk old k query why NoVersion = ⊥
@@ -103,13 +133,15 @@ abbrev pub RefusesEnd : State → ℕ → CoreFault → Type 0
 RefusesEnd old k NoRequest = opened_at old k ≡ None
 RefusesEnd old k Taken = ⊥
 RefusesEnd old k NoVersion = ⊥
+RefusesEnd old k NoTemplate = ⊥
 RefusesEnd old k Unfit = ⊥
 
--- what is refused; a publication never is
+-- what is refused; a publication and an admission never are
 abbrev pub Refuses : State → Event → CoreFault → Type 0
 Refuses old (events.Publish tables) fault = ⊥
 Refuses old (events.Begin k context version) fault = RefusesBegin old k version fault
 Refuses old (events.Ask k query why) fault = RefusesAsk old k query why fault
+Refuses old (events.Admit template) fault = ⊥
 Refuses old (events.End k) fault = RefusesEnd old k fault
 
 -- ---- steps
@@ -125,5 +157,6 @@ Steps old event (replies.Refused fault) new = Refuses old event fault × (new �
 Steps old (events.Publish tables) (replies.Number n) new = IsPublished old tables n new
 Steps old (events.Begin k context version) replies.Begun new = IsBegun old k context version new
 Steps old (events.Ask k query why) (replies.Asked asked) new = Asks old k query why asked new
+Steps old (events.Admit template) (replies.Number n) new = IsAdmitted old template n new
 Steps old (events.End k) replies.Ended new = IsEnded old k new
 Steps old event reply new = ⊥

@@ -4,12 +4,15 @@ use ba_direct::Cover;
 use ba_kernel::Proved;
 use ba_model::{Context, List, Query, Row, Shared};
 use ba_tables::Tables;
+use ba_template::{Match, Template};
 
 /// Why a question is to be answered, or that it isn't.
 #[derive(Drop)]
 pub enum Ground {
     /// Views that cover the query, part by part.
     Cover(Cover),
+    /// A match of the template of this number, which was admitted.
+    Template(u32, Match),
     /// A proof of the problem of the question after the request's trace.
     Proof(Proved),
     /// The question is blocked. No covered query may be.
@@ -25,6 +28,8 @@ pub enum Event {
     Begin(u32, Context, u32),
     /// The request of this number asks a query, with the ground of the decision.
     Ask(u32, Shared<Query>, Ground),
+    /// A template is admitted under the next number.
+    Admit(Shared<Template>),
     /// The request of this number ends. Its number may be begun again.
     End(u32),
 }
@@ -46,6 +51,8 @@ pub enum CoreFault {
     NoRequest,
     /// There is no such version.
     NoVersion,
+    /// The ground names a template that wasn't admitted.
+    NoTemplate,
     /// The ground isn't one for this question after this request's trace.
     Unfit,
 }
@@ -53,7 +60,7 @@ pub enum CoreFault {
 /// The reply to an event.
 #[derive(Debug, Drop)]
 pub enum CoreReply {
-    /// The number of the version that was published.
+    /// The number of the version that was published, or of the template that was admitted.
     Number(u32),
     Begun,
     Asked(Asked),

@@ -2,7 +2,7 @@
 ghost use Rattle.std.specs.Prelude.{◌≡◌, ◌↔◌, IfOk, IsTrue};
 ghost use Rattle.ba_comply.specs.Comply.{Strong};
 ghost use Rattle.ba_core.specs.Grounds.{Supports};
-ghost use Rattle.ba_core.specs.Steps.{Fits};
+ghost use Rattle.ba_core.specs.Steps.{Fits, HasTemplate, IsServed};
 ghost use Rattle.ba_direct.specs.Cover.{Covered};
 ghost use Rattle.ba_kernel.specs.Problems.{problem_of};
 ghost use Rattle.ba_model.specs.Fit.{ContextFits, PolicyFits, kinds_of};
@@ -13,20 +13,24 @@ use ba_direct::laws::{cover_covers, covered_is_strong};
 use ba_direct::{cover, is_cover};
 use ba_kernel::laws::problem_is_question;
 use ba_kernel::{Problem, ProblemEntry, Proved};
+use ba_match::is_match;
 use ba_model::{Policy, Query, Same, Shared};
+use ba_template::{Match, Template};
 use std::alloc::{AllocError, Global};
 
 /// Whether the ground is one for the request's query. If it is, and isn't a refusal, the query is strongly compliant.
 pub(crate) fn fits(
     alloc: Global,
     policy: &Shared<Policy>,
+    templates: &[Shared<Template>],
     asker: &Opened,
     query: &Shared<Query>,
     why: &Ground,
 ) -> Result<bool, AllocError>
     requires policy { PolicyFits policy.now }
     requires context { ContextFits (kinds_of policy.now.params) asker.now.context }
-    ensures exact { IfOk result (λ fit. IsTrue fit ↔ Fits policy.now asker.now query.now why.now) }
+    ensures exact { IfOk result (λ fit.
+        IsTrue fit ↔ Fits policy.now templates.now asker.now query.now why.now) }
     ensures strong { IfOk result (λ fit.
         IsTrue fit → Supports policy.now asker.now query.now why.now) }
 {
@@ -36,6 +40,7 @@ pub(crate) fn fits(
             covered_is_strong();
             Ok(is_cover(policy, &asker.context, query, found))
         }
+        Ground::Template(n, found) => Ok(serves(policy, templates, asker, query, *n, found)),
         Ground::Proof(proved) => {
             let fit = proves(alloc, policy, asker, query, proved)?;
             Ok(fit)
@@ -44,6 +49,35 @@ pub(crate) fn fits(
             let fit = is_uncovered(alloc, policy, asker, query)?;
             Ok(fit)
         }
+    }
+}
+
+/// Whether the ground names a template that is there, if it names one.
+pub(crate) fn has_template(templates: &[Shared<Template>], why: &Ground) -> bool
+    ensures { IsTrue result ↔ HasTemplate templates.now why.now }
+{
+    match why {
+        Ground::Template(n, _) => (*n as usize) < templates.len(),
+        Ground::Cover(_) | Ground::Proof(_) | Ground::Refuse => true,
+    }
+}
+
+/// Whether the template of the number is there and has this match with the question. If so, the query is strongly compliant.
+fn serves(
+    policy: &Shared<Policy>,
+    templates: &[Shared<Template>],
+    asker: &Opened,
+    query: &Query,
+    n: u32,
+    found: &Match,
+) -> bool
+    requires { ContextFits (kinds_of policy.now.params) asker.now.context }
+    ensures exact { IsTrue result ↔ IsServed policy.now templates.now asker.now query.now n found.now }
+    ensures strong { IsTrue result → Strong policy.now asker.now.context asker.now.trace query.now }
+{
+    match templates.get(n as usize) {
+        Some(template) => is_match(template, policy, &asker.context, &asker.trace, query, found),
+        None => false,
     }
 }
 

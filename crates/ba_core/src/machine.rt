@@ -12,7 +12,7 @@ ghost use Rattle.ba_model.specs.Fit.{ContextFits, PolicyFits, kinds_of};
 ghost use Rattle.ba_model.specs.Readings.{OfFault};
 
 use crate::event::{Asked, CoreFault, CoreReply, Event, Ground};
-use crate::ground::fits;
+use crate::ground::{fits, has_template};
 use crate::opened::{Answered, Opened};
 use crate::requests::{close, keep, put};
 use ba_comply::Trace;
@@ -21,11 +21,12 @@ use ba_eval::answer_indexed;
 use ba_facts::number_of;
 use ba_model::{Context, Failure, List, Policy, Query, Row, Shared};
 use ba_tables::Tables;
+use ba_template::Template;
 use std::alloc::{AllocError, Global};
 use std::collections::BTreeMap;
 use std::marker::Model;
 
-/// A policy, the versions of the tables, the open requests, and the answers that were given.
+/// A policy, the versions of the tables, the templates that were admitted, the open requests, and the answers that were given.
 ///
 /// The type keeps that the versions conform to the policy's schema, that each open request's context is one for the policy and
 /// its version is there, and that its trace has its queries' answers in that version.
@@ -34,6 +35,7 @@ pub struct Core {
     alloc: Global,
     policy: Shared<Policy>,
     versions: Vec<Tables>,
+    templates: Vec<Shared<Template>>,
     requests: BTreeMap<u32, Opened>,
     log: Vec<Answered>,
 }
@@ -46,6 +48,7 @@ impl Model for Core {
     ghost view = { λ it. record {
       policy = it.policy;
       versions = it.versions.items;
+      templates = it.templates.items;
       requests = it.requests.entries;
       log = it.log.items;
     } };
@@ -53,14 +56,15 @@ impl Model for Core {
     ghost invariant = { λ it. IsState (record {
       policy = it.policy;
       versions = it.versions.items;
+      templates = it.templates.items;
       requests = it.requests.entries;
       log = it.log.items;
     }) };
 }
 
 impl Core {
-    /// The machine before any event: the tables are version 0, no request is open, nothing was answered. The only error is want
-    /// of memory; the policy and the tables are then dropped.
+    /// The machine before any event: the tables are version 0, no template was admitted, no request is open, nothing was answered.
+    /// The only error is want of memory; the policy and the tables are then dropped.
     pub fn new(alloc: Global, policy: Shared<Policy>, tables: Tables) -> Result<Core, AllocError>
         requires policy { PolicyFits policy }
         requires schema { tables.schema ≡ policy.schema }
@@ -72,6 +76,7 @@ impl Core {
             alloc,
             policy,
             versions,
+            templates: Vec::new(alloc),
             requests: BTreeMap::new(alloc),
             log: Vec::new(alloc),
         })
@@ -83,6 +88,13 @@ impl Core {
         ensures fits { PolicyFits result.now }
     {
         &self.policy
+    }
+
+    /// The templates that were admitted, by number.
+    pub fn templates(&self) -> &[Shared<Template>]
+        ensures { result.now ≡ self.now.templates }
+    {
+        self.templates.as_slice()
     }
 
     /// The open request of the number, if there is one.
@@ -112,6 +124,20 @@ impl Core {
     {
         let number = number_of(self.versions.len())?;
         self.versions.push(tables)?;
+        Ok(number)
+    }
+
+    /// Admits a template, which serves every question that it matches, and answers its number.
+    ///
+    /// The only error is want of memory, which also a number past 32 bits is told as; nothing has then changed, and the template
+    /// is dropped.
+    pub fn admit(&mut self, template: Shared<Template>) -> Result<u32, AllocError>
+        ensures step { IfOk result (λ n.
+            Steps self.old (Event.Admit template) (CoreReply.Number n) self.new) }
+        ensures err { OnErr result (self.new ≡ self.old) }
+    {
+        let number = number_of(self.templates.len())?;
+        self.templates.push(template)?;
         Ok(number)
     }
 
@@ -151,8 +177,9 @@ impl Core {
     /// What becomes of a question of the request: with the ground of an answer, its rows in the tables of the request's version,
     /// which join the request's trace and the log; with a refusal, a block, which changes nothing.
     ///
-    /// Refused are, in this order, a request that isn't open (`NoRequest`) and a ground that isn't one for this question after
-    /// this request's trace (`Unfit`), as a refusal of a covered query. After any error, want of memory too, nothing has changed.
+    /// Refused are, in this order, a request that isn't open (`NoRequest`), a ground that names a template that isn't there
+    /// (`NoTemplate`), and one that isn't a ground for this question after this request's trace (`Unfit`), as a refusal of a covered
+    /// query. After any error, want of memory too, nothing has changed.
     pub fn ask(
         &mut self,
         k: u32,
@@ -204,6 +231,10 @@ impl Core {
                 Ok(asked) => Ok(CoreReply::Asked(asked)),
                 Err(failure) => refused(failure),
             },
+            Event::Admit(template) => {
+                let number = self.admit(template)?;
+                Ok(CoreReply::Number(number))
+            }
             Event::End(k) => match self.end(k) {
                 Ok(()) => Ok(CoreReply::Ended),
                 Err(fault) => Ok(CoreReply::Refused(fault)),
@@ -225,7 +256,17 @@ impl Core {
         let Some(asker) = self.request(k) else {
             return Err(Failure::Fault(CoreFault::NoRequest));
         };
-        let fit = fits(self.alloc, self.policy(), asker, query, why)?;
+        if !has_template(self.templates(), why) {
+            return Err(Failure::Fault(CoreFault::NoTemplate));
+        }
+        let fit = fits(
+            self.alloc,
+            self.policy(),
+            self.templates(),
+            asker,
+            query,
+            why,
+        )?;
         if !fit {
             return Err(Failure::Fault(CoreFault::Unfit));
         }
@@ -281,7 +322,7 @@ fn is_refusal(why: &Ground) -> bool
 {
     match why {
         Ground::Refuse => true,
-        Ground::Cover(_) | Ground::Proof(_) => false,
+        Ground::Cover(_) | Ground::Template(_, _) | Ground::Proof(_) => false,
     }
 }
 

@@ -1,3 +1,4 @@
 mod events;
 mod given;
 mod proofs;
+mod templates;

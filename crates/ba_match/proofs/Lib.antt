@@ -8,3 +8,4 @@ pub mod ConditionLemmas
 pub mod StartLemmas
 pub mod OneLemmas
 pub mod RowLemmas
+pub mod TestedLemmas

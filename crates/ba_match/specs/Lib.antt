@@ -2,3 +2,4 @@ pub mod Bindings
 pub mod Conditions
 pub mod Matching
 pub mod Searches
+pub mod Tested

@@ -53,7 +53,8 @@ fn holds(ctx: &Context, values: &[Value], atom: &Atom) -> bool
     }
 }
 
-fn value<'a>(ctx: &'a Context, values: &'a [Value], operand: &'a Operand) -> Option<&'a Value>
+/// The value of an operand that is no column.
+pub fn value<'a>(ctx: &'a Context, values: &'a [Value], operand: &'a Operand) -> Option<&'a Value>
     ensures { option_copied result ≡ fixed_value (with_values ctx.now values.now) operand.now }
 {
     match operand {

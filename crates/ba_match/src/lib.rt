@@ -5,5 +5,7 @@ mod bindings;
 mod condition;
 pub mod laws;
 mod matching;
+mod tested;
 
 pub use matching::match_template;
+pub use tested::is_match;

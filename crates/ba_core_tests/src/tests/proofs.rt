@@ -16,9 +16,9 @@ use ba_model::{Context, Duplicate, Failure, Policy, Query, Shared};
 use ba_tables::Tables;
 use std::alloc::{AllocError, Global};
 
-const OWN: &str = "SELECT * FROM Attendances WHERE UId = 2 AND EId = 5";
+pub const OWN: &str = "SELECT * FROM Attendances WHERE UId = 2 AND EId = 5";
 
-const TITLE: &str = "SELECT Title FROM Events WHERE EId = 5";
+pub const TITLE: &str = "SELECT Title FROM Events WHERE EId = 5";
 
 /// The query and its rows in the tables.
 fn entry(
@@ -96,7 +96,7 @@ fn proof(
 }
 
 /// Opens request 0 of user 2, and asks the own attendance.
-fn open(rt: &impl Handle, core: &mut Core, own: &Shared<Query>) {
+pub fn open(rt: &impl Handle, core: &mut Core, own: &Shared<Query>) {
     let context = user(rt, core.policy(), 2);
     let found = cover(rt.alloc(), core.policy(), &context, own).expect(rt, "memory");
     let why = match found {
@@ -111,7 +111,7 @@ fn open(rt: &impl Handle, core: &mut Core, own: &Shared<Query>) {
 }
 
 /// What becomes of a question of request 0.
-fn asked(rt: &impl Handle, core: &mut Core, query: &Shared<Query>, why: Ground) -> String {
+pub fn asked(rt: &impl Handle, core: &mut Core, query: &Shared<Query>, why: Ground) -> String {
     let query = query.copy(rt.alloc()).expect(rt, "memory");
     match core.ask(0, query, why) {
         Ok(Asked::Answer(rows)) => values(rt, &rows),
@@ -122,7 +122,7 @@ fn asked(rt: &impl Handle, core: &mut Core, query: &Shared<Query>, why: Ground) 
 }
 
 /// How many answers request 0 was told, if it is open.
-fn told(core: &Core) -> u64 {
+pub fn told(core: &Core) -> u64 {
     match core.request(0) {
         Some(asker) => asker.trace.len(),
         None => 0,
@@ -168,7 +168,7 @@ fn two(
 }
 
 /// A proof of the event's title after the own attendance.
-fn first_title(
+pub fn first_title(
     rt: &impl Handle,
     policy: &Shared<Policy>,
     own: &Shared<Query>,

@@ -15,6 +15,6 @@ invariant_of-self-2 c =
     let there : c.args.version < length it.versions.items = omega arith in
     let fits = subst (λ (t : List TraceEntry). IsAsker it.policy it.versions.items (record { context = c.args.context; version = c.args.version; trace = t })) (sym c.new-trace.ensures)
     (asker_begun it.policy it.versions.items c.args.context c.args.version context_fits there) in
-    changed it.policy it.versions.items it.requests.entries c.put.new.requests.entries it.log.items it.log.items c.args.k (Some asker) c.self.invariant
+    changed it.policy it.versions.items it.templates.items it.requests.entries c.put.new.requests.entries it.log.items it.log.items c.args.k (Some asker) c.self.invariant
     c.in_ok-put.ensures.here c.in_ok-put.ensures.others
     (only it.policy it.versions.items asker fits)

@@ -8,7 +8,7 @@ use Rattle.ba_core.proofs.machine.Core.publish.Goals as goal
 pub invariant_of-self-2 : goal.invariant_of-self-2
 invariant_of-self-2 c =
     let it = c.self.inside in
-    published it.policy it.versions.items c.push.new.self.items it.requests.entries it.log.items c.args.tables c.self.invariant
+    published it.policy it.versions.items c.push.new.self.items it.templates.items it.requests.entries it.log.items c.args.tables c.self.invariant
     (subst (λ (s : State). c.args.tables.schema ≡ s.policy.schema) (sym c.self.view_is) c.requires)
     (subst (λ (t : TableSet). Conforms t.schema t.rows) c.tables.view_is c.tables.invariant)
     c.in_ok-push.ensures.items

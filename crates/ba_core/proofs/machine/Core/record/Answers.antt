@@ -10,7 +10,7 @@ invariant_of-self c =
     let it = c.self.inside in
     let told : IsCompliant c.args.self.now c.args.k c.args.query c.in-Answer.rows =
     subst (λ (asked : Asked). TellsCompliantly c.args.self.now c.args.k c.args.query asked) c.in-Answer.is c.requires in
-    kept it.policy it.versions.items it.requests.entries c.keep.new.requests.entries it.log.items c.keep.new.log.items c.args.k c.args.query c.in-Answer.rows c.keep.result
+    kept it.policy it.versions.items it.templates.items it.requests.entries c.keep.new.requests.entries it.log.items c.keep.new.log.items c.args.k c.args.query c.in-Answer.rows c.keep.result
     c.self.invariant
     (subst (λ (s : State). IsCompliant s c.args.k c.args.query c.in-Answer.rows) (sym c.self.view_is) told)
     c.keep.ensures.here c.keep.ensures.others c.keep.ensures.err
