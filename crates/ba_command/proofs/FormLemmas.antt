@@ -1,4 +1,4 @@
--- What `clap`'s clauses say of the command.
+-- What `clap`'s clauses say of the commands.
 use Rattle.std.proofs.Common.{◌≡◌, ◌≢◌, ◌∙◌, inl, inr, refl, sym, ap, subst, List, [], ◌∷◌, codes, true, Option, Result, Err}
 use Rattle.clap.specs.Faults.{fault_of, is_simple_and_free}
 use Rattle.clap.specs.Kinds.{Kinds}
@@ -10,7 +10,7 @@ use Rattle.clap.specs.declared.ArgMatches.{ArgMatches}
 use Rattle.clap.specs.declared.Error.{Error}
 use Rattle.clap.specs.declared.error.ErrorKind.TheVariants.{OutOfMemory}
 use Rattle.clap.proofs.WalkLemmas.{first_value-rows}
-use Rattle.ba_command.specs.Words.{command_from, run_app, run_of, unless_fault}
+use Rattle.ba_command.specs.Words.{check_app, check_from, check_of, command_from, run_app, run_of, unless_fault}
 use Rattle.ba_command.specs.declared.command.Command.{Command}
 use Rattle.ba_command.specs.declared.command.WordsFault.{WordsFault}
 use Rattle.ba_command.specs.declared.command.WordsFault.TheVariants.{NoForm}
@@ -18,14 +18,44 @@ use Rattle.ba_model.specs.Readings.{Gives}
 use Rattle.ba_model.specs.declared.failure.Failure.{Failure}
 use Rattle.ba_model.specs.declared.failure.Failure.TheVariants.{NoMemory, Fault}
 
-plain : is_simple run_app ≡ true
-plain = refl
+-- ---- any command
+
+-- two texts' values give one command where they are the same by each name
+abbrev AreValues : ((Text → Option Text) → Result Command WordsFault) → Type 0
+AreValues from = (f g : Text → Option Text) → ((id : Text) → f id ≡ g id) → from f ≡ from g
+
+-- where `clap` finds no fault, its matches are those of the words
+form_reads : (known app : App) (from : (Text → Option Text) → Result Command WordsFault) (words : List Text) (m : ArgMatches) → is_simple known ≡ true → AreValues from → app ≡ known → HasMatchesOf app words m → fault_of app words ≡ []
+    → from (first_value (found_of m)) ≡ unless_fault (fault_of known words) (from (λ id. first_of id (matches_of known words)))
+form_reads known app from words m plain same is has none =
+    let rows : rows_of (found_of m) ≡ matches_of known words = (subst (λ z. HasMatchesOf z words m) is has plain).0 in
+    let first : (id : Text) → first_value (found_of m) id ≡ first_of id (matches_of known words) = λ id. first_value-rows (found_of m) id
+    ∙ ap (first_of id) rows in
+    same (first_value (found_of m)) (λ id. first_of id (matches_of known words)) first
+    ∙ ap (λ k. unless_fault k (from (λ id. first_of id (matches_of known words)))) (sym (subst (λ z. fault_of z words ≡ []) is none))
+
+faulty : (kinds : Kinds) (e : Error) → kind_of e ≢ OutOfMemory → HasKind kinds e → (found : Result Command WordsFault) → unless_fault kinds found ≡ Err NoForm
+faulty kinds e other (inl h) found = absurd (other h)
+faulty [] e other (inr h) found = absurd h
+faulty (k ∷ ks) e other (inr h) found = refl
+
+-- a fault of `clap` is that the words are no form, or want of memory
+form_refuses : (known app : App) (words : List Text) (e : Error) (x : Failure WordsFault) (found : Result Command WordsFault) → app ≡ known → HasKind (fault_of app words) e
+    → (x ≡ Fault NoForm → kind_of e ≢ OutOfMemory)
+    → Gives (Err x) (unless_fault (fault_of known words) found)
+form_refuses known app words e NoMemory found is has other = tt
+form_refuses known app words e (Fault NoForm) found is has other = faulty (fault_of known words) e (other refl) (subst (λ z. HasKind (fault_of z words) e) is has) found
+
+-- ---- run
+
+run_plain : is_simple run_app ≡ true
+run_plain = refl
 
 pub free : is_simple_and_free run_app ≡ true
 free = refl
 
-same_values : (f g : Text → Option Text) → ((id : Text) → f id ≡ g id) → command_from f ≡ command_from g
-same_values f g same = rw (
+run_values : AreValues command_from
+run_values f g same = rw (
   same (codes "schema"),
   same (codes "policy"),
   same (codes "tables"),
@@ -37,24 +67,32 @@ same_values f g same = rw (
 pub form_ok : (app : App) (words : List Text) (m : ArgMatches) → app ≡ run_app → HasMatchesOf app words m → fault_of app words ≡ []
     → command_from (first_value (found_of m)) ≡ run_of words
 unfolding run_of
-form_ok app words m is has none =
-    let rows : rows_of (found_of m) ≡ matches_of run_app words = (subst (λ z. HasMatchesOf z words m) is has plain).0 in
-    let first : (id : Text) → first_value (found_of m) id ≡ first_of id (matches_of run_app words) = λ id. first_value-rows (found_of m) id
-    ∙ ap (first_of id) rows in
-    same_values (first_value (found_of m)) (λ id. first_of id (matches_of run_app words)) first
-    ∙ ap (λ k. unless_fault k (command_from (λ id. first_of id (matches_of run_app words)))) (sym (subst (λ z. fault_of z words ≡ []) is none))
-
-faulty : (kinds : Kinds) (e : Error) → kind_of e ≢ OutOfMemory → HasKind kinds e → (found : Result Command WordsFault) → unless_fault kinds found ≡ Err NoForm
-faulty kinds e other (inl h) found = absurd (other h)
-faulty [] e other (inr h) found = absurd h
-faulty (k ∷ ks) e other (inr h) found = refl
-
-form_err : (app : App) (words : List Text) (e : Error) → app ≡ run_app → HasKind (fault_of app words) e → kind_of e ≢ OutOfMemory → run_of words ≡ Err NoForm
-unfolding run_of
-form_err app words e is has other = faulty (fault_of run_app words) e other (subst (λ z. HasKind (fault_of z words) e) is has) _
+form_ok app words m is has none = form_reads run_app app command_from words m run_plain run_values is has none
 
 pub refused : (app : App) (words : List Text) (e : Error) (x : Failure WordsFault) → app ≡ run_app → HasKind (fault_of app words) e
     → (x ≡ Fault NoForm → kind_of e ≢ OutOfMemory)
     → Gives (Err x) (run_of words)
-refused app words e NoMemory is has other = tt
-refused app words e (Fault NoForm) is has other = form_err app words e is has (other refl)
+unfolding run_of
+refused app words e x is has other = form_refuses run_app app words e x _ is has other
+
+-- ---- check
+
+check_plain : is_simple check_app ≡ true
+check_plain = refl
+
+pub check_free : is_simple_and_free check_app ≡ true
+check_free = refl
+
+check_values : AreValues check_from
+check_values f g same = rw (same (codes "schema"), same (codes "policy"), same (codes "proof")) refl
+
+pub check_ok : (app : App) (words : List Text) (m : ArgMatches) → app ≡ check_app → HasMatchesOf app words m → fault_of app words ≡ []
+    → check_from (first_value (found_of m)) ≡ check_of words
+unfolding check_of
+check_ok app words m is has none = form_reads check_app app check_from words m check_plain check_values is has none
+
+pub check_refused : (app : App) (words : List Text) (e : Error) (x : Failure WordsFault) → app ≡ check_app → HasKind (fault_of app words) e
+    → (x ≡ Fault NoForm → kind_of e ≢ OutOfMemory)
+    → Gives (Err x) (check_of words)
+unfolding check_of
+check_refused app words e x is has other = form_refuses check_app app words e x _ is has other

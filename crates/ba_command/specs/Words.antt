@@ -10,7 +10,7 @@ use Rattle.clap.specs.Walk.{Rule, Text, first_of}
 use Rattle.clap.specs.declared.builder.action.ArgAction.TheVariants.{Set}
 use Rattle.clap.specs.declared.builder.value_parser.ValueParser.TheVariants as parser
 use Rattle.ba_command.specs.declared.command.Command.{Command}
-use Rattle.ba_command.specs.declared.command.Command.TheVariants.{Run}
+use Rattle.ba_command.specs.declared.command.Command.TheVariants.{Run, Check}
 use Rattle.ba_command.specs.declared.command.WordsFault.{WordsFault}
 use Rattle.ba_command.specs.declared.command.WordsFault.TheVariants.{NoForm}
 use Rattle.ba_model.specs.declared.limits.TheConstants.{BUDGET, MAX_BUDGET, MAX_WORKERS, MIN_BUDGET, MIN_WORKERS, WORKERS}
@@ -28,18 +28,25 @@ abbrev pub needed : Rule → Rule
 needed rule = record rule { required = true }
 
 -- a command with no help and no version, whose words leave out its name
-abbrev pub bare : App
-bare = on_top (λ s. record s { no_binary_name = true; disable_help_flag = true; disable_version_flag = true }) (new_app (codes "run"))
+abbrev pub bare : Text → App
+bare name = on_top (λ s. record s { no_binary_name = true; disable_help_flag = true; disable_version_flag = true }) (new_app name)
 
 -- run --schema S --policy P --tables D --script F [--workers N] [--budget B]
 abbrev pub run_app : App
-run_app = with_rule (with_rule (with_rule (with_rule (with_rule (with_rule bare
+run_app = with_rule (with_rule (with_rule (with_rule (with_rule (with_rule (bare (codes "run"))
     (needed (option_rule (codes "schema"))))
     (needed (option_rule (codes "policy"))))
     (needed (option_rule (codes "tables"))))
     (needed (option_rule (codes "script"))))
     (number_rule (codes "workers") MIN_WORKERS MAX_WORKERS))
     (number_rule (codes "budget") MIN_BUDGET MAX_BUDGET)
+
+-- check --schema S --policy P --proof F
+abbrev pub check_app : App
+check_app = with_rule (with_rule (with_rule (bare (codes "check"))
+    (needed (option_rule (codes "schema"))))
+    (needed (option_rule (codes "policy"))))
+    (needed (option_rule (codes "proof")))
 
 -- the number up to a greatest that a text spells, or another
 abbrev pub number_or : ℕ → ℕ → Option Text → ℕ
@@ -60,20 +67,35 @@ abbrev pub command_from : (Text → Option Text) → Result Command WordsFault
 command_from given = with_texts (given (codes "schema")) (given (codes "policy")) (given (codes "tables")) (given (codes "script"))
     (number_or MAX_WORKERS WORKERS (given (codes "workers"))) (number_or MAX_BUDGET BUDGET (given (codes "budget")))
 
+abbrev pub with_files : Option Text → Option Text → Option Text → Result Command WordsFault
+with_files (Some schema) (Some policy) (Some proof) = Ok (Check schema policy proof)
+with_files None policy proof = Err NoForm
+with_files (Some schema) None proof = Err NoForm
+with_files (Some schema) (Some policy) None = Err NoForm
+
+-- the check that the values of the options are
+abbrev pub check_from : (Text → Option Text) → Result Command WordsFault
+check_from given = with_files (given (codes "schema")) (given (codes "policy")) (given (codes "proof"))
+
 -- where `clap` finds no fault
 abbrev pub unless_fault : Kinds → Result Command WordsFault → Result Command WordsFault
 unless_fault [] found = found
 unless_fault (kind ∷ kinds) found = Err NoForm
 
--- how many steps a search may take
+-- how many steps a search may take; a check searches for none
 abbrev pub budget_of : Command → ℕ
 budget_of (Run schema policy tables script workers budget) = budget
+budget_of (Check schema policy proof) = 0
 
 -- what the words behind `run` ask for
 unfoldable pub run_of : List Text → Result Command WordsFault
 run_of words = unless_fault (fault_of run_app words) (command_from (λ id. first_of id (matches_of run_app words)))
 
+-- what the words behind `check` ask for
+unfoldable pub check_of : List Text → Result Command WordsFault
+check_of words = unless_fault (fault_of check_app words) (check_from (λ id. first_of id (matches_of check_app words)))
+
 -- the command that the words ask for, or that they are no command's form
 abbrev pub command_of : List Text → Result Command WordsFault
 command_of [] = Err NoForm
-command_of (name ∷ words) = if bytes_eq name (codes "run") then run_of words else Err NoForm
+command_of (name ∷ words) = if bytes_eq name (codes "run") then run_of words else (if bytes_eq name (codes "check") then check_of words else Err NoForm)

@@ -20,6 +20,15 @@ pub enum Command {
         /// How many steps a search may take, from 16 to 100,000; 2000 where the words don't say.
         budget: u32,
     },
+    /// `check --schema S --policy P --proof F`
+    Check {
+        /// The name of the schema's file.
+        schema: Str,
+        /// The name of the policy's file.
+        policy: Str,
+        /// The name of the proof's file.
+        proof: Str,
+    },
 }
 
 /// Why words are refused.

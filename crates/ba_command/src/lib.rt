@@ -1,7 +1,9 @@
 //! The words of a command line.
 #![tactic(auto)]
 
+mod check;
 mod command;
+mod form;
 mod run;
 mod words;
 

@@ -1,32 +1,16 @@
 //! The options of the command `run`, read by `clap`.
-ghost use Rattle.std.specs.Prelude.{◌≡◌, ◌≢◌, ◌≤◌, false, map, string_bytes, IfOk};
-ghost use Rattle.clap.specs.Words.{app_of, first_value, found_of, kind_of, rule_of};
+ghost use Rattle.std.specs.Prelude.{◌≡◌, ◌≤◌, false, map, string_bytes, IfOk};
+ghost use Rattle.clap.specs.Words.{app_of, first_value, found_of, rule_of};
 ghost use Rattle.ba_model.specs.Readings.{Gives};
 ghost use Rattle.ba_model.specs.declared.limits.TheConstants.{MAX_BUDGET as most_budget};
-ghost use Rattle.ba_command.specs.Words.{bare, budget_of, command_from, needed, number_or, number_rule, option_rule, run_app, run_of};
+ghost use Rattle.ba_command.specs.Words.{budget_of, command_from, number_or, number_rule, run_app, run_of};
 
 use crate::command::{Command, WordsFault};
-use ba_model::{BUDGET, Failure, MAX_BUDGET, MAX_WORKERS, MIN_BUDGET, MIN_WORKERS, Str, WORKERS};
+use crate::form::{bare, needed, option, refusal, text_of};
+use ba_model::{BUDGET, Failure, MAX_BUDGET, MAX_WORKERS, MIN_BUDGET, MIN_WORKERS, WORKERS};
 use clap::builder::ValueParser;
-use clap::error::ErrorKind;
-use clap::{Arg, ArgAction, ArgMatches, Command as Form, Error};
+use clap::{Arg, ArgMatches, Command as Form};
 use std::alloc::{AllocError, Global};
-
-// An option with one value.
-fn option<'a>(alloc: Global, id: &'a str) -> Arg<'a>
-    ensures rule { rule_of result ≡ option_rule id.entry.now }
-    ensures local { result.global ≡ false }
-{
-    Arg::new(alloc, id).long(id).action(ArgAction::Set)
-}
-
-// An option that must be given.
-fn needed<'a>(alloc: Global, id: &'a str) -> Arg<'a>
-    ensures rule { rule_of result ≡ needed (option_rule id.entry.now) }
-    ensures local { result.global ≡ false }
-{
-    option(alloc, id).required(true)
-}
 
 // An option whose value is a number of a range.
 fn number<'a>(alloc: Global, id: &'a str, least: u64, most: u64) -> Arg<'a>
@@ -36,20 +20,10 @@ fn number<'a>(alloc: Global, id: &'a str, least: u64, most: u64) -> Arg<'a>
     option(alloc, id).value_parser(ValueParser::Unsigned(least, most))
 }
 
-// The command without its options.
-fn bare<'a>(alloc: Global) -> Form<'a>
-    ensures { app_of result ≡ bare }
-{
-    Form::new(alloc, "run")
-        .no_binary_name(true)
-        .disable_help_flag(true)
-        .disable_version_flag(true)
-}
-
 fn run_form<'a>(alloc: Global) -> Result<Form<'a>, AllocError>
     ensures { IfOk result (λ form. app_of form ≡ run_app) }
 {
-    bare(alloc)
+    bare(alloc, "run")
         .arg(needed(alloc, "schema"))?
         .arg(needed(alloc, "policy"))?
         .arg(needed(alloc, "tables"))?
@@ -73,16 +47,6 @@ fn number_of(matches: &ArgMatches<'_>, id: &str, most: u32, other: u32) -> u32
     }
 }
 
-// The text given under an id.
-fn text_of(alloc: Global, matches: &ArgMatches<'_>, id: &str) -> Result<Option<Str>, AllocError>
-    ensures { IfOk result (λ text. text ≡ first_value (found_of matches.now) id.now) }
-{
-    match matches.get_str(id) {
-        Some(text) => Ok(Some(Str::new(alloc, text)?)),
-        None => Ok(None),
-    }
-}
-
 fn command_of(alloc: Global, matches: &ArgMatches<'_>) -> Result<Command, Failure<WordsFault>>
     ensures reads { Gives result (command_from (first_value (found_of matches.now))) }
     ensures budget { IfOk result (λ command. budget_of command ≤ most_budget) }
@@ -103,17 +67,6 @@ fn command_of(alloc: Global, matches: &ArgMatches<'_>) -> Result<Command, Failur
             budget,
         }),
         _ => Err(Failure::Fault(WordsFault::NoForm)),
-    }
-}
-
-// Want of memory, or bad words.
-fn refusal(e: &Error) -> Failure<WordsFault>
-    ensures { result ≡ Failure.Fault WordsFault.NoForm → kind_of e.now ≢ ErrorKind.OutOfMemory }
-{
-    if e.kind() == ErrorKind::OutOfMemory {
-        Failure::NoMemory
-    } else {
-        Failure::Fault(WordsFault::NoForm)
     }
 }
 

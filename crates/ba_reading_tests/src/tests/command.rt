@@ -16,19 +16,24 @@ fn add_words(alloc: Global, line: &str, words: &mut Vec<String>) -> Told {
 }
 
 fn write_command(told: &mut String, command: &Command) -> Told {
-    let Command::Run {
-        schema,
-        policy,
-        tables,
-        script,
-        workers,
-        budget,
-    } = command;
-    for name in [schema, policy, tables, script] {
-        told.push_str(name.as_str())?;
-        told.push_str(" ")?;
+    match command {
+        Command::Run {
+            schema,
+            policy,
+            tables,
+            script,
+            workers,
+            budget,
+        } => write!(
+            told,
+            "{schema} {policy} {tables} {script} {workers} {budget}"
+        ),
+        Command::Check {
+            schema,
+            policy,
+            proof,
+        } => write!(told, "check {schema} {policy} {proof}"),
     }
-    write!(told, "{workers} {budget}")
 }
 
 /// Words behind those of the front.
@@ -66,7 +71,23 @@ run --schema S --policy P --tables D --script
 run --schem S --policy P --tables D --script F
 run --schema S T --policy P --tables D --script F
 run S P D F
-check --schema S --policy P --proof F";
+run --schema S --policy P --tables D --script F --proof F
+
+check --schema S --policy P --proof F => check S P F
+check --proof=F --policy=P --schema=S => check S P F
+check --policy check --proof run --schema check => check check check run
+
+check
+Check --schema S --policy P --proof F
+check check --schema S --policy P --proof F
+check --schema S --policy P
+check --schema S --policy P --proof
+check --schema S --policy P --prove F
+check --schema S --policy P --proof F G
+check --schema S --policy P --proof F --proof F
+check --schema S --policy P --proof F --budget 16
+check --schema S --policy P --script F
+gen --seed 0 --requests 1";
 
 /// Options behind the four names.
 const OPTIONS: &str = "--budget 100000 => S P D F 1 100000
