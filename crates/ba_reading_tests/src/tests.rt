@@ -11,3 +11,4 @@ mod scripts;
 mod standard;
 mod tables;
 mod tokens;
+mod verdicts;

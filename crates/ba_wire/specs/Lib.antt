@@ -1,3 +1,4 @@
 pub mod Names
 pub mod Object
 pub mod Printed
+pub mod Verdicts

@@ -106,6 +106,8 @@ reason_text (reason.Number row column) = codes "number" ␣ decimal row ␣ deci
 reason_text (reason.Key key first second) = codes "key" ␣ decimal key ␣ codes "rows" ␣ decimal first ␣ decimal second
 reason_text (reason.Link link row) = codes "link" ␣ decimal link ␣ codes "row" ␣ decimal row
 reason_text (reason.Line line why) = codes "line" ␣ decimal line ␣ line_name why
+reason_text reason.Json = codes "json"
+reason_text (reason.Field name) = codes "field" ␣ name
 
 abbrev pub what_name : Counted → List ℕ
 what_name what.TextBytes = codes "bytes"
@@ -210,6 +212,11 @@ fault_json (fault.Limit what limit) =
     (member (codes "limit") (count limit)
     (member (codes "status") (count 7)
     (member (codes "what") (string (what_name what)) no_members))))
+fault_json (fault.Steps limit) =
+    object (member (codes "fault") (string (codes "limit"))
+    (member (codes "limit") (count limit)
+    (member (codes "status") (count 7)
+    (member (codes "what") (string (codes "steps")) no_members))))
 
 -- a value's line
 abbrev pub json_line : Data → List ℕ

@@ -49,6 +49,10 @@ pub enum Reason {
     Link { link: u32, row: u64 },
     /// A line of the script is none. Lines are numbered from 1.
     Line { line: u64, reason: LineFault },
+    /// A proof's file isn't a JSON object.
+    Json,
+    /// The field of this name of a proof's file isn't there, or isn't what it has to be.
+    Field { name: Str },
 }
 
 /// What ended a run before its first line.
@@ -62,6 +66,8 @@ pub enum Fault {
     Read { file: Str },
     /// More than the limit. Exit status 7.
     Limit { what: Counted, limit: u64 },
+    /// More steps of a proof than the limit. Exit status 7.
+    Steps { limit: u64 },
 }
 
 // Why a line of a script is none.
@@ -120,6 +126,8 @@ impl Reason {
             }
             Reason::Link { link, row } => format!(in alloc; "link {link} row {row}"),
             Reason::Line { line, reason } => line_text(alloc, *line, *reason),
+            Reason::Json => String::from_str(alloc, "json"),
+            Reason::Field { name } => format!(in alloc; "field {name}"),
         }
     }
 }
@@ -148,6 +156,7 @@ fn fault_object(alloc: Global, fault: &Fault) -> Result<Object, AllocError>
         Fault::Input { file, reason } => input_object(alloc, file, reason),
         Fault::Read { file } => read_object(alloc, file),
         Fault::Limit { what, limit } => limit_object(alloc, *what, *limit),
+        Fault::Steps { limit } => steps_object(alloc, *limit),
     }
 }
 
@@ -188,6 +197,16 @@ fn limit_object(alloc: Global, what: Counted, limit: u64) -> Result<Object, Allo
         .with_count("limit", limit)?
         .with_count("status", 7)?
         .with_text("what", what_name(what))
+}
+
+fn steps_object(alloc: Global, limit: u64) -> Result<Object, AllocError>
+    ensures { IfOk result (λ it. made it ≡ fault_json (Fault.Steps limit)) }
+{
+    Object::new(alloc)
+        .with_text("fault", "limit")?
+        .with_count("limit", limit)?
+        .with_count("status", 7)?
+        .with_text("what", "steps")
 }
 
 /// The text of the fault with its line feed.

@@ -6,7 +6,9 @@ mod line;
 mod names;
 mod object;
 mod summary;
+mod verdict;
 
 pub use fault::{Fault, Reason, fault_text};
 pub use line::{Block, By, Line, line_text};
 pub use summary::{Summary, summary_text};
+pub use verdict::{Verdict, verdict_text};
