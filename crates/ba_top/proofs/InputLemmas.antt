@@ -4,6 +4,8 @@ use Rattle.std.proofs.lemmas.List.{take_more}
 use Rattle.std.proofs.lemmas.List.Elements.{All-nil}
 use Rattle.std.specs.List.{All, AllZip}
 use Rattle.ba_kernel.specs.Courses.{RuleFits}
+use Rattle.ba_proof.specs.Checked.{IsPolicy}
+use Rattle.ba_proof.specs.declared.proof.Proof.{Proof}
 use Rattle.ba_model.specs.SchemaFaults.{AreTables}
 use Rattle.ba_model.specs.declared.schema.Rule.{Rule}
 use Rattle.ba_model.specs.Conform.{Conforms, RowFits}
@@ -17,7 +19,7 @@ use Rattle.ba_model.specs.declared.limits.TheConstants.{MAX_BUDGET, MAX_FILE_BYT
 use Rattle.ba_outside.specs.Seen.{FilesSeen}
 use Rattle.ba_plan.proofs.Plans.{found_ok, then_err, then_ok}
 use Rattle.ba_plan.specs.Follows.{Follows, Gives, Got}
-use Rattle.ba_plan.specs.Plan.{found}
+use Rattle.ba_plan.specs.Plan.{done, found}
 use Rattle.ba_plan.specs.declared.stop.Stop.{Stop}
 use Rattle.ba_policy.specs.Reading.{policy_of}
 use Rattle.ba_script.specs.Scripts.{IsScript}
@@ -26,10 +28,11 @@ use Rattle.ba_sql_ddl.specs.Reading.{schema_of}
 use Rattle.ba_tables.specs.Broken.{checked}
 use Rattle.ba_tables.specs.TableSet.{TableSet}
 use Rattle.ba_top.specs.Legal.{IsInput, RowsOfTables}
-use Rattle.ba_top.specs.Reading.{Names, policy_plan, reading_of, rest_plan, rows_plan, script_plan, table_plan, tables_plan}
+use Rattle.ba_top.specs.Reading.{Names, ProofNames, check_plan, policy_and_proof_plan, policy_plan, proof_plan, proof_reading_of, reading_of, rest_plan, rows_plan, run_plan, script_plan, table_plan, tables_plan}
 use Rattle.ba_top.specs.Refusals.{broken_refusal, ddl_refusal, policy_refusal}
 use Rattle.ba_top.specs.declared.report.Input.{Input}
 use Rattle.ba_top.specs.declared.report.Refusal.{Refusal}
+use Rattle.ba_top.specs.declared.report.Task.TheVariants as task
 
 no_rule : (s : Schema) (rules : List Rule) → rules ≡ [] → All (RuleFits s) rules
 no_rule s rules none = subst (All (RuleFits s)) (sym none) (All-nil (RuleFits s))
@@ -120,3 +123,40 @@ named_err names bytes text schema policy s m n t e got read given is set = inr (
             (then_err (tables_plan names.tables schema) (script_plan names.script names.budget policy) n t e set),
       )),
 )
+
+-- the schema, the policy, and then the proof
+pub proof_ok : (names : ProofNames) (bytes text : List ℕ) (schema : Schema) (policy : Policy) (s m n t : FilesSeen) (r : Result Proof (Stop Refusal))
+    → Got names.schema MAX_FILE_BYTES bytes s m → widened (ddl_refusal names.schema) (schema_of bytes) ≡ Ok schema
+    → Got names.policy MAX_FILE_BYTES text m n → widened (policy_refusal names.policy) (policy_of schema text) ≡ Ok policy
+    → Follows (proof_plan names.proof policy) n t r → Follows (proof_reading_of names) s t r
+proof_ok names bytes text schema policy s m n t r got read given is rest = inr (
+  bytes,
+  m,
+  got,
+  found_ok (widened (ddl_refusal names.schema) (schema_of bytes)) (policy_and_proof_plan names) m t r schema read
+      (inr (text, n, given, found_ok (widened (policy_refusal names.policy) (policy_of schema text)) (proof_plan names.proof) n t r policy is rest)),
+)
+
+-- ---- the commands
+
+-- the input, and then the run of it
+pub run_ok : (names : Names) (input : Input) (s t : FilesSeen) → Follows (reading_of names) s t (Ok input) → Follows (run_plan names) s t (Ok (task.Run input))
+run_ok names input s t follows = then_ok (reading_of names) (λ z. done (task.Run z)) s t t input (Ok (task.Run input)) follows (refl, refl)
+
+pub run_err : (names : Names) (s t : FilesSeen) (e : Stop Refusal) → Follows (reading_of names) s t (Err e) → Follows (run_plan names) s t (Err e)
+run_err names s t e follows = then_err (reading_of names) (λ z. done (task.Run z)) s t e follows
+
+-- the proof, and then the check of it
+pub check_ok : (names : ProofNames) (proof : Proof) (s t : FilesSeen) → Follows (proof_reading_of names) s t (Ok proof) → Follows (check_plan names) s t (Ok (task.Check proof))
+check_ok names proof s t follows = then_ok (proof_reading_of names) (λ z. done (task.Check z)) s t t proof (Ok (task.Check proof)) follows (refl, refl)
+
+pub check_err : (names : ProofNames) (s t : FilesSeen) (e : Stop Refusal) → Follows (proof_reading_of names) s t (Err e) → Follows (check_plan names) s t (Err e)
+check_err names s t e follows = then_err (proof_reading_of names) (λ z. done (task.Check z)) s t e follows
+
+-- a policy that was read for a schema that was read
+pub policy_is : (policy : Policy) → PolicyFits policy → AreTables policy.schema.tables → policy.schema.rules ≡ [] → IsPolicy policy
+policy_is policy fits tables none = record {
+  tables = tables;
+  rules = no_rule policy.schema policy.schema.rules none;
+  views = fits;
+}

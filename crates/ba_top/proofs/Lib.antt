@@ -2,5 +2,6 @@ pub mod ServeLemmas
 pub mod SummaryLemmas
 pub mod PrintLemmas
 pub mod InputLemmas
+pub mod CheckLemmas
 pub mod Runs
 pub mod HeadlineLemmas

@@ -1,5 +1,5 @@
--- What follows from how a run went.
-use Rattle.std.proofs.Common.{◌≡◌, ◌≢◌, ◌⊎◌, ◌∙◌, inl, inr, refl, sym, ap, subst, ℕ, List, Option, Some, None, Result, Ok, Err, IfSome}
+-- What follows from how a command went.
+use Rattle.std.proofs.Common.{◌≡◌, ◌⊎◌, ◌∙◌, inl, inr, refl, sym, ap, subst, ℕ, List, length, Option, Some, None, Result, Ok, Err, IfSome}
 use Rattle.ba_model.specs.declared.limits.Counted.{Counted}
 use Rattle.ba_model.specs.declared.limits.Counted.TheVariants.{FileBytes}
 use Rattle.ba_outside.specs.Causes.{Rose}
@@ -11,15 +11,21 @@ use Rattle.ba_plan.specs.Follows.{Follows}
 use Rattle.ba_plan.specs.Plan.{names_of, outcome_of}
 use Rattle.ba_plan.specs.declared.stop.Stop.{Stop}
 use Rattle.ba_plan.specs.declared.stop.Stop.TheVariants.{Refused, Read as Unreadable, TooLong, NoMemory}
-use Rattle.ba_top.specs.Causes.{IsLimit, Tells, settled}
-use Rattle.ba_top.specs.Ran.{EndsFault, EndsRun, EndsStop, Ran, detail_of}
+use Rattle.ba_proof.specs.declared.checking.CheckFault.{CheckFault}
+use Rattle.ba_proof.specs.declared.proof.Proof.{Proof}
+use Rattle.ba_top.specs.Causes.{ComesTo, IsLimit, IsStepLimit, Tells, stopped}
+use Rattle.ba_top.specs.Checking.{EndsCheck, EndsLine, IsAccepted, IsFinding, IsVerdict, detail_found, line_found}
+use Rattle.ba_top.specs.Ran.{Accepts, EndsFault, EndsRun, EndsStop, Ran, RanTask, Rejects, detail_of}
 use Rattle.ba_top.specs.Reading.{plan_of}
 use Rattle.ba_top.specs.declared.report.Detail.{Detail}
-use Rattle.ba_top.specs.declared.report.Detail.TheVariants.{Done, Words, Input as BadInput, Read, Write, Memory, Limit}
+use Rattle.ba_top.specs.declared.report.Detail.TheVariants.{Done, NotAccepted, Words, Input as BadInput, Read, Write, Memory, Limit, Steps}
 use Rattle.ba_top.specs.declared.report.Input.{Input}
 use Rattle.ba_top.specs.declared.report.Journal.{Journal}
 use Rattle.ba_top.specs.declared.report.Refusal.{Refusal}
 use Rattle.ba_top.specs.declared.report.Refusal.TheVariants as refusal
+use Rattle.ba_top.specs.declared.report.Task.{Task}
+use Rattle.ba_top.specs.declared.report.Task.TheVariants as task
+use Rattle.ba_wire.specs.Verdicts.{verdict_bytes}
 use Rattle.ba_wire.specs.declared.fault.Fault.{Fault}
 use Rattle.ba_wire.specs.declared.fault.Fault.TheVariants as fault
 
@@ -32,10 +38,11 @@ ends_as f s t detail (inr (inl (is, sent))) = inr (inl (is, sent.1))
 ends_as f s t detail (inr (inr (is, sent))) = inr (inr is)
 
 -- a stopped reading ends with its own detail, or that of the writing
-stops_as : (stop : Stop Refusal) (s t : SinkSeen) (detail : Detail) → EndsStop stop s t detail → (detail ≡ settled (Err stop)) ⊎ ((detail ≡ Write) × Rose s.faults t.faults) ⊎ (detail ≡ Memory)
+stops_as : (stop : Stop Refusal) (s t : SinkSeen) (detail : Detail) → EndsStop stop s t detail → (detail ≡ stopped stop) ⊎ ((detail ≡ Write) × Rose s.faults t.faults) ⊎ (detail ≡ Memory)
 stops_as (Refused refusal.Words) s t detail ends = ends_as fault.Words s t detail ends
 stops_as (Refused (refusal.Input file reason)) s t detail ends = ends_as (fault.Input file reason) s t detail ends
 stops_as (Refused (refusal.Limit what limit)) s t detail ends = ends_as (fault.Limit what limit) s t detail ends
+stops_as (Refused (refusal.Steps limit)) s t detail ends = ends_as (fault.Steps limit) s t detail ends
 stops_as (Unreadable file) s t detail ends = ends_as (fault.Read file) s t detail ends
 stops_as (TooLong file limit) s t detail ends = ends_as (fault.Limit FileBytes limit) s t detail ends
 stops_as NoMemory s t detail ends = inl ends.0
@@ -45,56 +52,101 @@ runs_as : (input : Input) (journal : Journal) (s t : SinkSeen) (detail : Detail)
 runs_as input journal s t Done ends = inl refl
 runs_as input journal s t Write ends = inr (inl (refl, ends.1))
 runs_as input journal s t Memory ends = inr (inr refl)
+runs_as input journal s t (NotAccepted why) ends = absurd ends
 runs_as input journal s t Words ends = absurd ends
 runs_as input journal s t (BadInput file reason) ends = absurd ends
 runs_as input journal s t (Read file) ends = absurd ends
 runs_as input journal s t (Limit what limit) ends = absurd ends
+runs_as input journal s t (Steps limit) ends = absurd ends
 
--- How a run ended: by what the reading came to, or by the writing, or for want of memory.
+-- a finding that is told ends with its own detail, or that of the writing
+told_as : (proof : Proof) (s t : SinkSeen) (detail : Detail) (found : Option CheckFault) → IsFinding proof found → EndsLine (verdict_bytes (line_found (length proof.steps) found)) (detail_found found) s t detail → IsVerdict proof detail ⊎ ((detail ≡ Write) × Rose s.faults t.faults) ⊎ (detail ≡ Memory)
+told_as proof s t detail None accepted (inl (is, wrote)) = inl (subst (IsVerdict proof) (sym is) accepted)
+told_as proof s t detail None accepted (inr (inl (is, sent))) = inr (inl (is, sent.1))
+told_as proof s t detail None accepted (inr (inr (is, sent))) = inr (inr is)
+told_as proof s t detail (Some why) rejected (inl (is, wrote)) = inl (subst (IsVerdict proof) (sym is) rejected)
+told_as proof s t detail (Some why) rejected (inr (inl (is, sent))) = inr (inl (is, sent.1))
+told_as proof s t detail (Some why) rejected (inr (inr (is, sent))) = inr (inr is)
+
+-- a check ends with what the proof comes to, or that of the writing, or for want of memory
+checks_as : (proof : Proof) (s t : SinkSeen) (detail : Detail) → EndsCheck proof s t detail → IsVerdict proof detail ⊎ ((detail ≡ Write) × Rose s.faults t.faults) ⊎ (detail ≡ Memory)
+checks_as proof s t detail (inl told) = told_as proof s t detail told.found told.is told.ends
+checks_as proof s t detail (inr (is, same)) = inr (inr is)
+
+-- what was read, and then what was done with it
+pub ran_task : (words : List (List ℕ)) (f g : FilesSeen) (s t : SinkSeen) (detail : Detail) (journal : Option Journal) (it : Task) → Follows (plan_of words) f g (Ok it) → RanTask it s t detail journal → Ran words f g s t detail journal
+ran_task words f g s t detail (Some journal) (task.Run input) follows (legal, headline, written) = record {
+  input = input;
+  read = follows;
+  legal = legal;
+  headline = headline;
+  written = written;
+}
+ran_task words f g s t detail None (task.Run input) follows (is, same) = inr (inl (input, follows, is, same))
+ran_task words f g s t detail (Some journal) (task.Check proof) follows ends = absurd ends
+ran_task words f g s t detail None (task.Check proof) follows ends = inr (inr (record { proof = proof; read = follows; ends = ends }))
+
+-- How a command ended: by what the reading came to, or by the writing, or for want of memory.
 Ended : List (List ℕ) → FilesSeen → FilesSeen → SinkSeen → SinkSeen → Detail → Type 0
 Ended words f g s t detail =
-    ((reading : Result Input (Stop Refusal)) × Follows (plan_of words) f g reading × ((detail ≡ settled reading) ⊎ ((detail ≡ Write) × Rose s.faults t.faults) ⊎ (detail ≡ Memory)))
+    ((reading : Result Task (Stop Refusal)) × Follows (plan_of words) f g reading × (ComesTo reading detail ⊎ ((detail ≡ Write) × Rose s.faults t.faults) ⊎ (detail ≡ Memory)))
 
 ended : (words : List (List ℕ)) (f g : FilesSeen) (s t : SinkSeen) (detail : Detail) (journal : Option Journal) → Ran words f g s t detail journal → Ended words f g s t detail
 unfolding Ended
-ended words f g s t detail (Some journal) it = (Ok it.input, it.read, runs_as it.input journal s t detail it.written)
+ended words f g s t detail (Some journal) it = (Ok (task.Run it.input), it.read, runs_as it.input journal s t detail it.written)
 ended words f g s t detail None (inl (stop, follows, ends)) = (Err stop, follows, stops_as stop s t detail ends)
-ended words f g s t detail None (inr (input, follows, is, same)) = (Ok input, follows, inr (inr is))
+ended words f g s t detail None (inr (inl (input, follows, is, same))) = (Ok (task.Run input), follows, inr (inr is))
+ended words f g s t detail None (inr (inr it)) = (Ok (task.Check it.proof), it.read, checks_as it.proof s t detail it.ends)
 
 -- ---- read faults and long files
 
-unreadable : (reading : Result Input (Stop Refusal)) (file : List ℕ) → settled reading ≡ Read file → reading ≡ Err (Unreadable file)
-unreadable (Ok input) file e = absurd (cc)
+unreadable : (reading : Result Task (Stop Refusal)) (file : List ℕ) → ComesTo reading (Read file) → reading ≡ Err (Unreadable file)
+unreadable (Ok (task.Run input)) file e = absurd (cc)
+unreadable (Ok (task.Check proof)) file e = absurd e
 unreadable (Err (Refused refusal.Words)) file e = absurd (cc)
 unreadable (Err (Refused (refusal.Input f reason))) file e = absurd (cc)
 unreadable (Err (Refused (refusal.Limit what limit))) file e = absurd (cc)
+unreadable (Err (Refused (refusal.Steps limit))) file e = absurd (cc)
 unreadable (Err (Unreadable f)) file e = let h : f ≡ file = cc in ap (λ z. Err (Unreadable z)) h
 unreadable (Err (TooLong f n)) file e = absurd (cc)
 unreadable (Err NoMemory) file e = absurd (cc)
 
 -- a reading that comes to a limit
-abbrev ComesToLimit : Result Input (Stop Refusal) → Counted → ℕ → Type 0
+abbrev ComesToLimit : Result Task (Stop Refusal) → Counted → ℕ → Type 0
 ComesToLimit reading what limit = (reading ≡ Err (Refused (refusal.Limit what limit))) ⊎ ((what ≡ FileBytes) × ((file : List ℕ) × (reading ≡ Err (TooLong file limit))))
 
-limit_of : (reading : Result Input (Stop Refusal)) (what : Counted) (limit : ℕ) → settled reading ≡ Limit what limit → ComesToLimit reading what limit
-limit_of (Ok input) what limit e = absurd (cc)
+limit_of : (reading : Result Task (Stop Refusal)) (what : Counted) (limit : ℕ) → ComesTo reading (Limit what limit) → ComesToLimit reading what limit
+limit_of (Ok (task.Run input)) what limit e = absurd (cc)
+limit_of (Ok (task.Check proof)) what limit e = absurd e
 limit_of (Err (Refused refusal.Words)) what limit e = absurd (cc)
 limit_of (Err (Refused (refusal.Input f reason))) what limit e = absurd (cc)
 limit_of (Err (Refused (refusal.Limit w n))) what limit e = let h : w ≡ what = cc in let k : n ≡ limit = cc in inl (rw (h, k) refl)
+limit_of (Err (Refused (refusal.Steps n))) what limit e = absurd (cc)
 limit_of (Err (Unreadable f)) what limit e = absurd (cc)
 limit_of (Err (TooLong f n)) what limit e = let w : FileBytes ≡ what = cc in let h : n ≡ limit = cc in inr (sym w, (f, ap (λ z. Err (TooLong f z)) h))
 limit_of (Err NoMemory) what limit e = absurd (cc)
+
+step_limit_of : (reading : Result Task (Stop Refusal)) (limit : ℕ) → ComesTo reading (Steps limit) → reading ≡ Err (Refused (refusal.Steps limit))
+step_limit_of (Ok (task.Run input)) limit e = absurd (cc)
+step_limit_of (Ok (task.Check proof)) limit e = absurd e
+step_limit_of (Err (Refused refusal.Words)) limit e = absurd (cc)
+step_limit_of (Err (Refused (refusal.Input f reason))) limit e = absurd (cc)
+step_limit_of (Err (Refused (refusal.Limit w n))) limit e = absurd (cc)
+step_limit_of (Err (Refused (refusal.Steps n))) limit e = let h : n ≡ limit = cc in ap (λ z. Err (Refused (refusal.Steps z))) h
+step_limit_of (Err (Unreadable f)) limit e = absurd (cc)
+step_limit_of (Err (TooLong f n)) limit e = absurd (cc)
+step_limit_of (Err NoMemory) limit e = absurd (cc)
 
 pub ran_read : (words : List (List ℕ)) (f g : FilesSeen) (s t : SinkSeen) (detail : Detail) (journal : Option Journal) → Ran words f g s t detail journal → (file : List ℕ) → detail ≡ Read file → FailedAt file f g
 unfolding Ended
 ran_read words f g s t detail journal ran file e = by_end (ended words f g s t detail journal ran)
   where
     by_end : Ended words f g s t detail → FailedAt file f g
-    by_end (reading, follows, inl is) = read_fault (plan_of words) f g file (subst (λ z. Follows (plan_of words) f g z) (unreadable reading file (sym is ∙ e)) follows)
+    by_end (reading, follows, inl is) = read_fault (plan_of words) f g file (subst (λ z. Follows (plan_of words) f g z) (unreadable reading file (subst (ComesTo reading) e is)) follows)
     by_end (reading, follows, inr (inl (is, rose))) = absurd (cc)
     by_end (reading, follows, inr (inr is)) = absurd (cc)
 
-told_limit : (words : List (List ℕ)) (f g : FilesSeen) (reading : Result Input (Stop Refusal)) (what : Counted) (limit : ℕ) → Follows (plan_of words) f g reading → ComesToLimit reading what limit → IsLimit words what limit f g
+told_limit : (words : List (List ℕ)) (f g : FilesSeen) (reading : Result Task (Stop Refusal)) (what : Counted) (limit : ℕ) → Follows (plan_of words) f g reading → ComesToLimit reading what limit → IsLimit words what limit f g
 told_limit words f g reading what limit follows (inl is) = inl (subst (λ z. Follows (plan_of words) f g z) is follows)
 told_limit words f g reading what limit follows (inr (bytes, (file, is))) = inr (bytes, (file, long_file (plan_of words) f g file limit (subst (λ z. Follows (plan_of words) f g z) is follows)))
 
@@ -103,15 +155,26 @@ unfolding Ended
 ran_limit words f g s t detail journal ran what limit e = by_end (ended words f g s t detail journal ran)
   where
     by_end : Ended words f g s t detail → IsLimit words what limit f g
-    by_end (reading, follows, inl is) = told_limit words f g reading what limit follows (limit_of reading what limit (sym is ∙ e))
+    by_end (reading, follows, inl is) = told_limit words f g reading what limit follows (limit_of reading what limit (subst (ComesTo reading) e is))
     by_end (reading, follows, inr (inl (is, rose))) = absurd (cc)
     by_end (reading, follows, inr (inr is)) = absurd (cc)
 
-not_write : (reading : Result Input (Stop Refusal)) → settled reading ≢ Write
-not_write (Ok input) e = cc
+pub ran_steps : (words : List (List ℕ)) (f g : FilesSeen) (s t : SinkSeen) (detail : Detail) (journal : Option Journal) → Ran words f g s t detail journal → (limit : ℕ) → detail ≡ Steps limit → IsStepLimit words limit f g
+unfolding Ended
+ran_steps words f g s t detail journal ran limit e = by_end (ended words f g s t detail journal ran)
+  where
+    by_end : Ended words f g s t detail → IsStepLimit words limit f g
+    by_end (reading, follows, inl is) = subst (λ z. Follows (plan_of words) f g z) (step_limit_of reading limit (subst (ComesTo reading) e is)) follows
+    by_end (reading, follows, inr (inl (is, rose))) = absurd (cc)
+    by_end (reading, follows, inr (inr is)) = absurd (cc)
+
+not_write : (reading : Result Task (Stop Refusal)) → ¬ (ComesTo reading Write)
+not_write (Ok (task.Run input)) e = cc
+not_write (Ok (task.Check proof)) e = e
 not_write (Err (Refused refusal.Words)) e = cc
 not_write (Err (Refused (refusal.Input f reason))) e = cc
 not_write (Err (Refused (refusal.Limit what limit))) e = cc
+not_write (Err (Refused (refusal.Steps limit))) e = cc
 not_write (Err (Unreadable f)) e = cc
 not_write (Err (TooLong f n)) e = cc
 not_write (Err NoMemory) e = cc
@@ -121,8 +184,61 @@ unfolding Ended
 ran_write words f g s t detail journal ran e = by_end (ended words f g s t detail journal ran)
   where
     by_end : Ended words f g s t detail → Rose s.faults t.faults
-    by_end (reading, follows, inl is) = absurd (not_write reading (sym is ∙ e))
+    by_end (reading, follows, inl is) = absurd (not_write reading (subst (ComesTo reading) e is))
     by_end (reading, follows, inr (inl (is, rose))) = rose
+    by_end (reading, follows, inr (inr is)) = absurd (cc)
+
+-- ---- proofs
+
+not_done : (stop : Stop Refusal) → ¬ (Done ≡ stopped stop)
+not_done (Refused refusal.Words) e = cc
+not_done (Refused (refusal.Input f reason)) e = cc
+not_done (Refused (refusal.Limit what limit)) e = cc
+not_done (Refused (refusal.Steps limit)) e = cc
+not_done (Unreadable f) e = cc
+not_done (TooLong f n) e = cc
+not_done NoMemory e = cc
+
+-- a stopped reading doesn't end as done
+never_done : (stop : Stop Refusal) (s t : SinkSeen) (detail : Detail) → detail ≡ Done → (detail ≡ stopped stop) ⊎ ((detail ≡ Write) × Rose s.faults t.faults) ⊎ (detail ≡ Memory) → ⊥
+never_done stop s t detail e (inl is) = not_done stop (sym e ∙ is)
+never_done stop s t detail e (inr (inl (is, rose))) = cc
+never_done stop s t detail e (inr (inr is)) = cc
+
+accepted : (proof : Proof) (s t : SinkSeen) (detail : Detail) → detail ≡ Done → IsVerdict proof detail ⊎ ((detail ≡ Write) × Rose s.faults t.faults) ⊎ (detail ≡ Memory) → IsAccepted proof
+accepted proof s t detail e (inl is) = subst (IsVerdict proof) e is
+accepted proof s t detail e (inr (inl (is, rose))) = absurd (cc)
+accepted proof s t detail e (inr (inr is)) = absurd (cc)
+
+pub ran_accepted : (words : List (List ℕ)) (f g : FilesSeen) (s t : SinkSeen) (detail : Detail) (journal : Option Journal) → Ran words f g s t detail journal → Accepts words f g detail journal
+ran_accepted words f g s t detail (Some journal) it = tt
+ran_accepted words f g s t detail None (inl (stop, follows, ends)) = λ e. absurd (never_done stop s t detail e (stops_as stop s t detail ends))
+ran_accepted words f g s t detail None (inr (inl (input, follows, is, same))) = λ e. absurd (cc)
+ran_accepted words f g s t detail None (inr (inr it)) = λ e. record {
+  proof = it.proof;
+  read = it.read;
+  holds = accepted it.proof s t detail e (checks_as it.proof s t detail it.ends);
+}
+
+-- a reading that ends so is of a proof that has the fault
+rejects : (words : List (List ℕ)) (f g : FilesSeen) (reading : Result Task (Stop Refusal)) (why : CheckFault) → Follows (plan_of words) f g reading → ComesTo reading (NotAccepted why) → Rejects words f g why
+rejects words f g (Ok (task.Run input)) why follows e = absurd (cc)
+rejects words f g (Ok (task.Check proof)) why follows is = record { proof = proof; read = follows; holds = is }
+rejects words f g (Err (Refused refusal.Words)) why follows e = absurd (cc)
+rejects words f g (Err (Refused (refusal.Input file reason))) why follows e = absurd (cc)
+rejects words f g (Err (Refused (refusal.Limit what limit))) why follows e = absurd (cc)
+rejects words f g (Err (Refused (refusal.Steps limit))) why follows e = absurd (cc)
+rejects words f g (Err (Unreadable file)) why follows e = absurd (cc)
+rejects words f g (Err (TooLong file n)) why follows e = absurd (cc)
+rejects words f g (Err NoMemory) why follows e = absurd (cc)
+
+pub ran_rejected : (words : List (List ℕ)) (f g : FilesSeen) (s t : SinkSeen) (detail : Detail) (journal : Option Journal) → Ran words f g s t detail journal → (why : CheckFault) → detail ≡ NotAccepted why → Rejects words f g why
+unfolding Ended
+ran_rejected words f g s t detail journal ran why e = by_end (ended words f g s t detail journal ran)
+  where
+    by_end : Ended words f g s t detail → Rejects words f g why
+    by_end (reading, follows, inl is) = rejects words f g reading why follows (subst (ComesTo reading) e is)
+    by_end (reading, follows, inr (inl (is, rose))) = absurd (cc)
     by_end (reading, follows, inr (inr is)) = absurd (cc)
 
 -- ---- told files
@@ -139,43 +255,49 @@ pub if_told : (held : Option Contents) (P : Contents → Type 0) → ((contents 
 if_told None P h = tt
 if_told (Some contents) P h = h contents refl
 
+-- what the files come to is told
+tells : (whole : Result Task (Stop Refusal)) (detail : Detail) → ComesTo whole detail → Tells detail whole
+tells whole Done is = is
+tells whole (NotAccepted why) is = is
+tells whole Words is = is
+tells whole (BadInput file reason) is = is
+tells whole (Read file) is = tt
+tells whole Write is = tt
+tells whole Memory is = tt
+tells whole (Limit what limit) is = is
+tells whole (Steps limit) is = is
+
 -- what the reading came to tells of the words and the files
-tells_of : (reading whole : Result Input (Stop Refusal)) → Settles reading whole → Tells (settled reading) whole
-tells_of (Ok input) whole e = ap settled e
-tells_of (Err (Refused refusal.Words)) whole e = ap settled e
-tells_of (Err (Refused (refusal.Input f reason))) whole e = ap settled e
-tells_of (Err (Refused (refusal.Limit what limit))) whole e = ap settled e
-tells_of (Err (Unreadable f)) whole e = tt
-tells_of (Err (TooLong f n)) whole e = ap settled e
-tells_of (Err NoMemory) whole e = tt
+tells_of : (reading whole : Result Task (Stop Refusal)) (detail : Detail) → Settles reading whole → ComesTo reading detail → Tells detail whole
+tells_of (Ok it) whole detail e is = tells whole detail (subst (λ z. ComesTo z detail) (sym e) is)
+tells_of (Err (Refused r)) whole detail e is = tells whole detail (subst (λ z. ComesTo z detail) (sym e) is)
+tells_of (Err (Unreadable f)) whole detail e is = subst (λ z. Tells z whole) (sym is) tt
+tells_of (Err (TooLong f n)) whole detail e is = tells whole detail (subst (λ z. ComesTo z detail) (sym e) is)
+tells_of (Err NoMemory) whole detail e is = subst (λ z. Tells z whole) (sym is) tt
 
 pub ran_told : (contents : Contents) (words : List (List ℕ)) (f g : FilesSeen) (s t : SinkSeen) (detail : Detail) (journal : Option Journal) → Ran words f g s t detail journal → f.held ≡ Some contents → Tells detail (outcome_of contents (plan_of words))
 unfolding Ended
 ran_told contents words f g s t detail journal ran told = by_end (ended words f g s t detail journal ran)
   where
     by_end : Ended words f g s t detail → Tells detail (outcome_of contents (plan_of words))
-    by_end (reading, follows, inl is) = subst (λ z. Tells z (outcome_of contents (plan_of words))) (sym is) (tells_of reading (outcome_of contents (plan_of words)) (determined contents (plan_of words) f g reading told follows))
+    by_end (reading, follows, inl is) = tells_of reading (outcome_of contents (plan_of words)) detail (determined contents (plan_of words) f g reading told follows) is
     by_end (reading, follows, inr (inl (is, rose))) = subst (λ z. Tells z (outcome_of contents (plan_of words))) (sym is) tt
     by_end (reading, follows, inr (inr is)) = subst (λ z. Tells z (outcome_of contents (plan_of words))) (sym is) tt
 
--- without a read fault the reading is the one that the files come to, or memory ran out
-whole_of : (words : List (List ℕ)) (f g : FilesSeen) (reading whole : Result Input (Stop Refusal)) → Settles reading whole → Follows (plan_of words) f g reading → ¬ Rose f.faults g.faults → (settled reading ≡ Memory) ⊎ (settled reading ≡ settled whole)
-whole_of words f g (Ok input) whole e follows calm = inr (sym (ap settled e))
-whole_of words f g (Err (Refused r)) whole e follows calm = inr (sym (ap settled e))
-whole_of words f g (Err (Unreadable file)) whole e follows calm = absurd (calm (read_fault (plan_of words) f g file follows).rose)
-whole_of words f g (Err (TooLong file n)) whole e follows calm = inr (sym (ap settled e))
-whole_of words f g (Err NoMemory) whole e follows calm = inl refl
+-- without a read fault the command comes to what the files come to, or memory ran out
+whole_of : (words : List (List ℕ)) (f g : FilesSeen) (reading whole : Result Task (Stop Refusal)) (detail : Detail) → Settles reading whole → Follows (plan_of words) f g reading → ¬ Rose f.faults g.faults → ComesTo reading detail → (detail ≡ Memory) ⊎ ComesTo whole detail
+whole_of words f g (Ok it) whole detail e follows calm is = inr (subst (λ z. ComesTo z detail) (sym e) is)
+whole_of words f g (Err (Refused r)) whole detail e follows calm is = inr (subst (λ z. ComesTo z detail) (sym e) is)
+whole_of words f g (Err (Unreadable file)) whole detail e follows calm is = absurd (calm (read_fault (plan_of words) f g file follows).rose)
+whole_of words f g (Err (TooLong file n)) whole detail e follows calm is = inr (subst (λ z. ComesTo z detail) (sym e) is)
+whole_of words f g (Err NoMemory) whole detail e follows calm is = inl is
 
 pub ran_complete : (contents : Contents) (words : List (List ℕ)) (f g : FilesSeen) (s t : SinkSeen) (detail : Detail) (journal : Option Journal) → Ran words f g s t detail journal → f.held ≡ Some contents
-    → ¬ Rose f.faults g.faults → ¬ Rose s.faults t.faults → (detail ≡ Memory) ⊎ (detail ≡ settled (outcome_of contents (plan_of words)))
+    → ¬ Rose f.faults g.faults → ¬ Rose s.faults t.faults → (detail ≡ Memory) ⊎ ComesTo (outcome_of contents (plan_of words)) detail
 unfolding Ended
 ran_complete contents words f g s t detail journal ran told calm still = by_end (ended words f g s t detail journal ran)
   where
-    by_end : Ended words f g s t detail → (detail ≡ Memory) ⊎ (detail ≡ settled (outcome_of contents (plan_of words)))
-    by_end (reading, follows, inl is) =
-        elim (whole_of words f g reading (outcome_of contents (plan_of words)) (determined contents (plan_of words) f g reading told follows) follows calm) [
-          | inl memory ↦ inl (is ∙ memory)
-          | inr same ↦ inr (is ∙ same)
-        ]
+    by_end : Ended words f g s t detail → (detail ≡ Memory) ⊎ ComesTo (outcome_of contents (plan_of words)) detail
+    by_end (reading, follows, inl is) = whole_of words f g reading (outcome_of contents (plan_of words)) detail (determined contents (plan_of words) f g reading told follows) follows calm is
     by_end (reading, follows, inr (inl (is, rose))) = absurd (still rose)
     by_end (reading, follows, inr (inr is)) = inl is

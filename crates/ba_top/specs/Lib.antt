@@ -2,6 +2,7 @@ pub mod Path
 pub mod Refusals
 pub mod Reading
 pub mod Legal
+pub mod Checking
 pub mod Serving
 pub mod Text
 pub mod Ran

@@ -1,5 +1,5 @@
--- What a run may come to.
-use Rattle.std.specs.Prelude.{◌≡◌, ◌⊎◌, ℕ, List, [], ◌∷◌, Option, Some, None, Ok, Err, true, false}
+-- What a command may come to.
+use Rattle.std.specs.Prelude.{◌≡◌, ◌⊎◌, ℕ, List, Option, Some, None, Ok, Err, ⊤, true, false}
 use Rattle.ba_model.specs.declared.limits.Counted.TheVariants.{FileBytes}
 use Rattle.ba_outside.specs.Seen.{FilesSeen, SinkSeen}
 use Rattle.ba_outside.specs.declared.sink.WriteFail.TheVariants.{Failed, NoMemory as NoRoom}
@@ -7,16 +7,21 @@ use Rattle.ba_plan.specs.Follows.{Follows}
 use Rattle.ba_plan.specs.Sent.{SentLines, WroteLines}
 use Rattle.ba_plan.specs.declared.stop.Stop.{Stop}
 use Rattle.ba_plan.specs.declared.stop.Stop.TheVariants.{Refused, Read as Unreadable, TooLong, NoMemory}
+use Rattle.ba_proof.specs.declared.checking.CheckFault.{CheckFault}
+use Rattle.ba_proof.specs.declared.proof.Proof.{Proof}
+use Rattle.ba_top.specs.Checking.{EndsCheck, EndsLine, IsAccepted, IsRejected}
 use Rattle.ba_top.specs.Headline.{Headline}
 use Rattle.ba_top.specs.Legal.{Legal, lacks_memory}
 use Rattle.ba_top.specs.Reading.{plan_of}
 use Rattle.ba_top.specs.Text.{lines_of}
 use Rattle.ba_top.specs.declared.report.Detail.{Detail}
-use Rattle.ba_top.specs.declared.report.Detail.TheVariants.{Done, Words, Input as BadInput, Read, Write, Memory, Limit}
+use Rattle.ba_top.specs.declared.report.Detail.TheVariants.{Done, NotAccepted, Words, Input as BadInput, Read, Write, Memory, Limit, Steps}
 use Rattle.ba_top.specs.declared.report.Input.{Input}
 use Rattle.ba_top.specs.declared.report.Journal.{Journal}
 use Rattle.ba_top.specs.declared.report.Refusal.{Refusal}
 use Rattle.ba_top.specs.declared.report.Refusal.TheVariants as refusal
+use Rattle.ba_top.specs.declared.report.Task.{Task}
+use Rattle.ba_top.specs.declared.report.Task.TheVariants as task
 use Rattle.ba_wire.specs.Printed.{fault_bytes}
 use Rattle.ba_wire.specs.declared.fault.Fault.{Fault}
 use Rattle.ba_wire.specs.declared.fault.Fault.TheVariants as fault
@@ -24,18 +29,21 @@ use Rattle.ba_wire.specs.declared.fault.Fault.TheVariants as fault
 -- the exit status of each cause
 abbrev pub status_of : Detail → ℕ
 status_of Done = 0
+status_of (NotAccepted why) = 1
 status_of Words = 2
 status_of (BadInput file reason) = 3
 status_of (Read file) = 4
 status_of Write = 5
 status_of Memory = 6
 status_of (Limit what limit) = 7
+status_of (Steps limit) = 7
 
 abbrev pub detail_of : Fault → Detail
 detail_of fault.Words = Words
 detail_of (fault.Input file reason) = BadInput file reason
 detail_of (fault.Read file) = Read file
 detail_of (fault.Limit what limit) = Limit what limit
+detail_of (fault.Steps limit) = Steps limit
 
 -- How the writing of a journal ends: all is written, and it is done, or some line lacked memory; or a front is written, and the sink
 -- failed or memory ran out.
@@ -44,22 +52,23 @@ EndsRun input journal s t Done = (lacks_memory journal ≡ false) × WroteLines 
 EndsRun input journal s t Write = SentLines {X = Unit {0}} (lines_of input.script journal) s t (Err Failed)
 EndsRun input journal s t Memory = ((lacks_memory journal ≡ true) × WroteLines (lines_of input.script journal) s t)
     ⊎ SentLines {X = Unit {0}} (lines_of input.script journal) s t (Err NoRoom)
+EndsRun input journal s t (NotAccepted why) = ⊥
 EndsRun input journal s t Words = ⊥
 EndsRun input journal s t (BadInput file reason) = ⊥
 EndsRun input journal s t (Read file) = ⊥
 EndsRun input journal s t (Limit what limit) = ⊥
+EndsRun input journal s t (Steps limit) = ⊥
 
 -- how the writing of a fault's line ends
 abbrev pub EndsFault : Fault → SinkSeen → SinkSeen → Detail → Type 0
-EndsFault f s t detail = ((detail ≡ detail_of f) × WroteLines (fault_bytes f ∷ []) s t)
-    ⊎ ((detail ≡ Write) × SentLines {X = Unit {0}} (fault_bytes f ∷ []) s t (Err Failed))
-    ⊎ ((detail ≡ Memory) × SentLines {X = Unit {0}} (fault_bytes f ∷ []) s t (Err NoRoom))
+EndsFault f s t detail = EndsLine (fault_bytes f) (detail_of f) s t detail
 
--- how a run ends whose input wasn't read: with the line of its fault, or for want of memory with nothing
+-- how a command ends whose files weren't read: with the line of its fault, or for want of memory with nothing
 abbrev pub EndsStop : Stop Refusal → SinkSeen → SinkSeen → Detail → Type 0
 EndsStop (Refused refusal.Words) s t detail = EndsFault fault.Words s t detail
 EndsStop (Refused (refusal.Input file reason)) s t detail = EndsFault (fault.Input file reason) s t detail
 EndsStop (Refused (refusal.Limit what limit)) s t detail = EndsFault (fault.Limit what limit) s t detail
+EndsStop (Refused (refusal.Steps limit)) s t detail = EndsFault (fault.Steps limit) s t detail
 EndsStop (Unreadable file) s t detail = EndsFault (fault.Read file) s t detail
 EndsStop (TooLong file limit) s t detail = EndsFault (fault.Limit FileBytes limit) s t detail
 EndsStop NoMemory s t detail = (detail ≡ Memory) × (t ≡ s)
@@ -68,15 +77,50 @@ EndsStop NoMemory s t detail = (detail ≡ Memory) × (t ≡ s)
 -- of it.
 pub record Served (words : List (List ℕ)) (f g : FilesSeen) (s t : SinkSeen) (detail : Detail) (journal : Journal) : Type 0 where
   pub input : Input
-  pub read : Follows (plan_of words) f g (Ok input)
+  pub read : Follows (plan_of words) f g (Ok (task.Run input))
   pub legal : Legal input journal
   pub headline : Headline input journal
   pub written : EndsRun input journal s t detail
 
+-- what a run does with the input that was read: it serves the script, or memory runs out before writing and nothing is written
+abbrev pub RanInput : Input → SinkSeen → SinkSeen → Detail → Option Journal → Type 0
+RanInput input s t detail (Some journal) = Legal input journal × Headline input journal × EndsRun input journal s t detail
+RanInput input s t detail None = (detail ≡ Memory) × (t ≡ s)
+
+-- what a command does with what was read for it; a check has no journal
+abbrev pub RanTask : Task → SinkSeen → SinkSeen → Detail → Option Journal → Type 0
+RanTask (task.Run input) s t detail journal = RanInput input s t detail journal
+RanTask (task.Check proof) s t detail (Some journal) = ⊥
+RanTask (task.Check proof) s t detail None = EndsCheck proof s t detail
+
+-- A check: one proof was read, and the line of what it comes to was written, or a front of it; or memory ran out before writing.
+pub record Checked (words : List (List ℕ)) (f g : FilesSeen) (s t : SinkSeen) (detail : Detail) : Type 0 where
+  pub proof : Proof
+  pub read : Follows (plan_of words) f g (Ok (task.Check proof))
+  pub ends : EndsCheck proof s t detail
+
 -- With a journal the script was served.
--- Without one the input wasn't read, and the line of the fault was written, or a front of it; or memory ran out before writing, and
--- nothing was written.
+-- Without one a proof was checked; or the files weren't read, and the line of the fault was written, or a front of it; or memory ran out
+-- before writing, and nothing was written.
 abbrev pub Ran : List (List ℕ) → FilesSeen → FilesSeen → SinkSeen → SinkSeen → Detail → Option Journal → Type 0
 Ran words f g s t detail (Some journal) = Served words f g s t detail journal
 Ran words f g s t detail None = ((stop : Stop Refusal) × Follows (plan_of words) f g (Err stop) × EndsStop stop s t detail)
-    ⊎ ((input : Input) × Follows (plan_of words) f g (Ok input) × (detail ≡ Memory) × (t ≡ s))
+    ⊎ ((input : Input) × Follows (plan_of words) f g (Ok (task.Run input)) × (detail ≡ Memory) × (t ≡ s))
+    ⊎ Checked words f g s t detail
+
+-- ---- proofs
+
+-- A proof was read, of which this holds.
+pub record ReadsProof (words : List (List ℕ)) (f g : FilesSeen) (P : Proof → Type 0) : Type 0 where
+  pub proof : Proof
+  pub read : Follows (plan_of words) f g (Ok (task.Check proof))
+  pub holds : P proof
+
+-- without a journal, to be done is that the proof that was read is accepted
+abbrev pub Accepts : List (List ℕ) → FilesSeen → FilesSeen → Detail → Option Journal → Type 0
+Accepts words f g detail (Some journal) = ⊤
+Accepts words f g detail None = detail ≡ Done → ReadsProof words f g IsAccepted
+
+-- the proof that was read has the fault
+abbrev pub Rejects : List (List ℕ) → FilesSeen → FilesSeen → CheckFault → Type 0
+Rejects words f g why = ReadsProof words f g (λ proof. IsRejected proof why)

@@ -1,8 +1,8 @@
--- How the input that the words name is read.
+-- How what the words name is read.
 use Rattle.std.specs.Prelude.{ℕ, List, [], ◌∷◌, ◌++◌, Result, Ok, Err}
 use Rattle.ba_command.specs.Words.{command_of}
 use Rattle.ba_command.specs.declared.command.Command.{Command}
-use Rattle.ba_command.specs.declared.command.Command.TheVariants.{Run}
+use Rattle.ba_command.specs.declared.command.Command.TheVariants.{Run, Check}
 use Rattle.ba_command.specs.declared.command.WordsFault.{WordsFault}
 use Rattle.ba_command.specs.declared.command.WordsFault.TheVariants.{NoForm}
 use Rattle.ba_model.specs.Readings.{widened}
@@ -13,16 +13,22 @@ use Rattle.ba_model.specs.declared.value.Value.{Value}
 use Rattle.ba_model.specs.declared.limits.TheConstants.{MAX_FILE_BYTES}
 use Rattle.ba_plan.specs.Plan.{Plan, done, refuse, ask, found, ◌>>=◌}
 use Rattle.ba_policy.specs.Reading.{policy_of}
+use Rattle.ba_proof.specs.Reading.{proof_of}
+use Rattle.ba_proof.specs.declared.proof.Proof.{Proof}
 use Rattle.ba_script.specs.Reading.{script_of}
 use Rattle.ba_sql_ddl.specs.Reading.{schema_of}
 use Rattle.ba_tables.specs.Broken.{checked}
 use Rattle.ba_tables.specs.TableFile.{rows_of_file}
 use Rattle.ba_tables.specs.TableSet.{TableSet}
 use Rattle.ba_top.specs.Path.{path_of}
-use Rattle.ba_top.specs.Refusals.{broken_refusal, ddl_refusal, policy_refusal, script_refusal, table_refusal}
+use Rattle.ba_top.specs.Refusals.{broken_refusal, ddl_refusal, policy_refusal, proof_refusal, script_refusal, table_refusal}
 use Rattle.ba_top.specs.declared.report.Input.{Input}
 use Rattle.ba_top.specs.declared.report.Refusal.{Refusal}
 use Rattle.ba_top.specs.declared.report.Refusal.TheVariants.{Words}
+use Rattle.ba_top.specs.declared.report.Task.{Task}
+use Rattle.ba_top.specs.declared.report.Task.TheVariants as task
+
+-- ---- a run
 
 -- the names of the files, and of the table set, and the budget of a search
 pub record Names : Type 0 where
@@ -77,14 +83,53 @@ reading_of names = do
   schema ← found (widened (ddl_refusal names.schema) (schema_of bytes))
   policy_plan names schema
 
--- the number of workers has no effect on what is read
-abbrev pub command_plan : Command → Plan Refusal Input
-command_plan (Run schema policy tables script workers budget) = reading_of (record { schema = schema; policy = policy; tables = tables; script = script; budget = budget })
+-- ---- a check
 
-abbrev pub plan_at : Result Command WordsFault → Plan Refusal Input
+-- the names of the files of a check
+pub record ProofNames : Type 0 where
+  pub schema : List ℕ
+  pub policy : List ℕ
+  pub proof : List ℕ
+
+abbrev pub proof_plan : List ℕ → Policy → Plan Refusal Proof
+proof_plan name policy = do
+  bytes ← file_of name
+  found (widened (proof_refusal name) (proof_of policy bytes))
+
+abbrev pub policy_and_proof_plan : ProofNames → Schema → Plan Refusal Proof
+policy_and_proof_plan names schema = do
+  bytes ← file_of names.policy
+  policy ← found (widened (policy_refusal names.policy) (policy_of schema bytes))
+  proof_plan names.proof policy
+
+-- first the schema, then the policy, then the proof
+abbrev pub proof_reading_of : ProofNames → Plan Refusal Proof
+proof_reading_of names = do
+  bytes ← file_of names.schema
+  schema ← found (widened (ddl_refusal names.schema) (schema_of bytes))
+  policy_and_proof_plan names schema
+
+-- ---- the commands
+
+abbrev pub run_plan : Names → Plan Refusal Task
+run_plan names = do
+  input ← reading_of names
+  done (task.Run input)
+
+abbrev pub check_plan : ProofNames → Plan Refusal Task
+check_plan names = do
+  proof ← proof_reading_of names
+  done (task.Check proof)
+
+-- the number of workers has no effect on what is read
+abbrev pub command_plan : Command → Plan Refusal Task
+command_plan (Run schema policy tables script workers budget) = run_plan (record { schema = schema; policy = policy; tables = tables; script = script; budget = budget })
+command_plan (Check schema policy proof) = check_plan (record { schema = schema; policy = policy; proof = proof })
+
+abbrev pub plan_at : Result Command WordsFault → Plan Refusal Task
 plan_at (Err NoForm) = refuse Words
 plan_at (Ok command) = command_plan command
 
 -- the plan of the words
-abbrev pub plan_of : List (List ℕ) → Plan Refusal Input
+abbrev pub plan_of : List (List ℕ) → Plan Refusal Task
 plan_of words = plan_at (command_of words)

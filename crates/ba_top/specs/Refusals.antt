@@ -5,10 +5,13 @@ use Rattle.ba_lex.specs.declared.token.LexFault.TheVariants as lex
 use Rattle.ba_model.specs.declared.check_schema.SchemaFault.{SchemaFault}
 use Rattle.ba_model.specs.declared.check_schema.SchemaFault.TheVariants as tables
 use Rattle.ba_model.specs.declared.schema.Schema.{Schema}
-use Rattle.ba_model.specs.declared.limits.TheConstants.{MAX_TEXT_BYTES}
+use Rattle.ba_model.specs.declared.limits.TheConstants.{MAX_BUDGET, MAX_TEXT_BYTES}
 use Rattle.ba_model.specs.declared.limits.Counted.TheVariants as what
 use Rattle.ba_policy.specs.declared.error.PolicyFault.{PolicyFault}
 use Rattle.ba_policy.specs.declared.error.PolicyFault.TheVariants as policy
+use Rattle.ba_proof.specs.Shapes.{field_name}
+use Rattle.ba_proof.specs.declared.fault.ProofFault.{ProofFault}
+use Rattle.ba_proof.specs.declared.fault.ProofFault.TheVariants as proof
 use Rattle.ba_script.specs.declared.fault.ScriptFault.{ScriptFault}
 use Rattle.ba_script.specs.declared.fault.ScriptFault.TheVariants.{BadLine, TooMany}
 use Rattle.ba_sql_ddl.specs.declared.fault.DdlFault.{DdlFault}
@@ -21,7 +24,7 @@ use Rattle.ba_tables.specs.declared.fault.TableFault.{TableFault}
 use Rattle.ba_tables.specs.declared.fault.TableFault.TheVariants as table
 use Rattle.ba_top.specs.Path.{path_of}
 use Rattle.ba_top.specs.declared.report.Refusal.{Refusal}
-use Rattle.ba_top.specs.declared.report.Refusal.TheVariants.{Input, Limit}
+use Rattle.ba_top.specs.declared.report.Refusal.TheVariants.{Input, Limit, Steps}
 use Rattle.ba_wire.specs.declared.fault.Reason.TheVariants as reason
 
 -- a fault that query texts have too
@@ -86,3 +89,10 @@ broken_refusal set schema (LinkBroken it link row) = Input (file_of_table set sc
 unfoldable pub script_refusal : List ℕ → ScriptFault → Refusal
 script_refusal file (BadLine line fault) = Input file (reason.Line line fault)
 script_refusal file (TooMany it limit) = Limit it limit
+
+-- ---- the proof
+
+unfoldable pub proof_refusal : List ℕ → ProofFault → Refusal
+proof_refusal file proof.BadJson = Input file reason.Json
+proof_refusal file proof.TooLong = Steps MAX_BUDGET
+proof_refusal file (proof.BadField field) = Input file (reason.Field (field_name field))

@@ -1,4 +1,4 @@
-//! Reads the input that the words name.
+//! Reads what the words name.
 ghost use Rattle.std.specs.Prelude.{◌≡◌, ◌≤◌, [], All, IfOk, map, string_bytes, Err};
 ghost use Rattle.ba_command.specs.Words.{budget_of};
 ghost use Rattle.ba_model.specs.Conform.{RowFits};
@@ -13,14 +13,16 @@ ghost use Rattle.ba_script.specs.Scripts.{IsScript};
 ghost use Rattle.ba_sql_ddl.specs.Reading.{schema_of};
 ghost use Rattle.ba_tables.specs.Broken.{checked};
 ghost use Rattle.ba_tables.specs.TableFile.{rows_of_file};
+ghost use Rattle.ba_top.specs.Checking.{IsTask};
 ghost use Rattle.ba_top.specs.Legal.{IsInput, RowsOfTables};
-ghost use Rattle.ba_top.specs.Reading.{command_plan, plan_of, reading_of, rows_plan, script_plan, table_plan, tables_plan};
+ghost use Rattle.ba_top.specs.Reading.{command_plan, plan_of, reading_of, rows_plan, run_plan, script_plan, table_plan, tables_plan};
 ghost use Rattle.ba_top.specs.Refusals.{broken_refusal, ddl_refusal, policy_refusal, script_refusal, table_refusal};
 
+use crate::proof_input::{NamedProof, read_check};
 use crate::refusal::{
     broken_refusal, ddl_refusal, path, policy_refusal, script_refusal, table_refusal,
 };
-use crate::report::{Input, Refusal};
+use crate::report::{Input, Refusal, Task};
 use ba_command::{Command, WordsFault, read_words};
 use ba_model::{
     Failure, List, MAX_FILE_BYTES, Parameter, Policy, Row, RowSet, Schema, Shared, Str, Table,
@@ -43,7 +45,12 @@ struct Named<'a> {
     budget: u32,
 }
 
-fn schema_at(alloc: Global, file: &str, bytes: &List<u8>) -> Result<Shared<Schema>, Stop<Refusal>>
+/// The schema of a file's bytes.
+pub(crate) fn schema_at(
+    alloc: Global,
+    file: &str,
+    bytes: &List<u8>,
+) -> Result<Shared<Schema>, Stop<Refusal>>
     ensures reads { Gives result (widened (ddl_refusal file.now) (schema_of bytes.now)) }
     ensures tables { IfOk result (λ schema. AreTables schema.tables) }
     ensures rules { IfOk result (λ schema. schema.rules ≡ []) }
@@ -58,7 +65,8 @@ fn schema_at(alloc: Global, file: &str, bytes: &List<u8>) -> Result<Shared<Schem
     }
 }
 
-fn policy_at(
+/// The policy of a file's bytes.
+pub(crate) fn policy_at(
     alloc: Global,
     file: &str,
     schema: &Shared<Schema>,
@@ -243,15 +251,35 @@ fn read_named<F: Files>(
     read_rest(alloc, files, named.script, named.budget, policy, tables)
 }
 
+fn read_run<F: Files>(
+    alloc: Global,
+    files: &mut F,
+    named: &Named<'_>,
+) -> Result<Task, Stop<Refusal>>
+    requires budget { named.now.budget ≤ most_budget }
+    ensures follows { Follows (run_plan (record {
+      schema = named.now.schema.now;
+      policy = named.now.policy.now;
+      tables = named.now.tables.now;
+      script = named.now.script.now;
+      budget = named.now.budget;
+    }))
+        (F.seen files.old) (F.seen files.new) result }
+    ensures task { IfOk result IsTask }
+{
+    let input = read_named(alloc, files, named)?;
+    Ok(Task::Run(input))
+}
+
 fn read_command<F: Files>(
     alloc: Global,
     command: &Command,
     files: &mut F,
-) -> Result<Input, Stop<Refusal>>
+) -> Result<Task, Stop<Refusal>>
     requires budget { budget_of command.now ≤ most_budget }
     ensures follows { Follows (command_plan command.now)
         (F.seen files.old) (F.seen files.new) result }
-    ensures input { IfOk result IsInput }
+    ensures task { IfOk result IsTask }
 {
     match command {
         Command::Run {
@@ -269,20 +297,32 @@ fn read_command<F: Files>(
                 script: script.as_str(),
                 budget: *budget,
             };
-            read_named(alloc, files, &named)
+            read_run(alloc, files, &named)
+        }
+        Command::Check {
+            schema,
+            policy,
+            proof,
+        } => {
+            let named = NamedProof {
+                schema: schema.as_str(),
+                policy: policy.as_str(),
+                proof: proof.as_str(),
+            };
+            read_check(alloc, files, &named)
         }
     }
 }
 
-/// Reads the input that the words name: each file once, in order, up to the first fault.
-pub(crate) fn read_input<F: Files>(
+/// Reads what the words name: each file once, in order, up to the first fault.
+pub(crate) fn read_task<F: Files>(
     alloc: Global,
     words: &[String],
     files: &mut F,
-) -> Result<Input, Stop<Refusal>>
+) -> Result<Task, Stop<Refusal>>
     ensures follows { Follows (plan_of (map string_bytes words.now))
         (F.seen files.old) (F.seen files.new) result }
-    ensures input { IfOk result IsInput }
+    ensures task { IfOk result IsTask }
 {
     match read_words(alloc, words) {
         Ok(command) => read_command(alloc, &command, files),

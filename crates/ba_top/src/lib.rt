@@ -1,14 +1,16 @@
-//! The top call: words name a schema, a policy, a table set and a script, and each question of the script is answered or
-//! blocked, a line each.
+//! The top call. Words name a schema, a policy, a table set and a script, and each question of the script is answered or
+//! blocked, a line each. Or they name a schema, a policy and a proof, and one line says whether it is accepted.
 #![tactic(auto)]
 
+mod checking;
 mod input;
 mod print;
+mod proof_input;
 mod refusal;
 mod report;
 mod serve;
 mod summary;
 mod top;
 
-pub use report::{Detail, Entry, Input, Journal, Outcome, Refusal};
+pub use report::{Detail, Entry, Input, Journal, Outcome, Refusal, Task};
 pub use top::blockaid;

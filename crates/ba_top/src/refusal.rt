@@ -2,12 +2,13 @@
 ghost use Rattle.std.specs.Prelude.{◌≡◌, Err, IfOk, string_bytes};
 ghost use Rattle.ba_plan.specs.Follows.{Gives};
 ghost use Rattle.ba_top.specs.Path.{path_of};
-ghost use Rattle.ba_top.specs.Refusals.{broken_refusal, ddl_refusal, file_of_table, lex_fault, policy_refusal, schema_fault, script_refusal, table_refusal, text_fault};
+ghost use Rattle.ba_top.specs.Refusals.{broken_refusal, ddl_refusal, file_of_table, lex_fault, policy_refusal, proof_refusal, schema_fault, script_refusal, table_refusal, text_fault};
 
 use crate::report::Refusal;
 use ba_lex::LexFault;
-use ba_model::{Counted, MAX_TEXT_BYTES, Schema, SchemaFault, Str};
+use ba_model::{Counted, MAX_BUDGET, MAX_TEXT_BYTES, Schema, SchemaFault, Str};
 use ba_policy::PolicyFault;
+use ba_proof::ProofFault;
 use ba_script::ScriptFault;
 use ba_sql_ddl::DdlFault;
 use ba_sql_query::ReadQueryFault;
@@ -158,5 +159,30 @@ pub(crate) fn script_refusal(file: Str, fault: ScriptFault) -> Refusal
             reason: Reason::Line { line, reason },
         },
         ScriptFault::TooMany { what, limit } => Refusal::Limit { what, limit },
+    }
+}
+
+/// A proof's fault.
+#[tactic(auto, unfolding(crate::specs::Refusals::proof_refusal))]
+pub(crate) fn proof_refusal(
+    alloc: Global,
+    file: Str,
+    fault: ProofFault,
+) -> Result<Refusal, AllocError>
+    ensures { IfOk result (λ refusal. refusal ≡ proof_refusal file fault) }
+{
+    match fault {
+        ProofFault::BadJson => Ok(Refusal::Input {
+            file,
+            reason: Reason::Json,
+        }),
+        ProofFault::TooLong => Ok(Refusal::Steps { limit: MAX_BUDGET }),
+        ProofFault::BadField(field) => {
+            let name = Str::new(alloc, field.name())?;
+            Ok(Refusal::Input {
+                file,
+                reason: Reason::Field { name },
+            })
+        }
     }
 }

@@ -1,12 +1,13 @@
-//! What a run reads, does and answers.
+//! What a command reads, does and answers.
 
 use ba_model::{Counted, List, Policy, Shared, Str};
+use ba_proof::{CheckFault, Proof};
 use ba_script::Script;
 use ba_session::Reply;
 use ba_tables::Tables;
 use ba_wire::Reason;
 
-/// What the words name, once it is read.
+/// What the words of a run name, once it is read.
 #[derive(Debug, Drop)]
 pub struct Input {
     pub policy: Shared<Policy>,
@@ -14,6 +15,15 @@ pub struct Input {
     pub script: Script,
     /// How many steps the search for a question's proof may take.
     pub budget: u32,
+}
+
+/// What is done, with what was read for it.
+#[derive(Debug, Drop)]
+pub enum Task {
+    /// The questions of a script are answered or blocked.
+    Run(Input),
+    /// A proof is checked.
+    Check(Proof),
 }
 
 /// What became of a line of the script. Requests and versions of the tables are numbered from 0.
@@ -48,13 +58,17 @@ pub enum Refusal {
     Input { file: Str, reason: Reason },
     /// A count of a file above its limit.
     Limit { what: Counted, limit: u64 },
+    /// A proof of more steps than the limit.
+    Steps { limit: u64 },
 }
 
-/// How a run ended.
+/// How a command ended.
 #[derive(Debug, Drop)]
 pub enum Detail {
-    /// The input was read to its end, and no line lacked memory.
+    /// The input was read to its end, and no line lacked memory; or the proof that was read is accepted.
     Done,
+    /// The proof that was read isn't accepted.
+    NotAccepted(CheckFault),
     /// The words are no command's form.
     Words,
     /// A file without a reading, or one whose rows break a key or a link.
@@ -67,9 +81,11 @@ pub enum Detail {
     Memory,
     /// A count above its limit.
     Limit { what: Counted, limit: u64 },
+    /// A proof of more steps than the limit.
+    Steps { limit: u64 },
 }
 
-/// What the top call answers: the exit status, its cause, and the journal where lines were answered.
+/// What the top call answers: the exit status, its cause, and the journal where lines were answered. A check has none.
 #[derive(Drop)]
 pub struct Outcome {
     pub status: u8,

@@ -4,13 +4,17 @@ ghost use Rattle.ba_model.specs.declared.limits.Counted.{Counted};
 ghost use Rattle.ba_outside.specs.Causes.{Rose};
 ghost use Rattle.ba_plan.specs.Ends.{AsksFront, FailedAt};
 ghost use Rattle.ba_plan.specs.Plan.{names_of, outcome_of};
-ghost use Rattle.ba_top.specs.Causes.{IsLimit, Tells, settled};
-ghost use Rattle.ba_top.specs.Ran.{EndsFault, EndsRun, EndsStop, Ran, Served, detail_of, status_of};
+ghost use Rattle.ba_proof.specs.declared.checking.CheckFault.{CheckFault};
+ghost use Rattle.ba_top.specs.Causes.{ComesTo, IsLimit, IsStepLimit, Tells};
+ghost use Rattle.ba_top.specs.Checking.{IsTask};
+ghost use Rattle.ba_top.specs.Legal.{IsInput};
+ghost use Rattle.ba_top.specs.Ran.{Accepts, EndsFault, EndsRun, EndsStop, Ran, RanInput, RanTask, Rejects, Served, detail_of, status_of};
 ghost use Rattle.ba_top.specs.Reading.{plan_of};
 
-use crate::input::read_input;
+use crate::checking::end_check;
+use crate::input::read_task;
 use crate::print::{print, print_fault};
-use crate::report::{Detail, Input, Journal, Outcome, Refusal};
+use crate::report::{Detail, Input, Journal, Outcome, Refusal, Task};
 use crate::serve::serve;
 use crate::summary::has_memory_line;
 use ba_model::Counted;
@@ -24,12 +28,13 @@ fn status(detail: &Detail) -> u8
 {
     match detail {
         Detail::Done => 0,
+        Detail::NotAccepted(_) => 1,
         Detail::Words => 2,
         Detail::Input { .. } => 3,
         Detail::Read { .. } => 4,
         Detail::Write => 5,
         Detail::Memory => 6,
-        Detail::Limit { .. } => 7,
+        Detail::Limit { .. } | Detail::Steps { .. } => 7,
     }
 }
 
@@ -41,6 +46,7 @@ fn detail(fault: Fault) -> Detail
         Fault::Input { file, reason } => Detail::Input { file, reason },
         Fault::Read { file } => Detail::Read { file },
         Fault::Limit { what, limit } => Detail::Limit { what, limit },
+        Fault::Steps { limit } => Detail::Steps { limit },
     }
 }
 
@@ -81,6 +87,7 @@ fn end_stop<S: Sink>(alloc: Global, stop: Stop<Refusal>, sink: &mut S) -> Detail
                 end_fault(alloc, Fault::Input { file, reason }, sink)
             }
             Refusal::Limit { what, limit } => end_fault(alloc, Fault::Limit { what, limit }, sink),
+            Refusal::Steps { limit } => end_fault(alloc, Fault::Steps { limit }, sink),
         },
         Stop::Read(file) => end_fault(alloc, Fault::Read { file }, sink),
         Stop::TooLong(_, limit) => {
@@ -88,6 +95,38 @@ fn end_stop<S: Sink>(alloc: Global, stop: Stop<Refusal>, sink: &mut S) -> Detail
             end_fault(alloc, Fault::Limit { what, limit }, sink)
         }
         Stop::NoMemory => Detail::Memory,
+    }
+}
+
+// Serves the script, and writes its lines.
+fn run_input<S: Sink, G: Gate>(
+    alloc: Global,
+    input: &Input,
+    sink: &mut S,
+    gate: &G,
+) -> (Detail, Option<Journal>)
+    requires { IsInput input.now }
+    ensures { RanInput input.now (S.seen sink.old) (S.seen sink.new) result.0 result.1 }
+{
+    match serve(alloc, input, gate) {
+        Ok(journal) => (end_run(alloc, input, &journal, sink), Some(journal)),
+        Err(_) => (Detail::Memory, None),
+    }
+}
+
+// Does what is to be done with what was read.
+fn end_task<S: Sink, G: Gate>(
+    alloc: Global,
+    task: Task,
+    sink: &mut S,
+    gate: &G,
+) -> (Detail, Option<Journal>)
+    requires { IsTask task }
+    ensures { RanTask task (S.seen sink.old) (S.seen sink.new) result.0 result.1 }
+{
+    match task {
+        Task::Run(input) => run_input(alloc, &input, sink, gate),
+        Task::Check(proof) => (end_check(alloc, proof, sink), None),
     }
 }
 
@@ -101,23 +140,26 @@ fn run<F: Files, S: Sink, G: Gate>(
     ensures { Ran (map string_bytes words.now) (F.seen files.old) (F.seen files.new)
         (S.seen sink.old) (S.seen sink.new) result.0 result.1 }
 {
-    match read_input(alloc, words, files) {
-        Ok(input) => match serve(alloc, &input, gate) {
-            Ok(journal) => (end_run(alloc, &input, &journal, sink), Some(journal)),
-            Err(_) => (Detail::Memory, None),
-        },
+    match read_task(alloc, words, files) {
+        Ok(task) => end_task(alloc, task, sink, gate),
         Err(stop) => (end_stop(alloc, stop, sink), None),
     }
 }
 
-/// Does what the words say: `run --schema S --policy P --tables D --script F [--workers N] [--budget B]`.
+/// Does what the words say.
 ///
-/// Reads the schema S, the policy P, the file D/T.csv of each table T in the schema's order and the script F, each once; then answers
-/// or blocks each question of the script; then writes a line for each line of the script, in order, and the summary. A question is
-/// answered where single views of the policy cover it under its request's context, or where at most B due steps prove that it is
-/// strongly compliant after what its request was told (Blockaid, OSDI 2022); else it is blocked, with a reason.
+/// `run --schema S --policy P --tables D --script F [--workers N] [--budget B]` reads the schema S, the policy P, the file D/T.csv of each
+/// table T in the schema's order and the script F, each once; then answers or blocks each question of the script; then writes a line for each
+/// line of the script, in order, and the summary. A question is answered where single views of the policy cover it under its request's
+/// context, or where at most B due steps prove that it is strongly compliant after what its request was told (Blockaid, OSDI 2022); else it
+/// is blocked, with a reason.
 ///
-/// The first fault ends the run with one fault line: words of another form (status 2), a file that has no reading, or rows that break
+/// `check --schema S --policy P --proof F` reads the schema S, the policy P and the proof F, each once; then takes the proof's steps, one
+/// after another; then writes one line. The proof is accepted where each step is and no branch is left open (status 0); then its question is
+/// strongly compliant under its context and after its rows. Else the line tells the first step that isn't accepted and why, or how many
+/// branches are open (status 1).
+///
+/// The first fault ends a command with one fault line: words of another form (status 2), a file that has no reading, or rows that break
 /// a key or a link (3), a file that can't be read (4), a count above its limit (7). A write that fails ends it with status 5, want
 /// of memory with 6.
 pub fn blockaid<F: Files, S: Sink, G: Gate + Sync>(
@@ -139,12 +181,23 @@ pub fn blockaid<F: Files, S: Sink, G: Gate + Sync>(
     ensures run { Ran (map string_bytes words.now) (F.seen files.old) (F.seen files.new)
         (S.seen sink.old) (S.seen sink.new) result.detail result.journal }
 
+    // A check that is done has read a proof whose steps are all accepted and leave no branch open; and so its question is strongly
+    // compliant under its context and after its rows.
+    ensures accepted { Accepts (map string_bytes words.now) (F.seen files.old) (F.seen files.new)
+        result.detail result.journal }
+    // One that isn't accepted has read a proof that has the fault, and so is none.
+    ensures rejected { (fault : CheckFault) → result.detail ≡ Detail.NotAccepted fault
+        → Rejects (map string_bytes words.now) (F.seen files.old) (F.seen files.new) fault }
+
     // A read fault names the last name asked for, and the files' count rose.
     ensures read { (file : List ℕ) → result.detail ≡ Detail.Read file
         → FailedAt file (F.seen files.old) (F.seen files.new) }
     // A count above its limit is one of what was read, or of the bytes of the last name asked for.
     ensures limit { (what : Counted) (limit : ℕ) → result.detail ≡ Detail.Limit what limit
         → IsLimit (map string_bytes words.now) what limit (F.seen files.old) (F.seen files.new) }
+    // More steps than the limit are those of the proof that was read.
+    ensures steps { (limit : ℕ) → result.detail ≡ Detail.Steps limit
+        → IsStepLimit (map string_bytes words.now) limit (F.seen files.old) (F.seen files.new) }
     // A write fault comes only where the sink's count rose.
     ensures write { result.detail ≡ Detail.Write
         → Rose (S.seen sink.old).faults (S.seen sink.new).faults }
@@ -161,7 +214,7 @@ pub fn blockaid<F: Files, S: Sink, G: Gate + Sync>(
         ¬ Rose (F.seen files.old).faults (F.seen files.new).faults
         → ¬ Rose (S.seen sink.old).faults (S.seen sink.new).faults
         → (result.detail ≡ Detail.Memory)
-        ⊎ (result.detail ≡ settled (outcome_of contents (plan_of (map string_bytes words.now))))) }
+        ⊎ ComesTo (outcome_of contents (plan_of (map string_bytes words.now))) result.detail) }
 {
     let (detail, journal) = run(alloc, words, files, sink, gate);
     Outcome {

@@ -1,6 +1,6 @@
 use Rattle.std.proofs.Common.{map, string_bytes}
 use Rattle.ba_top.proofs.HeadlineLemmas.{ran_headline}
-use Rattle.ba_top.proofs.Runs.{if_told, ran_asked, ran_complete, ran_limit, ran_read, ran_told, ran_write}
+use Rattle.ba_top.proofs.Runs.{if_told, ran_accepted, ran_asked, ran_complete, ran_limit, ran_read, ran_rejected, ran_steps, ran_told, ran_write}
 use Rattle.ba_top.proofs.top.blockaid.Goals as goal
 
 pub returns-clause-read : goal.returns-clause-read
@@ -8,6 +8,15 @@ returns-clause-read g c = ran_read (map string_bytes c.args.words.now) _ _ _ _ _
 
 pub returns-clause-limit : goal.returns-clause-limit
 returns-clause-limit g c = ran_limit (map string_bytes c.args.words.now) _ _ _ _ _ _ c.run-detail.ensures
+
+pub returns-clause-accepted : goal.returns-clause-accepted
+returns-clause-accepted g c = ran_accepted (map string_bytes c.args.words.now) _ _ _ _ _ _ c.run-detail.ensures
+
+pub returns-clause-rejected : goal.returns-clause-rejected
+returns-clause-rejected g c = ran_rejected (map string_bytes c.args.words.now) _ _ _ _ _ _ c.run-detail.ensures
+
+pub returns-clause-steps : goal.returns-clause-steps
+returns-clause-steps g c = ran_steps (map string_bytes c.args.words.now) _ _ _ _ _ _ c.run-detail.ensures
 
 pub returns-clause-write : goal.returns-clause-write
 returns-clause-write g c = ran_write (map string_bytes c.args.words.now) _ _ _ _ _ _ c.run-detail.ensures
