@@ -1,0 +1,8 @@
+//! The versions of the tables, as a value with a history that threads may share by a turn.
+#![tactic(auto)]
+
+mod call;
+mod versions;
+
+pub use call::VersionCall;
+pub use versions::Versions;
