@@ -53,7 +53,10 @@ fn title_by_template(rt: HostRuntime) {
         asked(&rt, &mut core, &title, by_template(&rt, 0, 0)).as_str() == "NoTemplate",
         "none was admitted"
     );
-    assert!(rt; core.admit(template).expect(&rt, "memory") == 0, "the first");
+    assert!(rt;
+        core.admit(template).expect(&rt, "memory") == 0,
+        "the first"
+    );
     assert!(rt;
         asked(&rt, &mut core, &title, by_template(&rt, 0, 1)).as_str() == "Unfit",
         "no such entry"
