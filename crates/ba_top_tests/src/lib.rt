@@ -4,19 +4,19 @@
 ghost use Rattle.std.specs.Prelude.{◌≡◌, ◌⊎◌, map, string_bytes};
 ghost use Rattle.ba_outside.specs.MemFiles.{held_or_empty};
 ghost use Rattle.ba_plan.specs.Plan.{outcome_of};
-ghost use Rattle.ba_top.specs.Causes.{settled};
+ghost use Rattle.ba_top.specs.Causes.{ComesTo};
 ghost use Rattle.ba_top.specs.Reading.{plan_of};
 
 use ba_outside::{FreeGate, Held, SureFiles, SureSink};
 use ba_top::{Detail, Outcome, blockaid};
 use std::alloc::Global;
 
-/// Over files and a sink that never fail, a run comes to what its words and files come to, or memory runs out.
+/// Over files and a sink that never fail, a command comes to what its words and files come to, or memory runs out.
 ///
 /// A name that isn't held reads as an empty file.
 pub fn sure_run(alloc: Global, words: &[String], held: Vec<Held>) -> Outcome
     ensures { (result.detail ≡ Detail.Memory)
-        ⊎ (result.detail ≡ settled (outcome_of (held_or_empty held.items) (plan_of (map string_bytes words.now)))) }
+        ⊎ ComesTo (outcome_of (held_or_empty held.items) (plan_of (map string_bytes words.now))) result.detail }
 {
     let mut files = SureFiles::new(alloc, held);
     let mut sink = SureSink::new(alloc);

@@ -1,4 +1,6 @@
 // Runs that no case of files can show: reads and writes that fail, want of memory, huge files, the sure forms.
+mod checks;
+
 use crate::sure_run;
 use ba_outside::{Files, FreeGate, Held, MemFiles, MemSink, Sink, WriteFail};
 use ba_top::{Detail, blockaid};
