@@ -1,4 +1,4 @@
-//! Tests of what threads share: the versions of the tables.
+//! Tests of what threads share: the versions of the tables, and shelves of templates.
 #![tactic(auto)]
 
 #[cfg(test)]

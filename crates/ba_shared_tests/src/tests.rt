@@ -1,1 +1,3 @@
+mod shelves;
+mod templates;
 mod versions;
