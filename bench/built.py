@@ -8,13 +8,19 @@ import subprocess
 HOME = pathlib.Path(__file__).resolve().parent.parent
 
 
-def build(root: pathlib.Path, name: str, uses: str, crates: list[str], words: list[str]) -> pathlib.Path:
-    """Copies the crates and the program bench/NAME.txt below root, runs it once with `rt run`, and gives its path."""
+def build(
+    root: pathlib.Path, name: str, uses: str, crates: list[str], words: list[str], proofs: dict[str, str] | None = None
+) -> pathlib.Path:
+    """Copies the crates and the program bench/NAME.txt below root, runs it once with `rt run`, and gives its path.
+    `proofs` gives for each proof file of the program the text in bench/ that it is."""
     for crate in crates:
         shutil.copytree(HOME / "crates" / crate, root / "crates" / crate, symlinks=True)
     home = root / "crates" / name
     (home / "src").mkdir(parents=True)
     shutil.copy(HOME / "bench" / f"{name}.txt", home / "src" / "main.rt")
+    for path, text in (proofs or {}).items():
+        (home / path).parent.mkdir(parents=True, exist_ok=True)
+        shutil.copy(HOME / "bench" / text, home / path)
     lines = (HOME / "crates.txt").read_text().splitlines()
     kept = [line for line in lines if line.split(":")[0] in crates]
     (root / "crates.txt").write_text("\n".join(kept) + f"\n{name}: {uses}\n")
