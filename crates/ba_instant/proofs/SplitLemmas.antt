@@ -120,9 +120,13 @@ module _ (c : Course) (pick : Pick) where
           let match_ = All-contains (IsMatch b side part) found e.1 are.sound (e.0, e.2, e.3) in
           (((e.4).1).0, ((e.4).1).1, (e.1).facts, record { live = match_.live; head = (e.4).0; stands = ((e.4).1).2 }))
           (λ step e is.
-          let at = contains_map (λ (it : Mapping). it.facts) found e.2 (are.complete e.2 (e.3).live) in
-          (at.0, at.1, at.2, at.3,
-          (subst (λ facts. HeadIs b part facts row) (sym at.4) (e.3).head, (e.0, e.1, subst (λ facts. Any (GivesAtom (map (terms_at b) facts) e.0) part.conds) (sym at.4) (e.3).stands)))) h
+          let at = contains_map (λ (it : Mapping). it.facts) found e.2 (are.complete e.2 (e.3).live) in (
+            at.0,
+            at.1,
+            at.2,
+            at.3,
+            (subst (λ facts. HeadIs b part facts row) (sym at.4) (e.3).head, (e.0, e.1, subst (λ facts. Any (GivesAtom (map (terms_at b) facts) e.0) part.conds) (sym at.4) (e.3).stands)),
+          )) h
 
       -- no atom of a part that has only equations is split
       pub split_none : (open_ : IsOpen c.slots n b) (side : Side) (part : Part) (row : Option (List Term)) (old : Option Batch) → AreEquations part.conds →
