@@ -6,6 +6,7 @@ pub mod OrderOfListsLemmas
 pub mod PlaceLemmas
 pub mod SearchingLemmas
 pub mod RoundLemmas
+pub mod FrontLemmas
 pub mod StrongLemmas
 pub mod UnknownLemmas
 pub mod ValueLemmas

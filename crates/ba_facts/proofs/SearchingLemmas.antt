@@ -39,7 +39,7 @@ column_kept : (o p : Option (List Term)) (k : ℕ) (t : Term) → ((row : List T
 column_kept None p k t f e = cc
 column_kept (Some row) p k t f e = rw (f row refl) e
 
-term_kept : (rows more : List (List Term)) (x : Operand) (t : Term) → term_of rows x ≡ Some t → term_of (rows ++ more) x ≡ Some t
+pub term_kept : (rows more : List (List Term)) (x : Operand) (t : Term) → term_of rows x ≡ Some t → term_of (rows ++ more) x ≡ Some t
 term_kept rows more (Col p k) t e = column_kept (slice_get rows p) (slice_get (rows ++ more) p) k t (get_kept rows more p) e
 term_kept rows more (Val v) t e = e
 term_kept rows more (Param n) t e = e

@@ -1,5 +1,5 @@
 -- What a search through the tables of a part finds, from the facts that it has chosen so far.
-use Rattle.std.specs.Prelude.{◌≡◌, ℕ, ◌+◌, ◌<◌, List, [], ◌∷◌, ◌++◌, All, Any, Contains, Option, Some, None, length, map, max, min}
+use Rattle.std.specs.Prelude.{◌≡◌, ◌≢◌, ◌⊎◌, ℕ, ◌+◌, ◌<◌, List, [], ◌∷◌, ◌++◌, All, Any, Contains, Option, Some, None, length, map, max, min}
 use Rattle.std.specs.List.{AllZip}
 use Rattle.std.specs.List.Sorted.{IsStrictlySortedBy}
 use Rattle.std.specs.Ordering.{nat_cmp}
@@ -10,7 +10,7 @@ use Rattle.ba_model.specs.declared.query.Operand.{Operand}
 use Rattle.ba_model.specs.declared.query.Operand.TheVariants.{Col, Val, Param, Var}
 use Rattle.ba_model.specs.declared.query.Part.{Part}
 use Rattle.ba_facts.specs.Known.{Known}
-use Rattle.ba_facts.specs.Matches.{AreTheSame, GivesAtom, HeadIs, IsFactOf, IsLiveOf, IsMapping, IsUndecided, Under, row_of, terms_at}
+use Rattle.ba_facts.specs.Matches.{AreTheSame, GivesAtom, HeadIs, IsFactOf, IsLiveOf, IsMapping, IsUndecided, Under, row_of, term_of, terms_at}
 use Rattle.ba_facts.specs.Shown.{ShowsOf}
 use Rattle.ba_facts.specs.declared.branch.Branch.{Branch}
 use Rattle.ba_facts.specs.declared.matches.search.Wanted.{Wanted}
@@ -85,6 +85,26 @@ pub record IsAnsweredBelow (b : Branch) (side : Side) (part : Part) (wanted : Wa
   pub facts : List ℕ
   pub completes : CompletesBelow b side part wanted table from chosen bound facts
   pub head : AllZip (AreTheSame b.known) (row_of b facts part.head) row
+
+-- ---- what can't come any more
+
+-- the term is there, and isn't the same as the other
+abbrev pub IsOther : Known → Option Term → Option Term → Type 0
+IsOther k own other = (own ≢ None) × ¬ (AreTheSame k own other)
+
+-- whatever facts follow the chosen ones, the operands don't stand for terms that are the same as the row's
+abbrev pub IsNoFront : Branch → List Operand → List (Option Term) → List ℕ → Type 0
+IsNoFront b operands row chosen = (rest : List ℕ) → ¬ (AllZip (AreTheSame b.known) (row_of b (chosen ++ rest) operands) row)
+
+-- the operand stands for this very term, or for none yet
+abbrev pub MayStandFor : List (List Term) → Operand → Term → Type 0
+MayStandFor rows operand term = (term_of rows operand ≡ None) ⊎ (term_of rows operand ≡ Some term)
+
+-- each side may stand for that of the atom
+pub record MayGive (rows : List (List Term)) (atom : TermAtom) (cond : Atom) : Type 0 where
+  pub op : cond.op ≡ atom.op
+  pub left : MayStandFor rows cond.left atom.left
+  pub right : MayStandFor rows cond.right atom.right
 
 -- ---- the least round
 

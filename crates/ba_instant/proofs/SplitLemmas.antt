@@ -7,11 +7,12 @@ use Rattle.std.specs.Prelude.{Option, Some, None, slice_get}
 use Rattle.ba_model.specs.declared.query.Atom.{Atom}
 use Rattle.ba_model.specs.declared.query.Op.TheVariants.{Eq}
 use Rattle.ba_model.specs.declared.query.Part.{Part}
-use Rattle.ba_facts.specs.Matches.{AreMatches, GivesAtom, IsMatch, terms_at}
+use Rattle.ba_facts.specs.Matches.{AreMatches, GivesAtom, HeadIs, IsMatch, terms_at}
 use Rattle.ba_facts.specs.declared.branch.Branch.{Branch}
 use Rattle.ba_facts.specs.declared.term.Mapping.{Mapping}
 use Rattle.ba_facts.specs.declared.term.Side.{Side}
 use Rattle.ba_facts.specs.declared.term.Side.TheVariants.{One, Two}
+use Rattle.ba_facts.specs.declared.term.Term.{Term}
 use Rattle.ba_facts.specs.declared.term.TermAtom.{TermAtom}
 use Rattle.ba_kernel.specs.Courses.{IsOpen}
 use Rattle.ba_kernel.specs.News.{IsCandidate, IsOfNewKind}
@@ -22,7 +23,7 @@ use Rattle.ba_kernel.specs.declared.step.Step.TheVariants as steps
 use Rattle.ba_instant.proofs.ChaseLemmas.{new_on}
 use Rattle.ba_instant.proofs.OfferLemmas.{improves_as, improves_both, improves_next, improves_none}
 use Rattle.ba_instant.specs.Looks.{AreEquations}
-use Rattle.ba_instant.specs.Offers.{Improves, IsNewIn, IsSplitBy, IsSplitOfAtom, IsSplitOfConds, IsSplitOfPart, IsSplitOfParts, IsSplitOfRules, IsSplitOfSides, IsSplitOfViews, IsSplitStep, Upto}
+use Rattle.ba_instant.specs.Offers.{Improves, IsNewIn, IsSplitBy, IsSplitOfAtom, IsSplitOfConds, IsSplitOfFacts, IsSplitOfPart, IsSplitOfParts, IsSplitOfRules, IsSplitOfSides, IsSplitOfViews, IsSplitStep, Upto}
 use Rattle.ba_instant.specs.declared.batch.Batch.{Batch}
 use Rattle.ba_instant.specs.declared.order.Pick.{Pick}
 
@@ -100,22 +101,38 @@ module _ (c : Course) (pick : Pick) where
               let right : one.right ≡ other.right = some_inj _ one.right other.right h.right k.right in
               λ i. record { op = op i; left = left i; right = right i }
 
+      -- by the atoms over facts that give the row
+      pub split_facts : (facts : List ℕ) (part : Part) (row : Option (List Term)) (old new : Option Batch) → HeadIs b part facts row →
+          Improves c pick (IsSplitOfConds b n facts part.conds) old new → Improves c pick (IsSplitOfFacts b n part row facts) old new
+      split_facts facts part row old new head h =
+          improves_as c pick (IsSplitOfConds b n facts part.conds) (IsSplitOfFacts b n part row facts) old new (λ step e is. (head, e)) (λ step e is. e.1) h
+
+      -- none is offered where they don't give it
+      pub split_others : (facts : List ℕ) (part : Part) (row : Option (List Term)) (old : Option Batch) → (HeadIs b part facts row → ⊥) → Improves c pick (IsSplitOfFacts b n part row facts) old old
+      split_others facts part row old other = improves_none c pick (IsSplitOfFacts b n part row facts) old (λ step e new. absurd (other e.0))
+
       -- by the atoms of all live mappings
-      pub split_part : (side : Side) (part : Part) (found : List Mapping) (old new : Option Batch) → AreMatches b side part found →
-          Improves c pick (λ step. Any (λ m. IsSplitOfConds b n m.facts part.conds step) found) old new → Improves c pick (IsSplitOfPart b n side part) old new
-      split_part side part found old new are h =
-          improves_as c pick (λ step. Any (λ m. IsSplitOfConds b n m.facts part.conds step) found) (IsSplitOfPart b n side part) old new
+      pub split_part : (side : Side) (part : Part) (row : Option (List Term)) (found : List Mapping) (old new : Option Batch) → AreMatches b side part found →
+          Improves c pick (λ step. Any (λ m. IsSplitOfFacts b n part row m.facts step) found) old new → Improves c pick (IsSplitOfPart b n side row part) old new
+      split_part side part row found old new are h =
+          improves_as c pick (λ step. Any (λ m. IsSplitOfFacts b n part row m.facts step) found) (IsSplitOfPart b n side row part) old new
           (λ step e is.
           let match_ = All-contains (IsMatch b side part) found e.1 are.sound (e.0, e.2, e.3) in
-          ((e.4).0, (e.4).1, (e.1).facts, record { live = match_.live; head = tt; stands = (e.4).2 }))
+          (((e.4).1).0, ((e.4).1).1, (e.1).facts, record { live = match_.live; head = (e.4).0; stands = ((e.4).1).2 }))
           (λ step e is.
-          let at = contains_map (λ (it : Mapping). it.facts) found e.2 (are.complete e.2 (e.3).live) in
-          (at.0, at.1, at.2, at.3, (e.0, e.1, subst (λ facts. Any (GivesAtom (map (terms_at b) facts) e.0) part.conds) (sym at.4) (e.3).stands))) h
+          let at = contains_map (λ (it : Mapping). it.facts) found e.2 (are.complete e.2 (e.3).live) in (
+            at.0,
+            at.1,
+            at.2,
+            at.3,
+            (subst (λ facts. HeadIs b part facts row) (sym at.4) (e.3).head, (e.0, e.1, subst (λ facts. Any (GivesAtom (map (terms_at b) facts) e.0) part.conds) (sym at.4) (e.3).stands)),
+          )) h
 
       -- no atom of a part that has only equations is split
-      pub split_none : (open_ : IsOpen c.slots n b) (side : Side) (part : Part) (old : Option Batch) → AreEquations part.conds → Improves c pick (IsSplitOfPart b n side part) old old
-      split_none open_ side part old equations =
-          improves_none c pick (IsSplitOfPart b n side part) old
+      pub split_none : (open_ : IsOpen c.slots n b) (side : Side) (part : Part) (row : Option (List Term)) (old : Option Batch) → AreEquations part.conds →
+          Improves c pick (IsSplitOfPart b n side row part) old old
+      split_none open_ side part row old equations =
+          improves_none c pick (IsSplitOfPart b n side row part) old
           (λ step e new.
           let at = new_on c n b (steps.Split n e.0) open_ refl (subst (IsNewIn c) e.1 new) in
           let stands = (e.3).stands in
@@ -124,26 +141,26 @@ module _ (c : Course) (pick : Pick) where
           let kind : IsOfNewKind b.known Eq (e.0).left (e.0).right = subst (λ op. IsOfNewKind b.known op (e.0).left (e.0).right) (sym of.op ∙ eq) at.tells.kind in
           absurd kind)
 
-      pub split_sides : (parts : List Part) (old mid new : Option Batch) → Improves c pick (IsSplitOfParts b n One parts) old mid → Improves c pick (IsSplitOfParts b n Two parts) mid new →
+      pub split_sides : (parts : List Part) (old mid new : Option Batch) → Improves c pick (IsSplitOfParts b n One None parts) old mid → Improves c pick (IsSplitOfParts b n Two None parts) mid new →
           Improves c pick (IsSplitOfSides b n parts) old new
       split_sides parts old mid new h k =
-          improves_as c pick (λ step. IsSplitOfParts b n One parts step ⊎ IsSplitOfParts b n Two parts step) (IsSplitOfSides b n parts) old new
+          improves_as c pick (λ step. IsSplitOfParts b n One None parts step ⊎ IsSplitOfParts b n Two None parts step) (IsSplitOfSides b n parts) old new
           (λ step e is. elim e [ inl it ↦ (it.0, it.1, it.2, inl it.3) | inr it ↦ (it.0, it.1, it.2, inr it.3) ])
           (λ step e is. elim e.3 [ inl it ↦ inl (e.0, e.1, e.2, it) | inr it ↦ inr (e.0, e.1, e.2, it) ])
-          (improves_both c pick (IsSplitOfParts b n One parts) (IsSplitOfParts b n Two parts) old mid new h k)
+          (improves_both c pick (IsSplitOfParts b n One None parts) (IsSplitOfParts b n Two None parts) old mid new h k)
 
       -- ---- all of them
 
       module _ (open_ : IsOpen c.slots n b) where
         abbrev OfGoal : TermAtom → List ℕ → Type 0
-        OfGoal = IsAtomOfParts b Two c.problem.goal.parts None
+        OfGoal = IsAtomOfParts b Two c.problem.goal.parts (Some b.goal)
 
         candidate : (atom : TermAtom) (facts : List ℕ) → IsCandidate c.problem b atom facts →
             (IsAtomOfViews b c.problem.policy.views atom facts ⊎ IsAtomOfRules b c.problem.policy.schema.rules atom facts) ⊎ OfGoal atom facts
         candidate atom facts (IsCandidate.of_view {view} {part} in_views in_parts live) =
             inl (inl (in_views.0, view, in_views.1, in_views.2, (in_parts.0, part, in_parts.1, in_parts.2, live)))
         candidate atom facts (IsCandidate.of_goal {part} in_parts live) =
-            inr (in_parts.0, part, in_parts.1, in_parts.2, record { live = live.live; head = tt; stands = live.stands })
+            inr (in_parts.0, part, in_parts.1, in_parts.2, live)
         candidate atom facts (IsCandidate.of_rule {rule} {part} One in_rules in_parts live) =
             inl (inr (in_rules.0, rule, in_rules.1, in_rules.2, inl (in_parts.0, part, in_parts.1, in_parts.2, live)))
         candidate atom facts (IsCandidate.of_rule {rule} {part} Two in_rules in_parts live) =
@@ -156,7 +173,7 @@ module _ (c : Course) (pick : Pick) where
         Rules = IsSplitOfRules b n c.problem.policy.schema.rules
 
         abbrev Goals : Step → Type 0
-        Goals = IsSplitOfParts b n Two c.problem.goal.parts
+        Goals = IsSplitOfParts b n Two (Some b.goal) c.problem.goal.parts
 
         looked : (step : Step) → IsSplitStep n step → IsNewIn c step → (Views step ⊎ Rules step) ⊎ Goals step
         looked step (atom, same) new =

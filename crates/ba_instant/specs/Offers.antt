@@ -11,7 +11,7 @@ use Rattle.ba_model.specs.declared.schema.Rule.{Rule}
 use Rattle.ba_model.specs.declared.schema.Schema.{Schema}
 use Rattle.ba_model.specs.declared.schema.Table.{Table}
 use Rattle.ba_facts.specs.Known.{Known}
-use Rattle.ba_facts.specs.Matches.{GivesAtom, IsLiveAtom, Under, terms_at}
+use Rattle.ba_facts.specs.Matches.{GivesAtom, HeadIs, IsLiveAtom, Under, terms_at}
 use Rattle.ba_facts.specs.Searching.{Completes}
 use Rattle.ba_facts.specs.Shown.{ShowsOf}
 use Rattle.ba_facts.specs.declared.branch.Branch.{Branch}
@@ -242,16 +242,20 @@ IsSplitOfAtom b number facts cond step = (atom : TermAtom) × (step ≡ steps.Sp
 abbrev pub IsSplitOfConds : Branch → ℕ → List ℕ → List Atom → Step → Type 0
 IsSplitOfConds b number facts conds step = (atom : TermAtom) × (step ≡ steps.Split number atom) × Any (GivesAtom (map (terms_at b) facts) atom) conds
 
+-- the same, if they give the row, where there is one, for the part's head
+abbrev pub IsSplitOfFacts : Branch → ℕ → Part → Option (List Term) → List ℕ → Step → Type 0
+IsSplitOfFacts b number part row facts step = HeadIs b part facts row × IsSplitOfConds b number facts part.conds step
+
 -- by an atom that some facts have by P
 abbrev pub IsSplitBy : (TermAtom → List ℕ → Type 0) → ℕ → Step → Type 0
 IsSplitBy P number step = (atom : TermAtom) × (step ≡ steps.Split number atom) × (facts : List ℕ) × P atom facts
 
--- by an atom of a live mapping of the part, of one of the parts, of one to either side, of a view's, of a rule's
-abbrev pub IsSplitOfPart : Branch → ℕ → Side → Part → Step → Type 0
-IsSplitOfPart b number side part step = IsSplitBy (IsLiveAtom b side part None) number step
+-- by an atom of a live mapping of the part, of one of the parts, each with the row for its head if there is one; of one to either side, of a view's, of a rule's
+abbrev pub IsSplitOfPart : Branch → ℕ → Side → Option (List Term) → Part → Step → Type 0
+IsSplitOfPart b number side row part step = IsSplitBy (IsLiveAtom b side part row) number step
 
-abbrev pub IsSplitOfParts : Branch → ℕ → Side → List Part → Step → Type 0
-IsSplitOfParts b number side parts step = IsSplitBy (IsAtomOfParts b side parts None) number step
+abbrev pub IsSplitOfParts : Branch → ℕ → Side → Option (List Term) → List Part → Step → Type 0
+IsSplitOfParts b number side row parts step = IsSplitBy (IsAtomOfParts b side parts row) number step
 
 abbrev pub IsSplitOfSides : Branch → ℕ → List Part → Step → Type 0
 IsSplitOfSides b number parts step = IsSplitBy (IsAtomOfSides b parts) number step

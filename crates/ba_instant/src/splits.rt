@@ -1,16 +1,19 @@
 //! Splits by atoms of live mappings.
-ghost use Rattle.std.specs.Prelude.{◌≡◌, ◌↔◌, ◌⊎◌, IfOk, IsTrue, OnOk};
+ghost use Rattle.std.specs.Prelude.{◌≡◌, ◌↔◌, ◌⊎◌, IfOk, IsTrue, OnOk, Some, map};
+ghost use Rattle.std.specs.List.{AllZip};
+ghost use Rattle.std.specs.Option.{option_copied};
 ghost use Rattle.ba_facts.specs.Known.{seen};
+ghost use Rattle.ba_facts.specs.Matches.{AreTheSame, HeadIs, row_of, term_of, terms_at};
 ghost use Rattle.ba_facts.specs.declared.term.Side.TheVariants.{One, Two};
 ghost use Rattle.ba_instant.specs.Looks.{AreEquations, IsLook};
-ghost use Rattle.ba_instant.specs.Offers.{Improves, IsSplitOfAtom, IsSplitOfConds, IsSplitOfPart, IsSplitOfParts, IsSplitOfRules, IsSplitOfSides, IsSplitOfViews, IsSplitStep};
+ghost use Rattle.ba_instant.specs.Offers.{Improves, IsSplitOfAtom, IsSplitOfConds, IsSplitOfFacts, IsSplitOfPart, IsSplitOfParts, IsSplitOfRules, IsSplitOfSides, IsSplitOfViews, IsSplitStep};
 
 use crate::batch::{Batch, is_timely};
 use crate::found::Spot;
 use crate::standing::least_standing;
-use ba_facts::{Side, Term, TermAtom, TermRef};
+use ba_facts::{Branch, Side, Term, TermAtom, TermRef};
 use ba_kernel::Step;
-use ba_model::{Atom, Duplicate, Op, Part, Rule, Same, View};
+use ba_model::{Atom, Duplicate, List, Op, Operand, Part, Rule, Same, View};
 use std::alloc::{AllocError, Global};
 
 impl<'a> Spot<'a> {
@@ -31,7 +34,8 @@ impl<'a> Spot<'a> {
     {
         self.offer_view_splits(self.views(), best)?;
         self.offer_rule_splits(self.rules(), best)?;
-        self.offer_part_splits(self.goal_parts(), Side::Two, best)?;
+        let row: &List<Term> = &self.branch.goal;
+        self.offer_part_splits(self.goal_parts(), Side::Two, Some(row), best)?;
         Ok(())
     }
 
@@ -41,7 +45,7 @@ impl<'a> Spot<'a> {
         ensures { OnOk result (Improves self.now.search.now self.now.pick (IsSplitOfViews self.now.branch.now self.now.number views.now) best.old best.new) }
     {
         for view in views {
-            self.offer_part_splits(view.query.parts.as_slice(), Side::One, best)?;
+            self.offer_part_splits(view.query.parts.as_slice(), Side::One, None, best)?;
         }
         Ok(())
     }
@@ -62,43 +66,64 @@ impl<'a> Spot<'a> {
         requires { IsLook self.now.search.now self.now.number self.now.branch.now self.now.quiet self.now.recent.now }
         ensures { OnOk result (Improves self.now.search.now self.now.pick (IsSplitOfSides self.now.branch.now self.now.number parts.now) best.old best.new) }
     {
-        self.offer_part_splits(parts, Side::One, best)?;
-        self.offer_part_splits(parts, Side::Two, best)?;
+        self.offer_part_splits(parts, Side::One, None, best)?;
+        self.offer_part_splits(parts, Side::Two, None, best)?;
         Ok(())
     }
 
-    /// Offers the splits by atoms of the parts, mapped to the side.
+    /// Offers the splits by atoms of the parts, mapped to the side with the row, if one is given, for
+    /// their heads.
     fn offer_part_splits(
         &self,
         parts: &[Part],
         side: Side,
+        row: Option<&List<Term>>,
         best: &mut Option<Batch>,
     ) -> Result<(), AllocError>
         requires { IsLook self.now.search.now self.now.number self.now.branch.now self.now.quiet self.now.recent.now }
-        ensures { OnOk result (Improves self.now.search.now self.now.pick (IsSplitOfParts self.now.branch.now self.now.number side parts.now) best.old best.new) }
+        ensures { OnOk result (Improves self.now.search.now self.now.pick (IsSplitOfParts self.now.branch.now self.now.number side (option_copied row.entry) parts.now) best.old best.new) }
     {
         for part in parts {
-            self.offer_splits_of(part, side, best)?;
+            self.offer_splits_of(part, side, row, best)?;
         }
         Ok(())
     }
 
-    /// Offers the splits by atoms of the part, mapped to the side. None is by an `=`.
+    /// Offers the splits by atoms of the part, mapped to the side with the row, if one is given, for
+    /// its head. None is by an `=`.
     fn offer_splits_of(
         &self,
         part: &Part,
         side: Side,
+        row: Option<&List<Term>>,
         best: &mut Option<Batch>,
     ) -> Result<(), AllocError>
         requires { IsLook self.now.search.now self.now.number self.now.branch.now self.now.quiet self.now.recent.now }
-        ensures { OnOk result (Improves self.now.search.now self.now.pick (IsSplitOfPart self.now.branch.now self.now.number side part.now) best.old best.new) }
+        ensures { OnOk result (Improves self.now.search.now self.now.pick (IsSplitOfPart self.now.branch.now self.now.number side (option_copied row.entry) part.now) best.old best.new) }
     {
         if are_equations(part) {
             return Ok(());
         }
         let found = self.branch.matches(self.alloc, part, side)?;
         for mapping in found.as_slice() {
-            self.offer_atoms(mapping.facts.as_slice(), part.conds.as_slice(), best)?;
+            self.offer_facts(mapping.facts.as_slice(), part, row, best)?;
+        }
+        Ok(())
+    }
+
+    /// Offers the splits by the part's atoms over the facts, if these give the row, where there is one.
+    fn offer_facts(
+        &self,
+        facts: &[u32],
+        part: &Part,
+        row: Option<&List<Term>>,
+        best: &mut Option<Batch>,
+    ) -> Result<(), AllocError>
+        requires { IsLook self.now.search.now self.now.number self.now.branch.now self.now.quiet self.now.recent.now }
+        ensures { OnOk result (Improves self.now.search.now self.now.pick (IsSplitOfFacts self.now.branch.now self.now.number part.now (option_copied row.entry) facts.now) best.old best.new) }
+    {
+        if has_row(self.branch, part, facts, row) {
+            self.offer_atoms(facts, part.conds.as_slice(), best)?;
         }
         Ok(())
     }
@@ -146,6 +171,40 @@ impl<'a> Spot<'a> {
             }
             _ => Ok(()),
         }
+    }
+}
+
+/// Whether the part's head over the facts is the same as the row, if one is given.
+fn has_row(branch: &Branch, part: &Part, facts: &[u32], row: Option<&List<Term>>) -> bool
+    ensures { IsTrue result ↔ HeadIs branch.now part.now facts.now (option_copied row.entry) }
+{
+    match row {
+        Some(row) => is_row(branch, part.head.as_slice(), facts, row.as_slice()),
+        None => true,
+    }
+}
+
+fn is_row(branch: &Branch, head: &[Operand], facts: &[u32], row: &[Term]) -> bool
+    ensures { IsTrue result ↔ AllZip (AreTheSame branch.now.known) (row_of branch.now facts.now head.now) (map Some row.now) }
+{
+    if head.len() != row.len() {
+        return false;
+    }
+    for i in 0..head.len() {
+        if !is_same(branch, facts, &head[i], &row[i]) {
+            return false;
+        }
+    }
+    true
+}
+
+/// Whether the operand over the facts stands for a term that is the same as the other.
+fn is_same(branch: &Branch, facts: &[u32], operand: &Operand, other: &Term) -> bool
+    ensures { IsTrue result ↔ AreTheSame branch.now.known (term_of (map (terms_at branch.now) facts.now) operand.now) (Some other.now) }
+{
+    match branch.term_of(facts, operand) {
+        Some(term) => branch.known.same(term, other.by_ref()),
+        None => false,
     }
 }
 

@@ -1,11 +1,11 @@
 //! The least round of the facts of a part under which an atom is one of the part's.
-ghost use Rattle.std.specs.Prelude.{◌≡◌, ◌↔◌, ◌+◌, ◌≤◌, [], Any, IsTrue, Some, length, map, option_copied, option_map, slice_get, unwrap_or};
+ghost use Rattle.std.specs.Prelude.{◌≡◌, ◌↔◌, ◌+◌, ◌≤◌, ◌++◌, ℕ, List, [], Any, IsTrue, Some, length, map, option_copied, option_map, slice_get, unwrap_or};
 ghost use Rattle.std.specs.List.{AllZip};
 ghost use Rattle.ba_model.specs.declared.limits.TheConstants.{MAX_PART_TABLES};
 ghost use Rattle.arrayvec.specs.ArrayVec.{array_vec_len};
 ghost use Rattle.ba_facts.specs.Known.{seen};
 ghost use Rattle.ba_facts.specs.Matches.{AreTheSame, GivesAtom, HeadIs, LeastRound, round_of, row_of, term_of, terms_at};
-ghost use Rattle.ba_facts.specs.Searching.{HasAtom, HasAtomFrom, lesser};
+ghost use Rattle.ba_facts.specs.Searching.{HasAtom, HasAtomFrom, IsNoFront, IsOther, MayGive, MayStandFor, lesser};
 
 use crate::matches::search::Search;
 use crate::term::{Term, TermAtom, TermRef};
@@ -38,6 +38,12 @@ impl<'a> Search<'a> {
         match from.split_first() {
             None => self.least_here(chosen.as_slice(), given),
             Some((table, rest)) => {
+                if self.has_other(chosen.as_slice(), given.row) {
+                    return None;
+                }
+                if !self.may_give(self.part.conds.as_slice(), chosen.as_slice(), given.atom) {
+                    return None;
+                }
                 let mut least = None;
                 for number in 0..self.branch.facts.len() {
                     if self.is_fact(*table, number) {
@@ -119,6 +125,38 @@ impl<'a> Search<'a> {
         true
     }
 
+    /// Whether the head has a term already over the chosen facts that isn't the same as the row's, if
+    /// one is given.
+    fn has_other(&self, chosen: &[usize], row: Option<&List<Term>>) -> bool
+        ensures { IsTrue result → (rest : List ℕ) → HeadIs self.now.branch.now self.now.part.now (chosen.now ++ rest) (option_copied row.entry) → ⊥ }
+    {
+        match row {
+            Some(row) => self.is_no_front(self.part.head.as_slice(), chosen, row.as_slice()),
+            None => false,
+        }
+    }
+
+    fn is_no_front(&self, head: &'a [Operand], chosen: &[usize], row: &[Term]) -> bool
+        ensures { IsTrue result → IsNoFront self.now.branch.now head.now (map Some row.now) chosen.now }
+    {
+        for i in 0..head.len().min(row.len()) {
+            if self.is_not(chosen, &head[i], &row[i]) {
+                return true;
+            }
+        }
+        false
+    }
+
+    /// Whether the operand stands for a term that isn't the same as the other.
+    fn is_not(&self, chosen: &[usize], own: &'a Operand, other: &Term) -> bool
+        ensures { IsTrue result ↔ IsOther self.now.branch.now.known (term_of (map (terms_at self.now.branch.now) chosen.now) own.now) (Some other.now) }
+    {
+        match self.term_of(chosen, own) {
+            Some(term) => !self.branch.known.same(term, other.by_ref()),
+            None => false,
+        }
+    }
+
     /// Whether the operand stands for a term that is the same as the other.
     fn has_same(&self, chosen: &[usize], own: &'a Operand, other: &Term) -> bool
         ensures { IsTrue result ↔ AreTheSame self.now.branch.now.known (term_of (map (terms_at self.now.branch.now) chosen.now) own.now) (Some other.now) }
@@ -143,6 +181,33 @@ impl<'a> Search<'a> {
         cond.op.same(&atom.op)
             && self.stands_for(&cond.left, chosen, &atom.left)
             && self.stands_for(&cond.right, chosen, &atom.right)
+    }
+
+    /// Whether one of these gives the atom, or may with further facts.
+    fn may_give(&self, conds: &'a [Atom], chosen: &[usize], atom: &TermAtom) -> bool
+        ensures { IsTrue result ↔ Any (MayGive (map (terms_at self.now.branch.now) chosen.now) atom.now) conds.now }
+    {
+        conds
+            .iter()
+            .any(|cond| self.may_be_atom(cond, chosen, atom))
+    }
+
+    fn may_be_atom(&self, cond: &'a Atom, chosen: &[usize], atom: &TermAtom) -> bool
+        ensures { IsTrue result ↔ MayGive (map (terms_at self.now.branch.now) chosen.now) atom.now cond.now }
+    {
+        cond.op.same(&atom.op)
+            && self.may_stand_for(&cond.left, chosen, &atom.left)
+            && self.may_stand_for(&cond.right, chosen, &atom.right)
+    }
+
+    /// Whether the operand stands for this very term, or for none yet.
+    fn may_stand_for(&self, own: &'a Operand, chosen: &[usize], term: &Term) -> bool
+        ensures { IsTrue result ↔ MayStandFor (map (terms_at self.now.branch.now) chosen.now) own.now term.now }
+    {
+        match self.term_of(chosen, own) {
+            Some(own) => is_term(own, term),
+            None => true,
+        }
     }
 
     /// Whether the operand stands for this very term.

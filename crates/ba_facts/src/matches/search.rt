@@ -4,7 +4,7 @@ ghost use Rattle.std.specs.List.{AllZip};
 ghost use Rattle.ba_model.specs.declared.limits.TheConstants.{MAX_PART_TABLES};
 ghost use Rattle.arrayvec.specs.ArrayVec.{array_vec_len};
 ghost use Rattle.ba_facts.specs.Matches.{AreTheSame, IsFactOf, IsUndecided, row_of, term_of, terms_at};
-ghost use Rattle.ba_facts.specs.Searching.{AddsThose, Completes, IsAnsweredFrom};
+ghost use Rattle.ba_facts.specs.Searching.{AddsThose, Completes, IsAnsweredFrom, IsNoFront, IsOther};
 
 use crate::branch::Branch;
 use crate::number::number_of;
@@ -84,6 +84,9 @@ impl<'a> Search<'a> {
         match from.split_first() {
             None => self.gives(chosen.as_slice(), row),
             Some((table, rest)) => {
+                if self.gives_other(self.part.head.as_slice(), chosen.as_slice(), row) {
+                    return false;
+                }
                 for number in 0..self.branch.facts.len() {
                     if self.is_fact(*table, number) {
                         chosen.push(number);
@@ -158,6 +161,34 @@ impl<'a> Search<'a> {
             }
         }
         true
+    }
+
+    /// Whether the head has a term already over the chosen facts that isn't the same as the row's.
+    fn gives_other(&self, head: &'a [Operand], chosen: &[usize], row: &GivenRow<'_>) -> bool
+        ensures { IsTrue result → IsNoFront self.now.branch.now head.now (row_of self.now.branch.now row.now.facts.now row.now.operands.now) chosen.now }
+    {
+        for i in 0..head.len().min(row.operands.len()) {
+            if self.is_other(chosen, &head[i], row, &row.operands[i]) {
+                return true;
+            }
+        }
+        false
+    }
+
+    /// Whether the operand stands for a term that isn't the same as the other's.
+    fn is_other(
+        &self,
+        chosen: &[usize],
+        own: &'a Operand,
+        row: &GivenRow<'_>,
+        other: &Operand,
+    ) -> bool
+        ensures { IsTrue result ↔ IsOther self.now.branch.now.known (term_of (map (terms_at self.now.branch.now) chosen.now) own.now) (term_of (map (terms_at self.now.branch.now) row.now.facts.now) other.now) }
+    {
+        match self.term_of(chosen, own) {
+            Some(_) => !self.same_term(chosen, own, row, other),
+            None => false,
+        }
     }
 
     /// Whether the two stand for terms that are the same.

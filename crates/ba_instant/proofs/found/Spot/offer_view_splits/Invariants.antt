@@ -1,5 +1,6 @@
 use Rattle.ba_facts.specs.declared.term.Side.TheVariants.{One}
 use Rattle.ba_instant.proofs.SplitLemmas.{At}
+use Rattle.std.specs.Prelude.{None}
 use Rattle.ba_instant.specs.Offers.{Improves, IsSplitOfParts, Upto}
 use Rattle.ba_instant.proofs.found.Spot.offer_view_splits.Given as goal
 
@@ -7,4 +8,4 @@ use Rattle.ba_instant.proofs.found.Spot.offer_view_splits.Given as goal
 abbrev pub invariant-loop-view : goal.invariant-loop-view
 invariant-loop-view l =
     Improves l.self.search.now l.self.pick
-    (Upto (At l.self.search.now l.self.pick l.views (λ it step. IsSplitOfParts l.self.branch.now l.self.number One it.query.parts step)) l.view-index) l.fn.best l.best
+    (Upto (At l.self.search.now l.self.pick l.views (λ it step. IsSplitOfParts l.self.branch.now l.self.number One None it.query.parts step)) l.view-index) l.fn.best l.best

@@ -1,5 +1,6 @@
 use Rattle.std.proofs.Common.{◌≡◌, arith, length, refl}
 use Rattle.std.proofs.lemmas.Grind.{common_steps}
+use Rattle.ba_facts.proofs.FrontLemmas.{front_lost}
 use Rattle.ba_facts.proofs.SearchingLemmas.{found_here, none_at_all, none_more, none_skipped, not_answered, one_chosen}
 use Rattle.ba_facts.proofs.matches.search.Search.+finds.Goals as goal
 use Rattle.ba_facts.proofs.matches.search.Search.+finds.Goals.{then-is_fact+else-found, else-is_fact}
@@ -8,6 +9,11 @@ pub returns-then-is_hopeless-clause-found : goal.returns-then-is_hopeless-clause
 returns-then-is_hopeless-clause-found t c =
     let fails = c.is_hopeless.ensures.0 c.if-is_hopeless.true in
     (λ e. cc, λ h. absurd (not_answered _ _ _ _ _ _ _ (rw c.as_slice.ensures.value at fails) h))
+
+pub returns-then-gives_other-clause-found : goal.returns-then-gives_other-clause-found
+returns-then-gives_other-clause-found t c =
+    let other = c.gives_other.ensures c.if-gives_other.true in
+    (λ e. cc, λ h. absurd (front_lost _ _ _ _ _ _ _ (rw c.as_slice-in-Some-2.ensures.value at (rw c.as_slice-in-Some.ensures at other)) h))
 
 pub returns-then-found-clause-found : goal.returns-then-found-clause-found
 returns-then-found-clause-found t c = (

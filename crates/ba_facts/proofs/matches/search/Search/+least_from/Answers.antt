@@ -1,5 +1,6 @@
 use Rattle.std.proofs.Common.{◌≡◌, arith, length}
 use Rattle.std.proofs.lemmas.Grind.{common_steps}
+use Rattle.ba_facts.proofs.FrontLemmas.{atom_lost, row_lost}
 use Rattle.ba_facts.proofs.RoundLemmas.{least_all, least_more, least_skipped, least_start}
 use Rattle.ba_facts.proofs.SearchingLemmas.{one_chosen, pruned}
 use Rattle.ba_facts.proofs.matches.search.Search.+least_from.Goals as goal
@@ -9,6 +10,16 @@ pub returns-then-is_hopeless-clause-least : goal.returns-then-is_hopeless-clause
 returns-then-is_hopeless-clause-least t c =
     let fails = c.is_hopeless.ensures.0 c.if-is_hopeless.true in
     λ facts h. pruned _ _ _ _ _ _ (rw c.as_slice.ensures.value at fails) facts h.completes
+
+pub returns-then-has_other-clause-least : goal.returns-then-has_other-clause-least
+returns-then-has_other-clause-least t c =
+    let other = c.has_other.ensures c.if-has_other.true in
+    row_lost _ _ _ _ _ _ _ _ (rw c.as_slice-in-Some.ensures.value at other)
+
+pub returns-then-not-may_give-clause-least : goal.returns-then-not-may_give-clause-least
+returns-then-not-may_give-clause-least t c =
+    let gives = c.may_give.ensures.1 in
+    atom_lost _ _ _ _ _ _ _ _ (λ h. let t = (rw c.as_slice-in-Some-3.ensures.value at (rw c.as_slice-in-Some-2.ensures at gives)) h in cc)
 
 pub loop-number-init : goal.loop-number-init
 loop-number-init t c = record { chosen = grind (arith, common_steps); least = least_start _ _ _ _ _ _ _ _ _ }
