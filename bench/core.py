@@ -21,6 +21,10 @@ KINDS = [
     ("refuse", "and then one that is refused"),
     ("template", "and then one that a template answers"),
     ("admit", "a template is admitted"),
+    ("proved", "a proof of four steps is read and checked"),
+    ("proof", "and a request begins, is told an answer by a cover and one by that proof, and ends"),
+    ("tables", "a table of two rows is read and checked"),
+    ("publish", "and is published"),
 ]
 COUNT = 20_000
 PROOFS = {
