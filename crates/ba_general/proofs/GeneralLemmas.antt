@@ -1,0 +1,94 @@
+-- From the steps that a proof keeps to its template.
+use Rattle.std.proofs.Common.{◌≡◌, ℕ, suc, ◌+◌, ◌<◌, ◌≤◌, List, length, refl, sym, ap, ◌∙◌, subst, arith}
+use Rattle.std.proofs.Math.Nat.{lt_of_not-le}
+use Rattle.std.specs.Prelude.{Result, Ok, Err}
+use Rattle.ba_kernel.proofs.AskedLemmas.{question_is_problem}
+use Rattle.ba_kernel.proofs.OneEnd.{one_end}
+use Rattle.ba_kernel.specs.Courses.{ProblemFits}
+use Rattle.ba_kernel.specs.Replays.{Closes, Replays}
+use Rattle.ba_kernel.specs.Tests.{IsProved, Proof}
+use Rattle.ba_kernel.specs.declared.problem.Problem.{Problem}
+use Rattle.ba_kernel.specs.declared.replaying.ReplayFault.{ReplayFault}
+use Rattle.ba_kernel.specs.declared.step.Step.{Step}
+use Rattle.ba_model.specs.declared.failure.Failure.{Failure}
+use Rattle.ba_model.specs.declared.failure.Failure.TheVariants.{Fault}
+use Rattle.ba_model.specs.declared.query.Atom.{Atom}
+use Rattle.ba_model.specs.declared.value.Value.{Value}
+use Rattle.ba_template.specs.Templates.{EachVarStands}
+use Rattle.ba_general.proofs.FullLemmas.{full_is_accepted}
+use Rattle.ba_general.proofs.MakesLemmas.{zip_wide}
+use Rattle.ba_general.proofs.PatternFitsLemmas.{pattern_fits}
+use Rattle.ba_general.proofs.StandsLemmas.{stands_all}
+use Rattle.ba_general.specs.Conditions.{HasOperands, IsAcceptedFully, IsCondition, PatternFits, operands_with}
+use Rattle.ba_general.specs.Dropping.{IsAccepted}
+use Rattle.ba_general.specs.Generals.{HasTooMany, IsGeneralised, IsOfQuestion, IsTold, IsToldBy}
+use Rattle.ba_general.specs.Leaving.{AreKept}
+use Rattle.ba_general.specs.Patterns.{IsPattern, assuming}
+use Rattle.ba_general.specs.Retold.{AreNamed, AreRenumbered, IsRenumbered}
+use Rattle.ba_general.specs.declared.general.TheConstants.{MAX_KEPT_ENTRIES, MAX_OPERANDS}
+use Rattle.ba_general.specs.declared.pattern.Pattern.{Pattern}
+use Rattle.ba_general.specs.declared.pattern.Valued.{Valued}
+
+pub question_fits : (p : Problem) → IsOfQuestion p → ProblemFits p
+question_fits p h = subst ProblemFits (sym h.is) (question_is_problem p.policy h.context h.trace p.goal h.fits)
+
+pub proved_closes : (p : Problem) (taken : List Step) → IsProved p taken → Closes p taken
+proved_closes p taken h = record { slots = h.slots; runs = h.runs; closed = h.closed }
+
+-- steps that close a problem come to no fault
+pub no_fault : (p : Problem) (taken : List Step) (came : Result Proof (Failure ReplayFault)) (failure : Failure ReplayFault) (fault : ReplayFault) → ProblemFits p →
+    Closes p taken → Replays p taken came → came ≡ Err failure → failure ≡ Fault fault → ⊥
+no_fault p taken came failure fault fits closes replays is_err is_fault =
+    (one_end p taken fits).no_fault fault closes (subst (λ f. Replays p taken (Err f)) is_fault (subst (Replays p taken) is_err replays))
+
+-- ---- a pattern with its operands, made of a question's proof
+
+pub made_fits : (p : Problem) (numbers : List ℕ) (it : Pattern) → ProblemFits p → IsOfQuestion p → IsPattern p numbers it.problem it.values →
+    HasOperands p it.values it.operands → PatternFits it
+made_fits p numbers it fits question h has = pattern_fits p it.problem numbers it.values has.params it.operands fits question h has.has has.is
+
+pub made_stands : (p : Problem) (numbers : List ℕ) (it : Pattern) → IsPattern p numbers it.problem it.values → EachVarStands it.problem
+made_stands p numbers it h = stands_all p it.problem numbers it.values it.problem.assumed h
+
+pub made_accepted : (p : Problem) (numbers : List ℕ) (it : Pattern) (kept renumbered : List Step) → IsOfQuestion p → IsPattern p numbers it.problem it.values →
+    HasOperands p it.values it.operands → AreNamed kept numbers → AreRenumbered numbers kept renumbered → Closes p kept →
+    IsAcceptedFully it.problem it.operands renumbered
+made_accepted p numbers it kept renumbered question h has named are closes =
+    subst (λ (operands : List Valued). IsAcceptedFully it.problem operands renumbered) (sym has.is)
+    (full_is_accepted p it.problem numbers it.values has.params kept renumbered question has.has h named are closes)
+
+not_more : (n m : ℕ) → ¬ (n < m) → m ≤ n
+not_more n m h = let below : m < suc n = lt_of_not-le h in omega arith
+
+pub renumbered_few : (numbers : List ℕ) (kept renumbered : List Step) (n m : ℕ) → AreRenumbered numbers kept renumbered → length kept ≤ n → n ≤ m → length renumbered ≤ m
+renumbered_few numbers kept renumbered n m are few fewer =
+    let same : length kept ≡ length renumbered = zip_wide (IsRenumbered numbers) kept renumbered are in omega arith
+
+-- ---- the template
+
+pub generalised : (proof template : Proof) (kept renumbered : List Step) (numbers : List ℕ) (it : Pattern) → AreKept proof.problem proof.steps kept → AreNamed kept numbers →
+    IsPattern proof.problem numbers it.problem it.values → HasOperands proof.problem it.values it.operands → length numbers ≤ MAX_KEPT_ENTRIES → ¬ (HasTooMany it.problem) →
+    AreRenumbered numbers kept renumbered → IsToldBy it renumbered template.steps →
+    IsCondition it.problem it.operands template.steps template.problem.assumed → template.problem ≡ assuming it.problem template.problem.assumed →
+    IsGeneralised proof template
+generalised proof template kept renumbered numbers it are named pattern has few fewer renumbered_are told condition problem =
+    record {
+      kept = kept;
+      numbers = numbers;
+      pattern = it.problem;
+      values = it.values;
+      params = has.params;
+      keeps = record { steps = are; named = named; pattern = pattern };
+      few_entries = few;
+      few_operands = not_more MAX_OPERANDS (length it.problem.vars + length it.problem.policy.params) fewer;
+      has_params = has.has;
+      steps = record {
+        renumbered = renumbered;
+        renumbered_are = renumbered_are;
+        tried = told.tried;
+        tried_are = told.tried_are;
+        taken_is = subst (λ (operands : List Valued). IsTold it.problem operands told.tried renumbered template.steps) has.is told.told;
+      };
+      condition = subst (λ (operands : List Valued). IsCondition it.problem operands template.steps template.problem.assumed) has.is condition;
+      problem = problem;
+    }
