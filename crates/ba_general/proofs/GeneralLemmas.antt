@@ -24,7 +24,7 @@ use Rattle.ba_general.specs.Dropping.{IsAccepted}
 use Rattle.ba_general.specs.Generals.{HasTooMany, IsGeneralised, IsOfQuestion, IsTold, IsToldBy}
 use Rattle.ba_general.specs.Leaving.{AreKept}
 use Rattle.ba_general.specs.Patterns.{IsPattern, assuming}
-use Rattle.ba_general.specs.Retold.{AreNamed, AreRenumbered, IsRenumbered}
+use Rattle.ba_general.specs.Retold.{AreNamed, AreRenumbered, AreWithVariables, IsRenumbered, IsStepWith}
 use Rattle.ba_general.specs.declared.general.TheConstants.{MAX_KEPT_ENTRIES, MAX_OPERANDS}
 use Rattle.ba_general.specs.declared.pattern.Pattern.{Pattern}
 use Rattle.ba_general.specs.declared.pattern.Valued.{Valued}
@@ -63,6 +63,19 @@ not_more n m h = let below : m < suc n = lt_of_not-le h in omega arith
 pub renumbered_few : (numbers : List ℕ) (kept renumbered : List Step) (n m : ℕ) → AreRenumbered numbers kept renumbered → length kept ≤ n → n ≤ m → length renumbered ≤ m
 renumbered_few numbers kept renumbered n m are few fewer =
     let same : length kept ≡ length renumbered = zip_wide (IsRenumbered numbers) kept renumbered are in omega arith
+
+-- ---- the steps
+
+pub told_with : (it : Pattern) (kept tried : List Step) → AreWithVariables it.values kept tried → IsAcceptedFully it.problem it.operands tried → IsToldBy it kept tried
+told_with it kept tried are accepted = record { tried = tried; tried_are = are; told = IsTold.with accepted }
+
+pub told_without : (it : Pattern) (kept tried taken : List Step) → AreWithVariables it.values kept tried → ¬ (IsAcceptedFully it.problem it.operands tried) → taken ≡ kept →
+    IsToldBy it kept taken
+told_without it kept tried taken are refused same =
+    record { tried = tried; tried_are = are; told = subst (IsTold it.problem it.operands tried kept) (sym same) (IsTold.without refused) }
+
+pub tried_few : (values : List Value) (kept tried : List Step) (n : ℕ) → AreWithVariables values kept tried → length kept ≤ n → length tried ≤ n
+tried_few values kept tried n are few = let same : length kept ≡ length tried = zip_wide (IsStepWith values) kept tried are in omega arith
 
 -- ---- the template
 

@@ -1,12 +1,15 @@
 -- Runs that follow one another: the flags that are still as they were, and the same run of equal lists.
 use Rattle.std.proofs.Common.{◌≡◌, ℕ, ◌+◌, ◌-◌, ◌<◌, ◌≤◌, Bool, true, List, [], ◌∷◌, ◌++◌, length, take, drop, replicate, refl, sym, ap, ◌∙◌, subst, arith}
-use Rattle.std.proofs.lemmas.List.{drop-drop, drop-take}
+use Rattle.std.proofs.lemmas.List.{drop-drop, drop-take, length-append}
 use Rattle.std.proofs.lemmas.List.Elements.{All-drop, All-replicate, All-take}
 use Rattle.ba_kernel.specs.declared.problem.Problem.{Problem}
 use Rattle.ba_kernel.specs.declared.step.Step.{Step}
 use Rattle.ba_model.specs.declared.query.Atom.{Atom}
 use Rattle.ba_general.proofs.DroppingLemmas.{all_right, all_left, between_two}
+use Rattle.ba_general.specs.Conditions.{IsFullList}
 use Rattle.ba_general.specs.Dropping.{AllKept, DropsRun, IsAccepted, between}
+use Rattle.ba_general.specs.declared.dropping.Ends.{Ends}
+use Rattle.ba_general.specs.declared.pattern.Valued.{Valued}
 
 -- ---- what is kept of a part
 
@@ -38,6 +41,15 @@ from_next n first end old new fe h same =
     let e : first + (end - first) ≡ end = omega arith in
     let later : (ks : List Bool) → drop (end - first) (drop first ks) ≡ drop end ks = λ ks. drop-drop (end - first) first ks ∙ ap (λ m. drop m ks) e in
     same ∙ (sym (later old) ∙ (ap (drop (end - first)) h ∙ later (replicate n true)))
+
+-- the ends of the groups rise
+pub ends_rise : (operands : List Valued) (atoms : List Atom) (ends : Ends) → IsFullList operands atoms ends →
+    (ends.fixed ≤ ends.less) × (ends.less ≤ ends.apart) × (ends.apart ≤ length atoms)
+ends_rise operands atoms ends h =
+    let two : length (h.fixed ++ h.less) ≡ length h.fixed + length h.less = length-append h.fixed h.less in
+    let three : length (h.fixed ++ h.less ++ h.apart) ≡ length (h.fixed ++ h.less) + length h.apart = length-append (h.fixed ++ h.less) h.apart in
+    let all : length atoms ≡ length (h.fixed ++ h.less ++ h.apart) + length h.equal = ap length h.atoms_are ∙ length-append (h.fixed ++ h.less ++ h.apart) h.equal in
+    (omega (arith, h.fixed_end, h.less_end), omega (arith, h.less_end, h.apart_end), omega (arith, h.apart_end))
 
 -- ---- the same run
 
