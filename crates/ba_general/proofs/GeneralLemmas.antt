@@ -21,7 +21,7 @@ use Rattle.ba_general.proofs.PatternFitsLemmas.{pattern_fits}
 use Rattle.ba_general.proofs.StandsLemmas.{stands_all}
 use Rattle.ba_general.specs.Conditions.{HasOperands, IsAcceptedFully, IsCondition, PatternFits, operands_with}
 use Rattle.ba_general.specs.Dropping.{IsAccepted}
-use Rattle.ba_general.specs.Generals.{HasTooMany, IsGeneralised, IsOfQuestion, IsTold, IsToldBy}
+use Rattle.ba_general.specs.Generals.{HasTooMany, IsGeneralised, IsOfQuestion, IsTold, IsToldBy, IsTooWide}
 use Rattle.ba_general.specs.Leaving.{AreKept}
 use Rattle.ba_general.specs.Patterns.{IsPattern, assuming}
 use Rattle.ba_general.specs.Retold.{AreNamed, AreRenumbered, AreWithVariables, IsRenumbered, IsStepWith}
@@ -64,6 +64,9 @@ pub renumbered_few : (numbers : List ℕ) (kept renumbered : List Step) (n m : �
 renumbered_few numbers kept renumbered n m are few fewer =
     let same : length kept ≡ length renumbered = zip_wide (IsRenumbered numbers) kept renumbered are in omega arith
 
+pub assuming_stands : (g : Problem) (atoms : List Atom) → EachVarStands g → EachVarStands (assuming g atoms)
+assuming_stands g atoms h = record { stands = h.stands }
+
 -- ---- the steps
 
 pub told_with : (it : Pattern) (kept tried : List Step) → AreWithVariables it.values kept tried → IsAcceptedFully it.problem it.operands tried → IsToldBy it kept tried
@@ -105,3 +108,34 @@ generalised proof template kept renumbered numbers it are named pattern has few 
       condition = subst (λ (operands : List Valued). IsCondition it.problem operands template.steps template.problem.assumed) has.is condition;
       problem = problem;
     }
+
+-- ---- of equal problems, steps and numbers
+
+kept_of : (proof : Proof) (p : Problem) (taken kept : List Step) → p ≡ proof.problem → taken ≡ proof.steps → AreKept p taken kept → AreKept proof.problem proof.steps kept
+kept_of proof p taken kept same same_steps h =
+    subst (λ (q : Problem). AreKept q proof.steps kept) same (subst (λ (steps : List Step). AreKept p steps kept) same_steps h)
+
+pattern_of : (proof : Proof) (p : Problem) (ns numbers : List ℕ) (it : Pattern) → p ≡ proof.problem → ns ≡ numbers → IsPattern p ns it.problem it.values →
+    IsPattern proof.problem numbers it.problem it.values
+pattern_of proof p ns numbers it same same_numbers h =
+    subst (λ (q : Problem). IsPattern q numbers it.problem it.values) same (subst (λ ms. IsPattern p ms it.problem it.values) same_numbers h)
+
+pub wide_by_entries : (proof : Proof) (p : Problem) (taken kept : List Step) (numbers : List ℕ) → p ≡ proof.problem → taken ≡ proof.steps → AreKept p taken kept →
+    AreNamed kept numbers → MAX_KEPT_ENTRIES < length numbers → IsTooWide proof
+wide_by_entries proof p taken kept numbers same same_steps are named many = IsTooWide.by_entries (kept_of proof p taken kept same same_steps are) named many
+
+pub wide_by_operands : (proof : Proof) (p : Problem) (taken kept : List Step) (ns numbers : List ℕ) (it : Pattern) → p ≡ proof.problem → taken ≡ proof.steps →
+    ns ≡ numbers → AreKept p taken kept → AreNamed kept numbers → IsPattern p ns it.problem it.values → HasTooMany it.problem → IsTooWide proof
+wide_by_operands proof p taken kept ns numbers it same same_steps same_numbers are named pattern many =
+    IsTooWide.by_operands
+    (record { steps = kept_of proof p taken kept same same_steps are; named = named; pattern = pattern_of proof p ns numbers it same same_numbers pattern }) many
+
+pub generalised_of : (proof template : Proof) (p : Problem) (taken kept renumbered : List Step) (ns ms numbers : List ℕ) (it : Pattern) → p ≡ proof.problem →
+    taken ≡ proof.steps → ns ≡ numbers → ms ≡ numbers → AreKept p taken kept → AreNamed kept numbers → IsPattern p ns it.problem it.values →
+    HasOperands p it.values it.operands → length numbers ≤ MAX_KEPT_ENTRIES → ¬ (HasTooMany it.problem) → AreRenumbered ms kept renumbered →
+    IsToldBy it renumbered template.steps → IsCondition it.problem it.operands template.steps template.problem.assumed →
+    template.problem ≡ assuming it.problem template.problem.assumed → IsGeneralised proof template
+generalised_of proof template p taken kept renumbered ns ms numbers it same same_steps same_numbers same_places are named pattern has few fewer renumbered_are told condition problem =
+    generalised proof template kept renumbered numbers it (kept_of proof p taken kept same same_steps are) named
+    (pattern_of proof p ns numbers it same same_numbers pattern) (subst (λ (q : Problem). HasOperands q it.values it.operands) same has) few fewer
+    (subst (λ ks. AreRenumbered ks kept renumbered) same_places renumbered_are) told condition problem
