@@ -27,7 +27,7 @@ use Rattle.ba_model.specs.declared.value.Value.TheVariants.{Null}
 use Rattle.ba_general.proofs.NamesLemmas.{range_append}
 use Rattle.ba_general.specs.Conditions.{HasOperands, HasParams, parameters, parameters_of, valued, variables}
 use Rattle.ba_general.specs.Generals.{IsOfQuestion}
-use Rattle.ba_general.specs.Patterns.{AtomIsAsked, EntryIsAsked, HasNoLiteral, IsGiven, IsPattern, Named, NamesEntries, NamesQuery, OpRepeats, PartIsAsked, QueryIsAsked, QueryRepeats, entry_at, printed_entry, printed_query, variable_of}
+use Rattle.ba_general.specs.Patterns.{AtomIsAsked, EntryIsAsked, EntryRepeats, HasNoLiteral, IsGiven, IsPattern, Named, NamesEntries, NamesQuery, OpRepeats, PartIsAsked, QueryIsAsked, QueryRepeats, entry_at, printed_entry, printed_query, variable_of}
 use Rattle.ba_general.specs.declared.pattern.Valued.{Valued}
 
 -- ---- no variable
@@ -113,7 +113,7 @@ map_some values (it ∷ its) (entry ∷ taken) e =
 
 pub pattern_made : (p : Problem) (numbers : List ℕ) (start mid new : Named) (goal : Query) (entries : List ProblemEntry) (g : Problem) (values : List Value) →
     start ≡ record { kinds = []; values = [] } → NamesQuery start p.goal mid goal → NamesEntries mid p.entries numbers new entries → g.policy ≡ p.policy →
-    g.vars ≡ new.kinds → g.assumed ≡ [] → QueryRepeats g.goal → All (λ entry. QueryRepeats entry.query) g.entries → g.entries ≡ entries → g.goal ≡ goal → values ≡ new.values → IsPattern p numbers g values
+    g.vars ≡ new.kinds → g.assumed ≡ [] → QueryRepeats g.goal → All EntryRepeats g.entries → g.entries ≡ entries → g.goal ≡ goal → values ≡ new.values → IsPattern p numbers g values
 pattern_made p numbers start mid new goal entries g values none h k policy vars assumed repeats entries_repeat entries_are goal_is values_are =
     let n = k.names in
     let mid_values : mid.values ≡ h.more = h.values_are ∙ ap (λ (s : Named). s.values ++ h.more) none in

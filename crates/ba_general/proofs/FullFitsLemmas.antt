@@ -11,10 +11,9 @@ use Rattle.ba_model.specs.declared.schema.Kind.{Kind}
 use Rattle.ba_model.specs.declared.schema.Kind.TheVariants as kinds
 use Rattle.ba_model.specs.declared.value.Value.{Value}
 use Rattle.ba_model.specs.declared.value.Value.TheVariants.{Null, Int, Text}
-use Rattle.ba_general.specs.Conditions.{AddsOnes, AtomsFit, IsApartOf, IsEqualOf, IsFull, IsFullPass, IsLessOf, IsOne, PatternFits, fixed_of, pairs, those}
+use Rattle.ba_general.specs.Conditions.{AddsOnes, AtomsFit, IsApartOf, IsEqualOf, IsFull, IsLessOf, IsOne, PatternFits, fixed_of, pairs, those}
 use Rattle.ba_general.specs.declared.condition.Group.{Group}
 use Rattle.ba_general.specs.declared.condition.Group.TheVariants.{Fixed, Less, Apart, Equal}
-use Rattle.ba_general.specs.declared.dropping.Ends.{Ends}
 use Rattle.ba_general.specs.declared.pattern.Pattern.{Pattern}
 use Rattle.ba_general.specs.declared.pattern.Valued.{Valued}
 use Rattle.ba_general.specs.Dropping.{atom_if, kept_atoms}
@@ -122,7 +121,3 @@ module _ (g : Problem) where
 
 pub pattern_operands : (it : Pattern) → PatternFits it → All (OperandFits it.problem) it.operands
 pattern_operands it h i d below = record { kind = h.operands i d below; not_null = h.not_null i d below }
-
-pub pass_fits : (it : Pattern) (atoms : List Atom) (kept : List Bool) (ends : Ends) → PatternFits it → IsFullPass it.operands atoms kept ends → AtomsFit it.problem atoms
-pass_fits it atoms kept ends h pass =
-    let full = pass.full in full_fits it.problem it.operands full.fixed full.less full.apart full.equal atoms (pattern_operands it h) full.full full.atoms_are

@@ -30,3 +30,7 @@ pub mod EntryLemmas
 pub mod PatternFitsLemmas
 pub mod InstanceLemmas
 pub mod GeneralLemmas
+pub mod OnePatternLemmas
+pub mod TooWideLemmas
+pub mod WholePassLemmas
+pub mod OwnStepsLemmas

@@ -118,6 +118,12 @@ pub names_all : {X : Type 0} (at : List Value → X → X) (operands : X → Lis
     NamesAll at operands old (take n xs) new its → NamesAll at operands old xs new its
 names_all at operands old new xs its n whole h = subst (λ ys. NamesAll at operands old ys new its) (take_all n xs whole) h
 
+pub all_none : {X : Type 0} (P : X → Type 0) (xs : List X) → xs ≡ [] → All P xs
+all_none P xs e = subst (All P) (sym e) (All-nil P)
+
+pub all_pushed : {X : Type 0} (P : X → Type 0) (xs pushed : List X) (x : X) → All P xs → P x → pushed ≡ xs ++ x ∷ [] → All P pushed
+all_pushed P xs pushed x h k e = subst (All P) (sym e) (All-append P xs (x ∷ []) h (All-cons P x [] k (All-nil P)))
+
 -- ---- operands
 
 stays : (old : Named) (operand : Operand) → ((vs : List Value) → operand_at vs operand ≡ operand) → HasNoLiteral operand → variable_of operand ≡ [] →
@@ -221,6 +227,22 @@ repeated ops.Lt left right h k = absurd h
 repeated ops.Le left right h k = absurd h
 repeated ops.IsNull left right h k = k
 repeated ops.NotNull left right h k = k
+
+pub two_repeats : (op : Op) (left right : Operand) → IsTwoSided op → OpRepeats op left right
+two_repeats ops.Eq left right two = tt
+two_repeats ops.Ne left right two = tt
+two_repeats ops.Lt left right two = tt
+two_repeats ops.Le left right two = tt
+two_repeats ops.IsNull left right two = absurd (two tt)
+two_repeats ops.NotNull left right two = absurd (two tt)
+
+pub one_repeats : (op : Op) (left right : Operand) → right ≡ left → OpRepeats op left right
+one_repeats ops.Eq left right e = tt
+one_repeats ops.Ne left right e = tt
+one_repeats ops.Lt left right e = tt
+one_repeats ops.Le left right e = tt
+one_repeats ops.IsNull left right e = e
+one_repeats ops.NotNull left right e = e
 
 pub atom_by_two : (old mid new : Named) (atom : Atom) (left right : Operand) → IsTwoSided atom.op → NamesOperand old atom.left mid left →
     NamesOperand mid atom.right new right → NamesAtom old atom new (record { op = atom.op; left = left; right = right })

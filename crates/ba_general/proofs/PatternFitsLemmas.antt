@@ -29,7 +29,7 @@ use Rattle.ba_general.proofs.AskedLemmas.{no_variable}
 use Rattle.ba_general.proofs.FullFitsLemmas.{OperandFits}
 use Rattle.ba_general.specs.Conditions.{HasParams, PatternFits, operands_with, parameters, valued, variables}
 use Rattle.ba_general.specs.Generals.{IsOfQuestion}
-use Rattle.ba_general.specs.Patterns.{IsPattern, OpRepeats, QueryRepeats, entry_at}
+use Rattle.ba_general.specs.Patterns.{AtomRepeats, EntryRepeats, IsPattern, OpRepeats, PartRepeats, QueryRepeats, entry_at}
 use Rattle.ba_general.specs.declared.pattern.Valued.{Valued}
 
 -- ---- kinds of values
@@ -73,12 +73,6 @@ op_fits ops.Le kind left right a b repeats h = h
 op_fits ops.IsNull kind left right a b repeats h = repeats
 op_fits ops.NotNull kind left right a b repeats h = repeats
 
-abbrev Repeats : Atom → Type 0
-Repeats atom = OpRepeats atom.op atom.left atom.right
-
-abbrev PartRepeats : Part → Type 0
-PartRepeats part = All Repeats part.conds
-
 module _ (s : Schema) (params vars : List Kind) (values : List Value) (kinds : AllZip IsOfKind vars values) where
   variable_kind : (from : List ℕ) (n : ℕ) (o : Option Value) → option_and_then kind_of_value o ≡ slice_get vars n → kind_of s params [] from (variable_at n o) ≡ slice_get vars n
   variable_kind from n None e = e
@@ -90,7 +84,7 @@ module _ (s : Schema) (params vars : List Kind) (values : List Value) (kinds : A
   operand_kind from (Param n) = refl
   operand_kind from (Var n) = variable_kind from n (slice_get values n) (kind_at vars values n kinds)
 
-  atom_fits : (from : List ℕ) (atom : Atom) → Repeats atom → AtomFits s params [] from (atom_at values atom) → AtomFits s params vars from atom
+  atom_fits : (from : List ℕ) (atom : Atom) → AtomRepeats atom → AtomFits s params [] from (atom_at values atom) → AtomFits s params vars from atom
   atom_fits from atom repeats h =
       record {
         kind = h.kind;
@@ -99,12 +93,12 @@ module _ (s : Schema) (params vars : List Kind) (values : List Value) (kinds : A
         op = op_fits atom.op h.kind atom.left atom.right (operand_at values atom.left) (operand_at values atom.right) repeats h.op;
       }
 
-  atoms_fit : (from : List ℕ) (atoms : List Atom) → All Repeats atoms → All (AtomFits s params [] from) (map (atom_at values) atoms) → All (AtomFits s params vars from) atoms
+  atoms_fit : (from : List ℕ) (atoms : List Atom) → All AtomRepeats atoms → All (AtomFits s params [] from) (map (atom_at values) atoms) → All (AtomFits s params vars from) atoms
   atoms_fit from [] repeats h = All-nil (AtomFits s params vars from)
   atoms_fit from (atom ∷ atoms) repeats h =
       All-cons (AtomFits s params vars from) atom atoms
-      (atom_fits from atom (All-head Repeats atom atoms repeats) (All-head (AtomFits s params [] from) (atom_at values atom) (map (atom_at values) atoms) h))
-      (atoms_fit from atoms (All-tail Repeats atom atoms repeats) (All-tail (AtomFits s params [] from) (atom_at values atom) (map (atom_at values) atoms) h))
+      (atom_fits from atom (All-head AtomRepeats atom atoms repeats) (All-head (AtomFits s params [] from) (atom_at values atom) (map (atom_at values) atoms) h))
+      (atoms_fit from atoms (All-tail AtomRepeats atom atoms repeats) (All-tail (AtomFits s params [] from) (atom_at values atom) (map (atom_at values) atoms) h))
 
   head_kinds : (from : List ℕ) (xs : List Operand) → map (kind_of s params [] from) (map (operand_at values) xs) ≡ map (kind_of s params vars from) xs
   head_kinds from [] = refl
@@ -197,20 +191,20 @@ module _ (policy : Policy) (vars : List Kind) (values : List Value) (kinds : All
       }
 
   entries_fit : (some : List ProblemEntry) (numbers : List ℕ) → map (λ entry. Some (entry_at values entry)) some ≡ map (slice_get all) numbers →
-      All (λ entry. QueryRepeats entry.query) some → All (EntryFits Old) all → All (EntryFits New) some
+      All EntryRepeats some → All (EntryFits Old) all → All (EntryFits New) some
   entries_fit [] numbers e repeats h = All-nil (EntryFits New)
   entries_fit (entry ∷ some) [] e repeats h = absurd (let no : ⊥ = cc in no)
   entries_fit (entry ∷ some) (n ∷ numbers) e repeats h =
       let here : slice_get all n ≡ Some (entry_at values entry) = cc in
       let later : map (λ entry. Some (entry_at values entry)) some ≡ map (slice_get all) numbers = cc in
       All-cons (EntryFits New) entry some
-      (entry_fits entry (All-head (λ (it : ProblemEntry). QueryRepeats it.query) entry some repeats)
+      (entry_fits entry (All-head EntryRepeats entry some repeats)
       (subst (EntryFits Old) (get_or_from_slice_get all n (entry_at values entry) (entry_at values entry) here)
       (h n (entry_at values entry) (slice_get_within all n (entry_at values entry) here))))
-      (entries_fit some numbers later (All-tail (λ (it : ProblemEntry). QueryRepeats it.query) entry some repeats) h)
+      (entries_fit some numbers later (All-tail EntryRepeats entry some repeats) h)
 
   problem_fits : (numbers : List ℕ) → query_at values goal ≡ given → map (λ entry. Some (entry_at values entry)) es ≡ map (slice_get all) numbers →
-      QueryRepeats goal → All (λ entry. QueryRepeats entry.query) es → ProblemFits Old → ProblemFits New
+      QueryRepeats goal → All EntryRepeats es → ProblemFits Old → ProblemFits New
   problem_fits numbers asked entries repeats entries_repeat h =
       let it : IsQuery s params [] (query_at values goal) = subst (IsQuery s params []) (sym asked) h.goal in
       record {
@@ -263,7 +257,7 @@ module _ (policy : Policy) (vars : List Kind) (values : List Value) (kinds : All
       (parameters_fit (zip (range_with_len 0 (length given_params)) given_params) (subst (All (AtomFits s params [] [])) are fits))
 
   new_fits : (numbers : List ℕ) (given_params : List Value) (operands : List Valued) → query_at values goal ≡ given →
-      map (λ entry. Some (entry_at values entry)) es ≡ map (slice_get all) numbers → QueryRepeats goal → All (λ entry. QueryRepeats entry.query) es →
+      map (λ entry. Some (entry_at values entry)) es ≡ map (slice_get all) numbers → QueryRepeats goal → All EntryRepeats es →
       assumed ≡ map param_is (zip (range_with_len 0 (length given_params)) given_params) → operands ≡ operands_with values given_params → ProblemFits Old →
       PatternFits (record { problem = New; values = values; operands = operands })
   new_fits numbers given_params operands asked entries repeats entries_repeat are operands_are h =

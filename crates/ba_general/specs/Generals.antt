@@ -1,5 +1,7 @@
 -- The template that a proof of a question is made, and when it is too wide for one.
-use Rattle.std.specs.Prelude.{◌≡◌, ℕ, ◌+◌, ◌≤◌, ◌<◌, List, length, map, Some, slice_get}
+use Rattle.std.specs.Prelude.{◌≡◌, ℕ, ◌+◌, ◌≤◌, ◌<◌, List, All, length, map, Some, slice_get}
+use Rattle.std.specs.List.Sorted.{IsStrictlySortedBy}
+use Rattle.std.specs.Ordering.{nat_cmp}
 use Rattle.ba_model.specs.declared.policy.Context.{Context}
 use Rattle.ba_model.specs.declared.query.Atom.{Atom}
 use Rattle.ba_model.specs.declared.value.Value.{Value}
@@ -16,7 +18,7 @@ use Rattle.ba_general.specs.Conditions.{HasParams, IsAcceptedFully, IsCondition,
 use Rattle.ba_general.specs.Dropping.{IsAccepted, NoneCanBeDropped}
 use Rattle.ba_general.specs.Leaving.{AreKept}
 use Rattle.ba_general.specs.Patterns.{IsPattern, assuming, entry_at}
-use Rattle.ba_general.specs.Retold.{AreNamed, AreRenumbered, AreWithVariables}
+use Rattle.ba_general.specs.Retold.{AreNamed, AreRenumbered, AreWithVariables, Names}
 use Rattle.ba_general.specs.declared.pattern.Pattern.{Pattern}
 use Rattle.ba_general.specs.declared.pattern.Valued.{Valued}
 use Rattle.ba_general.specs.declared.general.TheConstants.{MAX_KEPT_ENTRIES, MAX_OPERANDS}
@@ -83,6 +85,16 @@ pub record IsGeneralised (proof template : Proof) : Type 0 where
 -- no proof that is too wide has a template: what it keeps is determined
 abbrev pub TooWideIsNone : Type 0
 TooWideIsNone = (proof template : Proof) → IsTooWide proof → ¬ (IsGeneralised proof template)
+
+-- some of the entries that the proof's own steps name are too many, or the pattern with them has too many variables and parameters
+pub data NamesTooMuch (proof : Proof) : Type 0 where
+  by_entries : (numbers : List ℕ) → IsStrictlySortedBy nat_cmp numbers → All (Names proof.steps) numbers → MAX_KEPT_ENTRIES < length numbers → NamesTooMuch proof
+  by_operands : (numbers : List ℕ) (g : Problem) (values : List Value) → IsStrictlySortedBy nat_cmp numbers → All (Names proof.steps) numbers →
+      IsPattern proof.problem numbers g values → HasTooMany g → NamesTooMuch proof
+
+-- a proof is too wide only by entries that its own steps name
+abbrev pub WideByOwnSteps : Type 0
+WideByOwnSteps = (proof : Proof) → IsTooWide proof → NamesTooMuch proof
 
 -- ---- what follows of every template
 

@@ -69,8 +69,17 @@ OpRepeats Le left right = Unit {0}
 OpRepeats IsNull left right = right ≡ left
 OpRepeats NotNull left right = right ≡ left
 
+abbrev pub AtomRepeats : Atom → Type 0
+AtomRepeats atom = OpRepeats atom.op atom.left atom.right
+
+abbrev pub PartRepeats : Part → Type 0
+PartRepeats part = All AtomRepeats part.conds
+
 abbrev pub QueryRepeats : Query → Type 0
-QueryRepeats q = All (λ part. All (λ atom. OpRepeats atom.op atom.left atom.right) part.conds) q.parts
+QueryRepeats q = All PartRepeats q.parts
+
+abbrev pub EntryRepeats : ProblemEntry → Type 0
+EntryRepeats entry = QueryRepeats entry.query
 
 -- The pattern g of a problem p with those of its entries that have these numbers. With the values, each of its variable's kind, its goal and entries are p's;
 -- no literal but NULL is left in it; and its variables, as they are printed, are 0, 1, 2 and so on, each once: one variable a literal. What isn't printed
@@ -83,7 +92,7 @@ pub record IsPattern (p : Problem) (numbers : List ℕ) (g : Problem) (values : 
   pub literals : All HasNoLiteral (printed g)
   pub own : flat_map variable_of (printed g) ≡ range_with_len 0 (length values)
   pub repeats : QueryRepeats g.goal
-  pub entries_repeat : All (λ entry. QueryRepeats entry.query) g.entries
+  pub entries_repeat : All EntryRepeats g.entries
   pub assumed : g.assumed ≡ []
 
 -- a problem has one pattern with these entries

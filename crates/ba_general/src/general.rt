@@ -72,7 +72,7 @@ fn is_wide(pattern: &Pattern) -> bool
 {
     let problem = &pattern.problem;
     let vars = problem.vars.len();
-    vars > MAX_OPERANDS || vars + problem.policy.params.len() > MAX_OPERANDS
+    vars > MAX_OPERANDS || problem.policy.params.len() > MAX_OPERANDS - vars
 }
 
 /// The template of a pattern and the steps that prove its problem under the full condition.

@@ -1,6 +1,6 @@
 //! What holds of every template of a proof, stated as functions that do nothing.
 ghost use Rattle.ba_general.specs.Dropping.{AcceptanceGrows, PassIsMinimal, RunDropsEach};
-ghost use Rattle.ba_general.specs.Generals.{FullIsAccepted, PatternStands, TemplateIsMinimal, TooWideIsNone};
+ghost use Rattle.ba_general.specs.Generals.{FullIsAccepted, PatternStands, TemplateIsMinimal, TooWideIsNone, WideByOwnSteps};
 ghost use Rattle.ba_general.specs.Layouts.{RunsAreLaidOut};
 ghost use Rattle.ba_general.specs.Leaving.{KeptAreOne};
 ghost use Rattle.ba_general.specs.Patterns.{PatternIsOne};
@@ -18,6 +18,13 @@ pub fn pattern_is_one()
 /// A proof that is too wide has no template.
 pub fn too_wide_is_none()
     ensures { TooWideIsNone }
+{}
+
+/// A proof is too wide only by entries that its own steps name: they are more than
+/// [`crate::MAX_KEPT_ENTRIES`], or the variables for the literals of the question and of them and
+/// the policy's parameters are more than [`crate::MAX_OPERANDS`].
+pub fn wide_by_own_steps()
+    ensures { WideByOwnSteps }
 {}
 
 /// Steps that are accepted with some atoms assumed are accepted with more.

@@ -1,6 +1,6 @@
 //! Variables for literals, in printed order.
 ghost use Rattle.std.specs.Prelude.{◌≡◌, ◌<◌, [], All, IfOk, length};
-ghost use Rattle.ba_general.specs.Patterns.{NamesAtom, NamesAtoms, NamesEntries, NamesEntry, NamesOperand, NamesOperands, NamesParts, NamesQuery, AtomIsAsked, EntryIsAsked, IsGiven, IsOneSided, IsTwoSided, PartIsAsked, QueryIsAsked};
+ghost use Rattle.ba_general.specs.Patterns.{NamesAtom, NamesAtoms, NamesEntries, NamesEntry, NamesOperand, NamesOperands, NamesParts, NamesQuery, AtomIsAsked, AtomRepeats, EntryIsAsked, EntryRepeats, IsGiven, IsOneSided, IsTwoSided, PartIsAsked, PartRepeats, QueryIsAsked, QueryRepeats};
 ghost use Rattle.ba_model.specs.declared.query.Operand.TheVariants.{Val};
 
 use ba_facts::number_of;
@@ -39,7 +39,8 @@ impl Naming {
     /// atoms', left before right.
     pub fn query(&mut self, alloc: Global, query: &Query) -> Result<Shared<Query>, AllocError>
         requires { QueryIsAsked query.now }
-        ensures { IfOk result (NamesQuery self.old query.now self.new) }
+        ensures names { IfOk result (NamesQuery self.old query.now self.new) }
+        ensures repeats { IfOk result QueryRepeats }
     {
         let mut parts = List::new(alloc);
         for part in query.parts.as_slice() {
@@ -57,7 +58,8 @@ impl Naming {
     ) -> Result<List<ProblemEntry>, AllocError>
         requires there { All (λ n. n < length problem.now.entries) numbers.now }
         requires asked { All EntryIsAsked problem.now.entries }
-        ensures { IfOk result (NamesEntries self.old problem.now.entries numbers.now self.new) }
+        ensures names { IfOk result (NamesEntries self.old problem.now.entries numbers.now self.new) }
+        ensures repeats { IfOk result (All EntryRepeats) }
     {
         let mut entries = List::new(alloc);
         for number in numbers {
@@ -69,7 +71,8 @@ impl Naming {
 
     fn entry(&mut self, alloc: Global, entry: &ProblemEntry) -> Result<ProblemEntry, AllocError>
         requires { EntryIsAsked entry.now }
-        ensures { IfOk result (NamesEntry self.old entry.now self.new) }
+        ensures names { IfOk result (NamesEntry self.old entry.now self.new) }
+        ensures repeats { IfOk result EntryRepeats }
     {
         let query = self.query(alloc, &entry.query)?;
         let row = self.operands(alloc, entry.row.as_slice())?;
@@ -78,7 +81,8 @@ impl Naming {
 
     fn part(&mut self, alloc: Global, part: &Part) -> Result<Part, AllocError>
         requires { PartIsAsked part.now }
-        ensures { IfOk result (NamesParts self.old part.now self.new) }
+        ensures names { IfOk result (NamesParts self.old part.now self.new) }
+        ensures repeats { IfOk result PartRepeats }
     {
         let head = self.operands(alloc, part.head.as_slice())?;
         let conds = self.atoms(alloc, part.conds.as_slice())?;
@@ -91,7 +95,8 @@ impl Naming {
 
     fn atoms(&mut self, alloc: Global, atoms: &[Atom]) -> Result<List<Atom>, AllocError>
         requires { All AtomIsAsked atoms.now }
-        ensures { IfOk result (NamesAtoms self.old atoms.now self.new) }
+        ensures names { IfOk result (NamesAtoms self.old atoms.now self.new) }
+        ensures repeats { IfOk result (All AtomRepeats) }
     {
         let mut all = List::new(alloc);
         for atom in atoms {
@@ -102,7 +107,8 @@ impl Naming {
 
     fn atom(&mut self, alloc: Global, atom: &Atom) -> Result<Atom, AllocError>
         requires { AtomIsAsked atom.now }
-        ensures { IfOk result (NamesAtom self.old atom.now self.new) }
+        ensures names { IfOk result (NamesAtom self.old atom.now self.new) }
+        ensures repeats { IfOk result AtomRepeats }
     {
         match atom.op {
             Op::IsNull | Op::NotNull => self.one_sided(alloc, atom),
@@ -114,7 +120,8 @@ impl Naming {
     fn one_sided(&mut self, alloc: Global, atom: &Atom) -> Result<Atom, AllocError>
         requires asked { AtomIsAsked atom.now }
         requires one { IsOneSided atom.now.op }
-        ensures { IfOk result (NamesAtom self.old atom.now self.new) }
+        ensures names { IfOk result (NamesAtom self.old atom.now self.new) }
+        ensures repeats { IfOk result AtomRepeats }
     {
         let left = self.operand(alloc, &atom.left)?;
         let right = left.copy(alloc)?;
@@ -128,7 +135,8 @@ impl Naming {
     fn two_sided(&mut self, alloc: Global, atom: &Atom) -> Result<Atom, AllocError>
         requires asked { AtomIsAsked atom.now }
         requires two { IsTwoSided atom.now.op }
-        ensures { IfOk result (NamesAtom self.old atom.now self.new) }
+        ensures names { IfOk result (NamesAtom self.old atom.now self.new) }
+        ensures repeats { IfOk result AtomRepeats }
     {
         let left = self.operand(alloc, &atom.left)?;
         let right = self.operand(alloc, &atom.right)?;

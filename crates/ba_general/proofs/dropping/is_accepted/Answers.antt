@@ -1,7 +1,7 @@
 use Rattle.std.proofs.Common.{subst, sym}
 use Rattle.std.specs.Prelude.{◌↔◌, IsTrue}
 use Rattle.std.proofs.lemmas.Result.{IfOk-weaker}
-use Rattle.ba_general.proofs.FullFitsLemmas.{pass_fits}
+use Rattle.ba_general.proofs.WholePassLemmas.{all_fit}
 use Rattle.ba_general.proofs.OneFullLemmas.{accepted_fully}
 use Rattle.ba_general.specs.Conditions.{AtomsFit, IsAcceptedFully}
 use Rattle.ba_general.specs.Dropping.{IsAccepted, kept_atoms}
@@ -11,7 +11,7 @@ pub accepts-requires-clause-atoms : goal.accepts-requires-clause-atoms
 accepts-requires-clause-atoms c =
     let pass = c.in_ok-pass.pass in
     subst (λ p. AtomsFit p.now.problem c.in_ok-pass.pass.atoms.items) (sym c.in_ok-pass.ensures.of.0)
-    (pass_fits c.args.pattern.now pass.atoms.items pass.kept.items pass.ends c.requires.fits c.in_ok-pass.ensures.full)
+    (all_fit c.args.pattern.now pass.atoms.items pass.ends c.requires.fits c.in_ok-pass.ensures.full.full)
 
 pub returns : goal.returns
 returns c =
