@@ -132,11 +132,11 @@ module _ (i : Instance) where
       let here : a + 0 ≡ a = omega arith in
       All-cons HasValue (valued (make a, v)) (map (λ (two : ℕ × Value). valued (make two.0, two.1)) (zip (range_with_len (a + 1) (length rest)) rest))
       (record {
-          term = term a;
-          term_is = is a;
-          value_is = subst (λ n. value_of_term i [] (term n) ≡ Some v) here (at 0 v refl);
-          some_value = not_null kind v h.0;
-        })
+        term = term a;
+        term_is = is a;
+        value_is = subst (λ n. value_of_term i [] (term n) ≡ Some v) here (at 0 v refl);
+        some_value = not_null kind v h.0;
+      })
       (numbered_have make term is kinds rest (a + 1)
       (λ k w e. let later : a + suc k ≡ (a + 1) + k = omega arith in subst (λ n. value_of_term i [] (term n) ≡ Some w) later (at (suc k) w e)) h.1)
 

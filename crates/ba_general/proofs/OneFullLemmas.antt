@@ -71,13 +71,13 @@ accepted_fully g operands taken atoms kept ends h =
     let it = h.full in
     let all : kept_atoms atoms kept ≡ it.fixed ++ it.less ++ it.apart ++ it.equal = ap (kept_atoms atoms) h.kept_are ∙ (whole atoms ∙ it.atoms_are) in (
       (λ accepted. record {
-          fixed = it.fixed;
-          less = it.less;
-          apart = it.apart;
-          equal = it.equal;
-          full = it.full;
-          accepted = subst (IsAccepted g taken) all accepted;
-        }),
+        fixed = it.fixed;
+        less = it.less;
+        apart = it.apart;
+        equal = it.equal;
+        full = it.full;
+        accepted = subst (IsAccepted g taken) all accepted;
+      }),
       (λ k. subst (IsAccepted g taken)
           (full_one operands k.fixed k.less k.apart k.equal it.fixed it.less it.apart it.equal k.full it.full ∙ sym all) k.accepted),
     )

@@ -19,11 +19,11 @@ returns c =
     let it = c.args.pattern.now in
     let all = c.in_ok-pass.ensures in
     let both : IsAccepted c.in_ok-pass.pass.pattern.now.problem c.in_ok-pass.pass.steps.now (kept_atoms c.in_ok-pass.pass.atoms.items c.in_ok-pass.pass.kept.items)
-        ↔ IsAcceptedFully c.args.pattern.now.problem c.args.pattern.now.operands c.args.steps.now =
+    ↔ IsAcceptedFully c.args.pattern.now.problem c.args.pattern.now.operands c.args.steps.now =
     subst (λ p. IsAccepted p.now.problem c.in_ok-pass.pass.steps.now (kept_atoms c.in_ok-pass.pass.atoms.items c.in_ok-pass.pass.kept.items)
-        ↔ IsAcceptedFully c.args.pattern.now.problem c.args.pattern.now.operands c.args.steps.now) (sym all.of.0)
+    ↔ IsAcceptedFully c.args.pattern.now.problem c.args.pattern.now.operands c.args.steps.now) (sym all.of.0)
     (subst (λ s. IsAccepted c.args.pattern.now.problem s.now (kept_atoms c.in_ok-pass.pass.atoms.items c.in_ok-pass.pass.kept.items)
-        ↔ IsAcceptedFully c.args.pattern.now.problem c.args.pattern.now.operands c.args.steps.now) (sym all.of.1)
+    ↔ IsAcceptedFully c.args.pattern.now.problem c.args.pattern.now.operands c.args.steps.now) (sym all.of.1)
     (accepted_fully it.problem it.operands c.args.steps.now pass.atoms.items pass.kept.items pass.ends all.full)) in
     IfOk-weaker c.accepts.result
     (λ told. IsTrue told ↔ IsAccepted c.in_ok-pass.pass.pattern.now.problem c.in_ok-pass.pass.steps.now (kept_atoms c.in_ok-pass.pass.atoms.items c.in_ok-pass.pass.kept.items))

@@ -62,11 +62,11 @@ returns c =
     let proof = c.args.proved.now in
     let template = c.in_ok-made_general.field-0 in
     let made = generalised_of c.args.proved.now c.in_ok-made_general.field-0 c.problem-problem.result.now c.steps.result.now c.in_ok-kept.kept c.in_ok-kept-2.kept
-        c.as_slice.result.now c.as_slice-2.result.now c.in_ok-numbers.numbers.items c.in_ok-pattern.pattern c.problem-problem.ensures.is c.steps.ensures.is
-        c.as_slice.ensures.value c.as_slice-2.ensures.value c.in_ok-kept.ensures.kept c.in_ok-numbers.ensures c.in_ok-pattern.ensures.pattern
-        c.in_ok-pattern.ensures.operands (omega (arith, c.len.ensures, c.in_ok-numbers.numbers.ok.0, c.if-len-gt-MAX_KEPT_ENTRIES.false))
-        (λ h. false≢true (sym c.if-is_wide.false ∙ c.is_wide.ensures.1 h)) c.in_ok-kept-2.ensures c.in_ok-made_general.ensures.told
-        c.in_ok-made_general.ensures.condition c.in_ok-made_general.ensures.problem in
+    c.as_slice.result.now c.as_slice-2.result.now c.in_ok-numbers.numbers.items c.in_ok-pattern.pattern c.problem-problem.ensures.is c.steps.ensures.is
+    c.as_slice.ensures.value c.as_slice-2.ensures.value c.in_ok-kept.ensures.kept c.in_ok-numbers.ensures c.in_ok-pattern.ensures.pattern
+    c.in_ok-pattern.ensures.operands (omega (arith, c.len.ensures, c.in_ok-numbers.numbers.ok.0, c.if-len-gt-MAX_KEPT_ENTRIES.false))
+    (λ h. false≢true (sym c.if-is_wide.false ∙ c.is_wide.ensures.1 h)) c.in_ok-kept-2.ensures c.in_ok-made_general.ensures.told
+    c.in_ok-made_general.ensures.condition c.in_ok-made_general.ensures.problem in
     record {
       template = made;
       instance = own_instance c.args.proved.now c.in_ok-made_general.field-0 c.requires made;
