@@ -1,6 +1,6 @@
 -- A question's problem has no variable, and what its pattern is.
-use Rattle.std.proofs.Common.{◌≡◌, ℕ, zero, suc, ◌+◌, ◌⊎◌, inl, inr, List, [], ◌∷◌, ◌++◌, length, map, refl, sym, ap, ap₂, ◌∙◌, subst, append_assoc, append-nil, arith}
-use Rattle.std.specs.Prelude.{All, Some, slice_get}
+use Rattle.std.proofs.Common.{◌≡◌, ℕ, ◌+◌, inl, inr, List, [], ◌∷◌, ◌++◌, length, map, refl, sym, ap, ap₂, ◌∙◌, subst, append-nil, arith}
+use Rattle.std.specs.Prelude.{All, Some}
 use Rattle.std.specs.List.{AllZip, flat_map, range_with_len, zip}
 use Rattle.std.proofs.lemmas.Grind.{flat_map-append}
 use Rattle.std.proofs.lemmas.List.{length-append}
@@ -12,7 +12,6 @@ use Rattle.ba_kernel.specs.declared.problem.Problem.{Problem}
 use Rattle.ba_kernel.specs.declared.problem.ProblemEntry.{ProblemEntry}
 use Rattle.ba_model.specs.Conform.{IsOfKind}
 use Rattle.ba_model.specs.Fit.{AtomFits, IsQuery, OpFits, PartFits, kind_of, kinds_of}
-use Rattle.ba_model.specs.declared.policy.Policy.{Policy}
 use Rattle.ba_model.specs.declared.query.Atom.{Atom}
 use Rattle.ba_model.specs.declared.query.Op.{Op}
 use Rattle.ba_model.specs.declared.query.Op.TheVariants as ops
@@ -23,9 +22,8 @@ use Rattle.ba_model.specs.declared.query.Query.{Query}
 use Rattle.ba_model.specs.declared.schema.Kind.{Kind}
 use Rattle.ba_model.specs.declared.schema.Schema.{Schema}
 use Rattle.ba_model.specs.declared.value.Value.{Value}
-use Rattle.ba_model.specs.declared.value.Value.TheVariants.{Null}
 use Rattle.ba_general.proofs.NamesLemmas.{range_append}
-use Rattle.ba_general.specs.Conditions.{HasOperands, HasParams, parameters, parameters_of, valued, variables}
+use Rattle.ba_general.specs.Conditions.{HasOperands, parameters_of, valued, variables}
 use Rattle.ba_general.specs.Generals.{IsOfQuestion}
 use Rattle.ba_general.specs.Patterns.{AtomIsAsked, EntryIsAsked, EntryRepeats, HasNoLiteral, IsGiven, IsPattern, Named, NamesEntries, NamesQuery, OpRepeats, PartIsAsked, QueryIsAsked, QueryRepeats, entry_at, printed_entry, printed_query, variable_of}
 use Rattle.ba_general.specs.declared.pattern.Valued.{Valued}

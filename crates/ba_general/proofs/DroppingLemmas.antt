@@ -1,12 +1,9 @@
 -- What is dropped of a run, half by half.
-use Rattle.std.proofs.Common.{◌≡◌, ℕ, zero, suc, ◌+◌, ◌-◌, ◌<◌, ◌≤◌, Bool, true, false, List, [], ◌∷◌, ◌++◌, length, get_or, take, drop, set, replicate, refl, sym, ap, ap₂, ◌∙◌, subst, append_assoc, append-nil, add-one, arith}
-use Rattle.std.specs.Prelude.{All}
-use Rattle.std.proofs.lemmas.List.{drop-drop, get_or-append-add, get_or_append_left, take-take, drop_all, drop_at, drop_more, length-append, length-drop, length-replicate, length-take-le, replicate_more, set_at, take-append-drop, take_all, take_at, take_more}
+use Rattle.std.proofs.Common.{◌≡◌, ℕ, zero, suc, ◌+◌, ◌-◌, ◌<◌, ◌≤◌, Bool, true, false, List, [], ◌∷◌, ◌++◌, length, get_or, take, drop, set, replicate, refl, sym, ap, ap₂, ◌∙◌, subst, append_assoc, append-nil, arith}
+use Rattle.std.proofs.lemmas.List.{drop-drop, get_or-append-add, get_or_append_left, take-take, drop_at, drop_more, length-append, length-drop, length-replicate, length-take-le, replicate_more, set_at, take-append-drop, take_all, take_at}
 use Rattle.ba_kernel.proofs.ZipLemmas.{taken}
-use Rattle.ba_kernel.specs.declared.problem.Problem.{Problem}
-use Rattle.ba_kernel.specs.declared.step.Step.{Step}
 use Rattle.ba_model.specs.declared.query.Atom.{Atom}
-use Rattle.ba_general.specs.Dropping.{AllKept, AreSomeOf, Drops, DropsRun, IsAccepted, atom_if, between, kept_atoms}
+use Rattle.ba_general.specs.Dropping.{AllKept, Drops, DropsRun, atom_if, between, kept_atoms}
 
 -- ---- the laws of runs
 

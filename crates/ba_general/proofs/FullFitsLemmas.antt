@@ -1,5 +1,5 @@
 -- The atoms of the full condition fit a pattern that fits.
-use Rattle.std.proofs.Common.{◌≡◌, ◌≢◌, ℕ, Bool, true, false, List, [], ◌∷◌, ◌++◌, map, refl, sym, ap, ◌∙◌, subst, append-nil, suc, arith}
+use Rattle.std.proofs.Common.{◌≡◌, ◌≢◌, Bool, true, false, List, [], ◌∷◌, ◌++◌, map, refl, sym, ap, ◌∙◌, subst, suc, arith}
 use Rattle.std.specs.Prelude.{All, Option, Some, None}
 use Rattle.std.specs.List.{AllZip, flat_map}
 use Rattle.std.proofs.lemmas.List.Elements.{All-append, All-cons, All-nil, All-weaker}
@@ -16,7 +16,7 @@ use Rattle.ba_general.specs.declared.condition.Group.{Group}
 use Rattle.ba_general.specs.declared.condition.Group.TheVariants.{Fixed, Less, Apart, Equal}
 use Rattle.ba_general.specs.declared.pattern.Pattern.{Pattern}
 use Rattle.ba_general.specs.declared.pattern.Valued.{Valued}
-use Rattle.ba_general.specs.Dropping.{atom_if, kept_atoms}
+use Rattle.ba_general.specs.Dropping.{kept_atoms}
 use Rattle.ba_general.specs.Patterns.{assuming}
 
 pub kept_fit : (P : Atom → Type 0) (atoms : List Atom) (kept : List Bool) → All P atoms → All P (kept_atoms atoms kept)

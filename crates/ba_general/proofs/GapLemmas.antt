@@ -1,12 +1,11 @@
 -- Steps that name something of a gap can't be moved.
-use Rattle.std.proofs.Common.{◌≡◌, ℕ, zero, suc, ◌+◌, ◌<◌, ◌≤◌, List, [], ◌∷◌, length, get_or, subst, sym, arith}
-use Rattle.std.specs.Prelude.{Option, Some, None}
+use Rattle.std.proofs.Common.{◌≡◌, ℕ, zero, suc, ◌<◌, List, [], ◌∷◌, length, get_or, subst, sym, arith}
+use Rattle.std.specs.Prelude.{Option, None}
 use Rattle.std.specs.List.{AllZip}
-use Rattle.ba_facts.specs.declared.term.Term.{Term}
 use Rattle.ba_facts.specs.declared.term.TermAtom.{TermAtom}
 use Rattle.ba_kernel.specs.declared.step.Step.{Step}
 use Rattle.ba_kernel.specs.declared.step.Step.TheVariants as steps
-use Rattle.ba_general.specs.Leaving.{IsClosedUp, IsMoved, IsMovedAtom, IsMovedTerm, MaybeIs}
+use Rattle.ba_general.specs.Leaving.{IsClosedUp, IsMoved, IsMovedAtom, MaybeIs}
 use Rattle.ba_general.specs.declared.gap.Gap.{Gap}
 
 abbrev None_is : {X : Type 0} → (X → Type 0) → Type 0

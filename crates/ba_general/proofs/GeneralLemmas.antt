@@ -1,7 +1,7 @@
 -- From the steps that a proof keeps to its template.
-use Rattle.std.proofs.Common.{◌≡◌, ℕ, suc, ◌+◌, ◌<◌, ◌≤◌, List, length, refl, sym, ap, ◌∙◌, subst, arith}
+use Rattle.std.proofs.Common.{◌≡◌, ℕ, suc, ◌+◌, ◌<◌, ◌≤◌, List, length, sym, subst, arith}
 use Rattle.std.proofs.Math.Nat.{lt_of_not-le}
-use Rattle.std.specs.Prelude.{Result, Ok, Err}
+use Rattle.std.specs.Prelude.{Result, Err}
 use Rattle.ba_kernel.proofs.AskedLemmas.{question_is_problem}
 use Rattle.ba_kernel.proofs.OneEnd.{one_end}
 use Rattle.ba_kernel.specs.Courses.{ProblemFits}
@@ -19,8 +19,7 @@ use Rattle.ba_general.proofs.FullLemmas.{full_is_accepted}
 use Rattle.ba_general.proofs.MakesLemmas.{zip_wide}
 use Rattle.ba_general.proofs.PatternFitsLemmas.{pattern_fits}
 use Rattle.ba_general.proofs.StandsLemmas.{stands_all}
-use Rattle.ba_general.specs.Conditions.{HasOperands, IsAcceptedFully, IsCondition, PatternFits, operands_with}
-use Rattle.ba_general.specs.Dropping.{IsAccepted}
+use Rattle.ba_general.specs.Conditions.{HasOperands, IsAcceptedFully, IsCondition, PatternFits}
 use Rattle.ba_general.specs.Generals.{HasTooMany, IsGeneralised, IsOfQuestion, IsTold, IsToldBy, IsTooWide}
 use Rattle.ba_general.specs.Leaving.{AreKept}
 use Rattle.ba_general.specs.Patterns.{IsPattern, assuming}

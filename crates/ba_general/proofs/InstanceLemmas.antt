@@ -28,7 +28,7 @@ use Rattle.ba_general.proofs.LeftLemmas.{condition_some, some_have}
 use Rattle.ba_general.proofs.PatternFitsLemmas.{not_null}
 use Rattle.ba_general.specs.Conditions.{AddsOnes, HasParams, IsCondition, IsFull, IsLessOf, IsOne, IsPairOf, fixed_of, operands_with, pairs, parameters, sided, those, valued, variables}
 use Rattle.ba_general.specs.Generals.{IsGeneralised, IsOfQuestion, OwnInstance}
-use Rattle.ba_general.specs.Patterns.{assuming, entry_at}
+use Rattle.ba_general.specs.Patterns.{entry_at}
 use Rattle.ba_general.specs.declared.condition.Group.{Group}
 use Rattle.ba_general.specs.declared.condition.Group.TheVariants.{Fixed, Less, Apart, Equal}
 use Rattle.ba_general.specs.declared.pattern.Valued.{Valued}

@@ -9,7 +9,7 @@ use Rattle.ba_model.specs.Fit.{AtomFits, kinds_of}
 use Rattle.ba_model.specs.declared.query.Atom.{Atom}
 use Rattle.ba_general.proofs.AcceptedLemmas.{left_some, some_append}
 use Rattle.ba_general.proofs.FullFitsLemmas.{assuming_fits, full_fits, pattern_operands}
-use Rattle.ba_general.specs.Conditions.{AtomsFit, IsCondition, PatternFits}
+use Rattle.ba_general.specs.Conditions.{IsCondition, PatternFits}
 use Rattle.ba_general.specs.Dropping.{AreSomeOf, Drops, IsAccepted}
 use Rattle.ba_general.specs.Patterns.{assuming}
 use Rattle.ba_general.specs.declared.pattern.Pattern.{Pattern}

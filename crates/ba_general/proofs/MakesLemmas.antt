@@ -1,6 +1,6 @@
 -- What a step makes, by the layout before it.
-use Rattle.std.proofs.Common.{◌≡◌, ◌≢◌, ℕ, zero, suc, ◌+◌, ◌<◌, ◌≤◌, List, [], ◌∷◌, ◌++◌, length, get_or, map, refl, sym, ap, ap₂, ◌∙◌, subst, append-nil, arith}
-use Rattle.std.specs.Prelude.{Option, Some, None, slice_get, slice_set}
+use Rattle.std.proofs.Common.{◌≡◌, ◌≢◌, ℕ, suc, ◌+◌, ◌<◌, List, [], ◌∷◌, length, get_or, map, refl, sym, ap, ap₂, ◌∙◌, subst, append-nil, arith}
+use Rattle.std.specs.Prelude.{Some, None, slice_get, slice_set}
 use Rattle.std.specs.List.{AllZip}
 use Rattle.std.proofs.lemmas.List.{length-append, length-map, length-set}
 use Rattle.std.proofs.lemmas.Option.{slice_get_within}
@@ -11,7 +11,7 @@ use Rattle.ba_kernel.specs.Courses.{IsOpen, Slots, Takes, after, branch_of}
 use Rattle.ba_kernel.specs.declared.problem.Problem.{Problem}
 use Rattle.ba_kernel.specs.declared.step.Step.{Step}
 use Rattle.ba_general.proofs.CourseLemmas.{CaseAdds, cases_add, open_filled, tables_at, tables_of}
-use Rattle.ba_general.specs.Layouts.{HasItsUnknowns, IsFilledOut, IsLayoutOf, Layout, adds, tables_on, wide}
+use Rattle.ba_general.specs.Layouts.{IsFilledOut, IsLayoutOf, Layout, adds, tables_on, wide}
 use Rattle.ba_general.specs.Leaving.{IsGapOf, Makes}
 use Rattle.ba_general.specs.declared.gap.Gap.{Gap}
 

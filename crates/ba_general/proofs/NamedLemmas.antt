@@ -1,7 +1,7 @@
 -- The entries that steps name, and the steps with their places.
 use Rattle.std.proofs.Common.{◌≡◌, ℕ, ◌+◌, ◌<◌, ◌≤◌, ◌++◌, ◌⊎◌, inl, inr, List, [], ◌∷◌, length, get_or, take, refl, sym, ap, ◌∙◌, subst, arith, eqb}
 use Rattle.std.specs.Prelude.{Some, slice_get}
-use Rattle.std.specs.List.{AllZip, Contains, dedup, flat_map}
+use Rattle.std.specs.List.{Contains, dedup, flat_map}
 use Rattle.std.specs.List.Sorted.{IsPermutation, IsSorted, IsStrictlySortedBy}
 use Rattle.std.specs.Ordering.{nat_cmp}
 use Rattle.std.proofs.lemmas.List.{take_all}

@@ -1,13 +1,13 @@
 -- One later step, where a layout tells how many branches there are.
-use Rattle.std.proofs.Common.{◌≡◌, ℕ, ◌-◌, Bool, true, false, List, [], ◌∷◌, ◌++◌, length, refl, sym, ap, ap₂, ◌∙◌, subst}
+use Rattle.std.proofs.Common.{◌≡◌, ℕ, ◌-◌, true, false, List, [], ◌∷◌, ◌++◌, length, sym, ap, ap₂, ◌∙◌, subst}
 use Rattle.std.specs.Prelude.{Contains}
 use Rattle.std.specs.List.{range_with_len}
-use Rattle.ba_kernel.specs.Courses.{Slots, Takes, branch_of}
+use Rattle.ba_kernel.specs.Courses.{branch_of}
 use Rattle.ba_kernel.specs.declared.problem.Problem.{Problem}
 use Rattle.ba_kernel.specs.declared.step.Step.{Step}
 use Rattle.ba_general.proofs.CourseLemmas.{next_laid}
 use Rattle.ba_general.proofs.MakesLemmas.{zip_wide}
-use Rattle.ba_general.specs.Layouts.{IsLaidOut, IsLayoutOf, Layout, layout_after}
+use Rattle.ba_general.specs.Layouts.{IsLaidOut, Layout, layout_after}
 use Rattle.ba_general.specs.Leaving.{IsMoved, IsNextLater, IsNextOf}
 use Rattle.ba_general.specs.declared.gap.Gap.{Gap}
 

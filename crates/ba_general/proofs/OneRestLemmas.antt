@@ -1,5 +1,5 @@
 -- What the others are without a step is determined, by the layouts of the course.
-use Rattle.std.proofs.Common.{◌≡◌, ℕ, zero, suc, ◌+◌, ◌-◌, ◌<◌, ◌≤◌, ◌⊎◌, inl, inr, List, [], ◌∷◌, ◌++◌, Contains, length, take, drop, refl, sym, ap, ap₂, ◌∙◌, subst, add-one, arith}
+use Rattle.std.proofs.Common.{◌≡◌, ℕ, zero, suc, ◌+◌, ◌-◌, ◌<◌, ◌≤◌, inl, inr, List, [], ◌∷◌, ◌++◌, Contains, length, take, drop, refl, sym, ap, ap₂, ◌∙◌, subst, add-one, arith}
 use Rattle.std.specs.Prelude.{Some, slice_get}
 use Rattle.std.specs.List.{AllZip, range_with_len}
 use Rattle.std.proofs.lemmas.List.{length-map}
@@ -16,7 +16,7 @@ use Rattle.ba_kernel.specs.declared.step.Step.TheVariants as steps
 use Rattle.ba_general.proofs.CourseLemmas.{laid_at_start, laid_more, next_filled, next_laid, open_filled, runs_filled, tables_at}
 use Rattle.ba_general.proofs.MakesLemmas.{zip_wide}
 use Rattle.ba_general.specs.Layouts.{IsFilledOut, IsLaidOut, IsLayoutAt, IsLayoutOf, Layout, layout_after, start_layout, tables_on, wide}
-use Rattle.ba_general.specs.Leaving.{AreKept, AreLater, IsClosedUp, IsLeftOut, IsMoved, IsMovedAtom, IsMovedTerm, IsWithout, KeptAreOne, Leaves, Makes}
+use Rattle.ba_general.specs.Leaving.{AreLater, IsClosedUp, IsLeftOut, IsMoved, IsMovedAtom, IsMovedTerm, IsWithout, KeptAreOne, Leaves, Makes}
 use Rattle.ba_general.specs.declared.gap.Gap.{Gap}
 use Rattle.ba_general.specs.declared.gap.Span.{Span}
 

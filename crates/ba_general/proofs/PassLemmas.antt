@@ -1,5 +1,5 @@
 -- What the pass leaves, group by group.
-use Rattle.std.proofs.Common.{◌≡◌, ℕ, zero, suc, ◌+◌, ◌-◌, ◌<◌, ◌≤◌, Bool, true, false, List, [], ◌∷◌, ◌++◌, length, take, drop, replicate, refl, sym, ap, ap₂, ◌∙◌, subst, append_assoc, append-nil, arith}
+use Rattle.std.proofs.Common.{◌≡◌, ℕ, ◌+◌, ◌-◌, ◌≤◌, Bool, true, false, List, [], ◌++◌, length, take, drop, replicate, refl, sym, ap, ap₂, ◌∙◌, subst, append_assoc, append-nil, arith}
 use Rattle.std.proofs.lemmas.List.{length-append, length-drop, length-replicate, length-take-le, replicate-append-replicate}
 use Rattle.std.proofs.lemmas.List.Elements.{All-append, All-drop, All-replicate, All-take}
 use Rattle.std.specs.Prelude.{All}
@@ -8,7 +8,7 @@ use Rattle.ba_kernel.specs.declared.step.Step.{Step}
 use Rattle.ba_model.specs.declared.query.Atom.{Atom}
 use Rattle.ba_general.proofs.DroppingLemmas.{all_dropped, first_part, kept_all, kept_append, kept_without, last_part, middle_part, one_stays, split_three}
 use Rattle.ba_general.proofs.FullFitsLemmas.{kept_fit}
-use Rattle.ba_general.specs.Conditions.{IsAcceptedFully, IsCondition, IsFull}
+use Rattle.ba_general.specs.Conditions.{IsCondition, IsFull}
 use Rattle.ba_general.specs.Dropping.{AllKept, CanBeAssumed, Drops, DropsRun, IsAccepted, RunDropsEach, between, kept_atoms}
 use Rattle.ba_general.specs.declared.pattern.Valued.{Valued}
 

@@ -1,5 +1,5 @@
 -- The later steps, gone through in order beside the course that takes them.
-use Rattle.std.proofs.Common.{◌≡◌, ℕ, ◌-◌, Bool, true, false, List, [], ◌∷◌, ◌++◌, Contains, length, refl, sym, ap, ◌∙◌, subst, append_assoc, append-nil}
+use Rattle.std.proofs.Common.{◌≡◌, ℕ, ◌-◌, true, false, List, [], ◌∷◌, ◌++◌, Contains, length, refl, sym, subst, append_assoc, append-nil}
 use Rattle.std.specs.List.{range_with_len}
 use Rattle.ba_kernel.specs.Courses.{IsStart, Runs, Slots, Takes, branch_of}
 use Rattle.ba_kernel.specs.declared.problem.Problem.{Problem}

@@ -1,5 +1,5 @@
 -- The other steps without one, as far as the loop has come.
-use Rattle.std.proofs.Common.{◌≡◌, ℕ, ◌+◌, ◌<◌, ◌≤◌, true, false, List, [], ◌∷◌, ◌++◌, length, get_or, take, drop, refl, sym, ap, ◌∙◌, subst, append_assoc, append-nil, arith}
+use Rattle.std.proofs.Common.{◌≡◌, ℕ, ◌+◌, ◌<◌, ◌≤◌, true, false, List, [], ◌∷◌, ◌++◌, length, take, drop, sym, ap, ◌∙◌, subst, append_assoc, append-nil, arith}
 use Rattle.std.specs.Prelude.{Some, None, slice_get}
 use Rattle.std.proofs.lemmas.List.{drop_all, drop_more, take-append-drop}
 use Rattle.std.proofs.lemmas.Option.{get_or_from_slice_get, same_Some}
@@ -10,7 +10,7 @@ use Rattle.ba_kernel.specs.declared.step.Step.{Step}
 use Rattle.ba_general.proofs.CourseLemmas.{next_filled, next_laid, runs_filled}
 use Rattle.ba_general.proofs.OneRestLemmas.{makes_same}
 use Rattle.ba_general.proofs.PathLemmas.{FirstGoes, Goes, Path, first_goes, from_start, halfway, path_end, path_gone, path_next, path_start, runs_on}
-use Rattle.ba_general.specs.Layouts.{IsLayoutAt, IsLayoutOf, Layout, layout_after}
+use Rattle.ba_general.specs.Layouts.{IsLayoutAt, Layout, layout_after}
 use Rattle.ba_general.specs.Leaving.{AreLater, IsGapOf, IsNextOf, IsWithout, Makes}
 use Rattle.ba_general.specs.declared.gap.Gap.{Gap}
 

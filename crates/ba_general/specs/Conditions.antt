@@ -1,5 +1,5 @@
 -- The full condition of a pattern, and what one pass leaves of it.
-use Rattle.std.specs.Prelude.{◌≡◌, ◌≢◌, ℕ, ℤ, Bool, true, replicate, ◌<ℤ◌, List, [], ◌∷◌, ◌++◌, All, length, map, Option, Some, None}
+use Rattle.std.specs.Prelude.{◌≡◌, ◌≢◌, ℤ, Bool, true, replicate, ◌<ℤ◌, List, [], ◌∷◌, ◌++◌, All, length, map, Option, Some, None}
 use Rattle.std.specs.List.{AllZip, flat_map, range_with_len, zip}
 use Rattle.ba_model.specs.Fit.{AtomFits, kind_of, kind_of_value, kinds_of}
 use Rattle.ba_model.specs.declared.query.Atom.{Atom}

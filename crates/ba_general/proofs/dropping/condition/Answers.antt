@@ -1,4 +1,4 @@
-use Rattle.std.proofs.Common.{◌≡◌, ◌≤◌, ap, arith, drop, length, refl, subst, sym, ◌∙◌}
+use Rattle.std.proofs.Common.{◌≡◌, arith, length, subst, sym, ◌∙◌}
 use Rattle.ba_general.proofs.WholePassLemmas.{all_fit, behind, condition_left, ends_up, pass_condition, still_kept}
 use Rattle.ba_general.specs.Conditions.{AtomsFit}
 use Rattle.ba_general.specs.Dropping.{kept_atoms}
