@@ -34,3 +34,4 @@ pub mod OnePatternLemmas
 pub mod TooWideLemmas
 pub mod WholePassLemmas
 pub mod OwnStepsLemmas
+pub mod OwnMatchLemmas

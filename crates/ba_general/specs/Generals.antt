@@ -12,7 +12,7 @@ use Rattle.ba_kernel.specs.Replays.{Closes}
 use Rattle.ba_kernel.specs.Tests.{Proof}
 use Rattle.ba_kernel.specs.declared.problem.Problem.{Problem}
 use Rattle.ba_kernel.specs.declared.step.Step.{Step}
-use Rattle.ba_template.specs.Found.{with_values}
+use Rattle.ba_template.specs.Found.{Matches, with_values}
 use Rattle.ba_template.specs.Templates.{EachVarStands}
 use Rattle.ba_general.specs.Conditions.{HasParams, IsAcceptedFully, IsCondition, operands_with}
 use Rattle.ba_general.specs.Dropping.{IsAccepted, NoneCanBeDropped}
@@ -110,6 +110,11 @@ pub record OwnInstance (p : Problem) (template : Proof) : Type 0 where
   pub numbers : List ℕ
   pub entries : map (λ entry. Some (entry_at values entry)) template.problem.entries
       ≡ map (slice_get p.entries) numbers
+
+-- so the proof's own question, asked again after its trace, is matched
+abbrev pub OwnQuestionMatches : Type 0
+OwnQuestionMatches = (proof template : Proof) (own : OwnInstance proof.problem template) → IsGeneralised proof template →
+    Matches template.problem proof.problem.policy own.context own.trace proof.problem.goal
 
 -- no atom of the condition can be dropped with the same steps accepted
 abbrev pub IsMinimal : Proof → Type 0

@@ -1,6 +1,6 @@
 //! What holds of every template of a proof, stated as functions that do nothing.
 ghost use Rattle.ba_general.specs.Dropping.{AcceptanceGrows, PassIsMinimal, RunDropsEach};
-ghost use Rattle.ba_general.specs.Generals.{FullIsAccepted, PatternStands, TemplateIsMinimal, TooWideIsNone, WideByOwnSteps};
+ghost use Rattle.ba_general.specs.Generals.{FullIsAccepted, OwnQuestionMatches, PatternStands, TemplateIsMinimal, TooWideIsNone, WideByOwnSteps};
 ghost use Rattle.ba_general.specs.Layouts.{RunsAreLaidOut};
 ghost use Rattle.ba_general.specs.Leaving.{KeptAreOne};
 ghost use Rattle.ba_general.specs.Patterns.{PatternIsOne};
@@ -25,6 +25,11 @@ pub fn too_wide_is_none()
 /// the policy's parameters are more than [`crate::MAX_OPERANDS`].
 pub fn wide_by_own_steps()
     ensures { WideByOwnSteps }
+{}
+
+/// The question of a proof, asked again after the proof's trace, is matched by the template.
+pub fn own_question_matches()
+    ensures { OwnQuestionMatches }
 {}
 
 /// Steps that are accepted with some atoms assumed are accepted with more.
