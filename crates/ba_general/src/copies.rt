@@ -1,0 +1,150 @@
+//! Copies of steps and of problems, and whether steps close one.
+ghost use Rattle.std.specs.Prelude.{◌≡◌, ◌↔◌, ◌≤◌, IfOk, IsTrue, length};
+ghost use Rattle.ba_model.specs.declared.limits.TheConstants.{MAX_BUDGET};
+ghost use Rattle.ba_kernel.specs.Courses.{ProblemFits};
+ghost use Rattle.ba_kernel.specs.Replays.{Closes};
+
+use ba_kernel::{Problem, ProblemEntry, Step, replay};
+use ba_model::{Duplicate, Failure, Kind, List};
+use std::alloc::{AllocError, Global};
+
+/// The same steps.
+pub fn copy_steps(alloc: Global, steps: &List<Step>) -> Result<List<Step>, AllocError>
+    ensures { IfOk result (λ it. it ≡ steps.now) }
+{
+    let mut all = Vec::new(alloc);
+    for step in steps.as_slice() {
+        all.push(copy_step(alloc, step)?)?;
+    }
+    Ok(List::from_vec(all))
+}
+
+/// The same step.
+pub fn copy_step(alloc: Global, step: &Step) -> Result<Step, AllocError>
+    ensures { IfOk result (λ it. it ≡ step.now) }
+{
+    match step {
+        Step::Entry { branch, entry } => Ok(Step::Entry {
+            branch: *branch,
+            entry: *entry,
+        }),
+        Step::Key {
+            branch,
+            key,
+            left,
+            right,
+        } => Ok(Step::Key {
+            branch: *branch,
+            key: *key,
+            left: *left,
+            right: *right,
+        }),
+        Step::Link { branch, link, fact } => Ok(Step::Link {
+            branch: *branch,
+            link: *link,
+            fact: *fact,
+        }),
+        Step::Rule {
+            branch,
+            rule,
+            part,
+            facts,
+        } => Ok(Step::Rule {
+            branch: *branch,
+            rule: *rule,
+            part: *part,
+            facts: facts.copy(alloc)?,
+        }),
+        Step::View {
+            branch,
+            view,
+            part,
+            facts,
+        } => Ok(Step::View {
+            branch: *branch,
+            view: *view,
+            part: *part,
+            facts: facts.copy(alloc)?,
+        }),
+        Step::Split { branch, atom } => Ok(Step::Split {
+            branch: *branch,
+            atom: atom.copy(alloc)?,
+        }),
+        Step::Absurd { branch } => Ok(Step::Absurd { branch: *branch }),
+        Step::Goal {
+            branch,
+            part,
+            facts,
+        } => Ok(Step::Goal {
+            branch: *branch,
+            part: *part,
+            facts: facts.copy(alloc)?,
+        }),
+    }
+}
+
+/// The same problem. Its policy and queries are held in common.
+pub fn copy_problem(alloc: Global, problem: &Problem) -> Result<Problem, AllocError>
+    ensures { IfOk result (λ it. it ≡ problem.now) }
+{
+    let entries = copy_entries(alloc, &problem.entries)?;
+    let vars = copy_kinds(alloc, &problem.vars)?;
+    let assumed = problem.assumed.copy(alloc)?;
+    Ok(Problem {
+        policy: problem.policy.copy(alloc)?,
+        vars,
+        assumed,
+        entries,
+        goal: problem.goal.copy(alloc)?,
+    })
+}
+
+/// The same kinds.
+pub fn copy_kinds(alloc: Global, kinds: &List<Kind>) -> Result<List<Kind>, AllocError>
+    ensures { IfOk result (λ it. it ≡ kinds.now) }
+{
+    let mut all = Vec::new(alloc);
+    all.extend_from_slice(kinds.as_slice())?;
+    Ok(List::from_vec(all))
+}
+
+/// The same entries.
+pub fn copy_entries(
+    alloc: Global,
+    entries: &List<ProblemEntry>,
+) -> Result<List<ProblemEntry>, AllocError>
+    ensures { IfOk result (λ it. it ≡ entries.now) }
+{
+    let mut all = List::new(alloc);
+    for entry in entries.as_slice() {
+        all.push(copy_entry(alloc, entry)?)?;
+    }
+    Ok(all)
+}
+
+/// The same entry.
+pub fn copy_entry(alloc: Global, entry: &ProblemEntry) -> Result<ProblemEntry, AllocError>
+    ensures { IfOk result (λ it. it ≡ entry.now) }
+{
+    let row = entry.row.copy(alloc)?;
+    Ok(ProblemEntry {
+        query: entry.query.copy(alloc)?,
+        row,
+    })
+}
+
+/// Whether the steps are accepted, one after another, from the problem's start and leave no branch
+/// open.
+pub fn closes(alloc: Global, problem: &Problem, steps: &List<Step>) -> Result<bool, AllocError>
+    requires fits { ProblemFits problem.now }
+    requires few { length steps.now ≤ MAX_BUDGET }
+    ensures { IfOk result (λ told. IsTrue told ↔ Closes problem.now steps.now) }
+{
+    let problem = copy_problem(alloc, problem)?;
+    let steps = copy_steps(alloc, steps)?;
+    match replay(alloc, problem, steps) {
+        Ok(_) => Ok(true),
+        Err(Failure::Fault(_)) => Ok(false),
+        Err(Failure::NoMemory) => Err(AllocError),
+    }
+}

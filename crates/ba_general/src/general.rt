@@ -1,0 +1,144 @@
+//! Templates of proofs.
+ghost use Rattle.std.specs.Prelude.{◌≡◌, ◌↔◌, ◌≤◌, IfErr, IfOk, IsTrue, length};
+ghost use Rattle.ba_model.specs.Readings.{OfFault};
+ghost use Rattle.ba_model.specs.declared.limits.TheConstants.{MAX_BUDGET};
+ghost use Rattle.ba_kernel.specs.Courses.{ProblemFits};
+ghost use Rattle.ba_kernel.specs.Replays.{Closes};
+ghost use Rattle.ba_template.specs.Templates.{EachVarStands};
+ghost use Rattle.ba_general.specs.Conditions.{IsAcceptedFully, IsCondition, PatternFits};
+ghost use Rattle.ba_general.specs.Dropping.{IsAccepted};
+ghost use Rattle.ba_general.specs.Generals.{HasTooMany, IsGeneralised, IsMinimal, IsOfQuestion, IsToldBy, IsTooWide, OwnInstance};
+ghost use Rattle.ba_general.specs.Patterns.{assuming};
+
+use crate::copies::copy_steps;
+use crate::dropping::{condition, is_accepted};
+use crate::leaving::kept_steps;
+use crate::pattern::Pattern;
+use crate::retold::{named_entries, renumbered, with_variables};
+use ba_kernel::{Problem, Proved, Step, replay};
+use ba_model::{Atom, Failure, List};
+use ba_template::Template;
+use std::alloc::{AllocError, Global};
+
+/// Entries of a template.
+pub const MAX_KEPT_ENTRIES: usize = 8;
+
+/// Variables of a template and parameters of its policy, taken together.
+pub const MAX_OPERANDS: usize = 64;
+
+/// Why a proof has no template.
+#[derive(Clone, Copy, Debug, PartialEq, Eq)]
+pub enum GeneralFault {
+    /// The steps that the proof needs name more than [`MAX_KEPT_ENTRIES`] entries, or the variables
+    /// for the literals of the question and of those entries and the policy's parameters are more
+    /// than [`MAX_OPERANDS`].
+    Wide,
+}
+
+/// The template of a question's proof.
+///
+/// Steps that the proof doesn't need are left out, from the last one to the first, and entries that
+/// no step then names. Each literal of the question and of the kept entries gets a variable of its
+/// own; NULL stays, and so do parameters. The condition is what the steps need of what the literals
+/// and the parameters' values tell: the proof's own question, after the rows of the kept entries,
+/// meets it in its context, and no atom of it can be dropped with the same steps accepted.
+///
+/// `Wide` comes exactly where what is kept is too wide for a template. `NoMemory` leaves nothing
+/// behind.
+pub fn generalise(alloc: Global, proved: &Proved) -> Result<Template, Failure<GeneralFault>>
+    requires { IsOfQuestion proved.now.problem }
+    ensures template { IfOk result (IsGeneralised proved.now) }
+    ensures instance { IfOk result (OwnInstance proved.now.problem) }
+    ensures minimal { IfOk result IsMinimal }
+    ensures wide { IfErr result (λ e. OfFault e (λ _. IsTooWide proved.now)) }
+{
+    let problem = proved.problem();
+    let kept = kept_steps(alloc, problem, proved.steps())?;
+    let numbers = named_entries(alloc, &kept)?;
+    if numbers.len() > MAX_KEPT_ENTRIES {
+        return Err(Failure::Fault(GeneralFault::Wide));
+    }
+    let pattern = Pattern::of(alloc, problem, numbers.as_slice())?;
+    if is_wide(&pattern) {
+        return Err(Failure::Fault(GeneralFault::Wide));
+    }
+    let kept = renumbered(alloc, &kept, numbers.as_slice())?;
+    Ok(made_general(alloc, &pattern, &kept)?)
+}
+
+/// Whether there are too many variables and parameters.
+fn is_wide(pattern: &Pattern) -> bool
+    ensures { IsTrue result ↔ HasTooMany pattern.now.problem }
+{
+    let problem = &pattern.problem;
+    let vars = problem.vars.len();
+    vars > MAX_OPERANDS || problem.policy.params.len() > MAX_OPERANDS - vars
+}
+
+/// The template of a pattern and the steps that prove its problem under the full condition.
+fn made_general(alloc: Global, pattern: &Pattern, kept: &List<Step>) -> Result<Template, AllocError>
+    requires fits { PatternFits pattern.now }
+    requires few { length kept.now ≤ MAX_BUDGET }
+    requires stands { EachVarStands pattern.now.problem }
+    requires accepted { IsAcceptedFully pattern.now.problem pattern.now.operands kept.now }
+    ensures told { IfOk result (λ it. IsToldBy pattern.now kept.now it.steps) }
+    ensures condition { IfOk result (λ it. IsCondition pattern.now.problem pattern.now.operands it.steps it.problem.assumed) }
+    ensures problem { IfOk result (λ it. it.problem ≡ assuming pattern.now.problem it.problem.assumed) }
+{
+    let steps = general_steps(alloc, pattern, kept)?;
+    let condition = condition(alloc, pattern, &steps)?;
+    template_of(alloc, pattern, condition, steps)
+}
+
+/// The steps with variables for literals in what is split, if they are accepted so; else as they
+/// are.
+fn general_steps(
+    alloc: Global,
+    pattern: &Pattern,
+    kept: &List<Step>,
+) -> Result<List<Step>, AllocError>
+    requires fits { PatternFits pattern.now }
+    requires few { length kept.now ≤ MAX_BUDGET }
+    requires accepted { IsAcceptedFully pattern.now.problem pattern.now.operands kept.now }
+    ensures told { IfOk result (IsToldBy pattern.now kept.now) }
+    ensures accepted { IfOk result (IsAcceptedFully pattern.now.problem pattern.now.operands) }
+    ensures few { IfOk result (λ it. length it ≤ MAX_BUDGET) }
+{
+    let steps = with_variables(alloc, kept, pattern.values.as_slice())?;
+    let told = is_accepted(alloc, pattern, &steps)?;
+    if told {
+        Ok(steps)
+    } else {
+        copy_steps(alloc, kept)
+    }
+}
+
+/// The template of the pattern under a condition with which the steps are accepted.
+fn template_of(
+    alloc: Global,
+    pattern: &Pattern,
+    condition: List<Atom>,
+    steps: List<Step>,
+) -> Result<Template, AllocError>
+    requires fits { ProblemFits (assuming pattern.now.problem condition) }
+    requires few { length steps ≤ MAX_BUDGET }
+    requires stands { EachVarStands pattern.now.problem }
+    requires accepted { IsAccepted pattern.now.problem steps condition }
+    ensures { IfOk result (λ it. it ≡ record { problem = assuming pattern.now.problem condition; steps = steps }) }
+{
+    let problem = pattern.assuming(alloc, condition)?;
+    Template::of(alloc, proof_of(alloc, problem, steps)?)
+}
+
+fn proof_of(alloc: Global, problem: Problem, steps: List<Step>) -> Result<Proved, AllocError>
+    requires fits { ProblemFits problem }
+    requires few { length steps ≤ MAX_BUDGET }
+    requires closes { Closes problem steps }
+    ensures { IfOk result (λ it. it ≡ record { problem = problem; steps = steps }) }
+{
+    match replay(alloc, problem, steps) {
+        Ok(proved) => Ok(proved),
+        Err(Failure::NoMemory) => Err(AllocError),
+        Err(Failure::Fault(_)) => unreachable!(),
+    }
+}

@@ -1,0 +1,16 @@
+//! The generaliser: of a proof of one question a decision template for all that are proved alike.
+#![tactic(auto)]
+
+mod condition;
+mod copies;
+mod dropping;
+mod gap;
+mod general;
+pub mod laws;
+mod layout;
+mod leaving;
+mod naming;
+mod pattern;
+mod retold;
+
+pub use general::{GeneralFault, MAX_KEPT_ENTRIES, MAX_OPERANDS, generalise};

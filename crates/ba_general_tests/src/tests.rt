@@ -1,0 +1,3 @@
+mod generals;
+mod given;
+mod words;
