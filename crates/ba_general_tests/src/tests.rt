@@ -1,3 +1,0 @@
-mod generals;
-mod given;
-mod words;
