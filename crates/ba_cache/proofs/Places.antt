@@ -2,7 +2,7 @@
 use Rattle.std.proofs.Common.{◌≡◌, ◌≢◌, ◌∙◌, ℕ, ◌+◌, ◌%◌, ◌<◌, ◌≤◌, List, [], ◌∷◌, ◌++◌, length, map, drop, get_or, set, get_or-set_same, get_or-set_other, refl, ap, subst, sym, arith}
 use mathlib.Core.Logic.{dite}
 use native.Mathlib.Decide.{ℕ_discrete}
-use Rattle.std.proofs.lemmas.List.{drop-drop, get_or-drop, get_or-map, get_or_append_left, get_or_push, get_or_read, length-drop, length-map, map-set, map_push}
+use Rattle.std.proofs.lemmas.List.{drop-drop, get_or-drop, get_or-map, get_or_append_left, get_or_push, get_or_read, length-map, map-set, map_push}
 use Rattle.ba_turn.specs.Knowing.{spent_known}
 use Rattle.ba_turn.specs.History.{entry_of}
 use Rattle.ba_turn.specs.Passes.{IsFree, MakesCall, known_by}

@@ -1,5 +1,4 @@
-use Rattle.std.proofs.Common.{◌≡◌, ◌∙◌, ℕ, ◌<◌, ap, arith, drop, get_or, subst, sym}
-use Rattle.ba_turn.specs.Passes.{known_by}
+use Rattle.std.proofs.Common.{◌∙◌, ℕ, ap, arith, drop, subst, sym}
 use Rattle.ba_cache.specs.Passes.{ClosedShelf, IsClosed, IsWhole, ShelfKnown, known_in}
 use Rattle.ba_cache.proofs.Places.{first_left, free_read, known_read, more_left, values_on}
 use Rattle.ba_cache.proofs.cache.Cache.close.Goals as goal

@@ -1,4 +1,4 @@
-use Rattle.std.proofs.Common.{◌≡◌, ◌∙◌, ℕ, ap, arith, drop, subst, sym}
+use Rattle.std.proofs.Common.{◌∙◌, ℕ, ap, arith, drop, subst, sym}
 use Rattle.std.specs.Iterator.Adapters.{enumerate_count, enumerate_source}
 use Rattle.std.specs.Vec.Iter.{into_iter_items}
 use Rattle.ba_turn.specs.Passes.{known_by}

@@ -1,4 +1,4 @@
-use Rattle.std.proofs.Common.{◌≡◌, ◌∙◌, ℕ, List, ap, arith, get_or, subst, sym}
+use Rattle.std.proofs.Common.{◌≡◌, ◌∙◌, List, ap, arith, get_or, subst, sym}
 use Rattle.ba_turn.specs.Passes.{known_by}
 use Rattle.ba_cache.specs.Passes.{CanSplit, IsSplit, ShelfKnown, ShelfTurn, known_in}
 use Rattle.ba_cache.proofs.Places.{free_push, free_set, rest_on, rest_read, set_and_push_on}

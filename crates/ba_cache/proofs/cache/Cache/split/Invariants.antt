@@ -1,4 +1,4 @@
-use Rattle.std.proofs.Common.{◌≡◌, ◌≤◌, ◌<◌, ℕ, length, vec_capacity, vec_len}
+use Rattle.std.proofs.Common.{◌≡◌, ◌≤◌, ◌<◌, ℕ, vec_capacity, vec_len}
 use Rattle.ba_cache.specs.Passes.{IsSplit, known_in}
 use Rattle.ba_cache.proofs.Places.{FirstFree}
 use Rattle.ba_cache.proofs.cache.Cache.split.Given as goal
