@@ -6,6 +6,7 @@ use Rattle.std.specs.declared.snapshot.Snapshot.{Snapshot}
 use Rattle.ba_kernel.specs.Tests.{Proof}
 use Rattle.ba_kernel.specs.declared.step.Step.{Step}
 use Rattle.ba_template.specs.Templates.{IsTemplate}
+use Rattle.ba_cache.specs.Passes.{IsLegal}
 use Rattle.ba_cache.specs.Rows.{Legal, Row, Steps, added_by, count_added, is_added, start, next}
 use Rattle.ba_cache.specs.declared.call.Admit.{Admit}
 use Rattle.ba_cache.specs.declared.call.Admit.TheVariants.{Added, Known}
@@ -43,3 +44,7 @@ most_one (Known id) = omega arith
 -- what the steps of a template tell
 pub is_template : (seen t : Proof) (steps : List Step) → seen ≡ t → steps ≡ seen.steps → IsTemplate seen.problem steps → IsTemplate t.problem t.steps
 is_template seen t steps same is h = subst (λ (p : Proof). IsTemplate p.problem p.steps) same (subst (λ (l : List Step). IsTemplate seen.problem l) is h)
+
+-- what a shelf tells of its calls, is legal
+pub legal_seen : (calls seen : List ShelfCall) (rows : List Row) → ∥ Legal calls rows ∥₁ → seen ≡ calls → IsLegal seen
+legal_seen calls seen rows legal is = ∥∥₁_map legal (λ it. (rows, subst (λ (l : List ShelfCall). Legal l rows) (sym is) it))

@@ -1,3 +1,5 @@
+mod cache;
+mod plain;
 mod shelves;
 mod templates;
 mod versions;

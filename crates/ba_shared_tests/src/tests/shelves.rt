@@ -77,20 +77,3 @@ fn ninth_template_drops_the_oldest(rt: HostRuntime) -> Result<(), Fail> {
     assert_eq!(rt; text.as_str(), "found 1 2 3 4 5 6 7 8; known 8; added 9; ");
     Ok(())
 }
-
-/// The shard of a template's shape, and what becomes of it on an empty shelf.
-fn first_admit(alloc: Global) -> Result<(u32, Admit), AllocError> {
-    let mut shelf = Shelf::new(alloc)?;
-    shelf.reserve(1)?;
-    let it = template(alloc, 1, 1)?;
-    let shard = it.shape().shard();
-    Ok((shard, shelf.admit(it)?))
-}
-
-/// Its question has table 1 alone, one atom and one operand of the head.
-#[test]
-fn template_in_shard_three(rt: HostRuntime) -> Result<(), Fail> {
-    let (shard, answer) = first_admit(rt.alloc())?;
-    assert!(rt; shard == 3 && answer == Admit::Added(0));
-    Ok(())
-}
