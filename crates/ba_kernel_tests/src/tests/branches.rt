@@ -1,23 +1,16 @@
-//! Branches that are filled from short texts, and what they tell.
+//! Branches that are filled from short texts.
 //!
 //! A fact is its side, a letter for each of its columns (as in a table), its table and its round, as
 //! in `One iI 0 5`. What is learned is atoms, with `~` between terms that are the same, maybe NULL.
 ghost use Rattle.std.specs.Prelude.{◌↔◌, IsTrue};
 ghost use Rattle.ba_facts.specs.Knowing.{IsThere};
 
-use super::given::add_columns;
-use super::words::{number, term_atom};
+use super::policies::columns;
+use super::words::{Handle, number, term_atom};
 use ba_facts::{Branch, Knowledge, Side, Term};
 use ba_model::{Kind, List};
-use std::alloc::{AllocError, Global};
 
-fn kinds(alloc: Global) -> Result<List<Kind>, AllocError> {
-    let mut kinds = List::new(alloc);
-    kinds.push(Kind::Int)?;
-    Ok(kinds)
-}
-
-pub(super) fn side(text: &str) -> Side {
+pub fn side(text: &str) -> Side {
     if text.contains("Two") {
         Side::Two
     } else {
@@ -25,15 +18,14 @@ pub(super) fn side(text: &str) -> Side {
     }
 }
 
-fn add_fact(alloc: Global, branch: &mut Branch, text: &str) -> Result<(), AllocError> {
+fn add_fact(rt: &impl Handle, branch: &mut Branch, text: &str) {
     let mut words = text.split_whitespace();
     let side = side(words.next().unwrap_or(""));
-    let letters = words.next().unwrap_or("");
+    let columns = columns(rt, words.next().unwrap_or(""));
     let table = number(words.next().unwrap_or(""));
     let round = number(words.next().unwrap_or(""));
-    let mut columns = List::new(alloc);
-    add_columns(alloc, &mut columns, letters)?;
-    branch.add_fact(alloc, side, table, columns.as_slice(), round)
+    let added = branch.add_fact(rt.alloc(), side, table, columns.as_slice(), round);
+    added.expect(rt, "memory");
 }
 
 /// Whether the term is no unknown past those that are there.
@@ -46,41 +38,41 @@ fn is_there(known: &Knowledge, term: &Term) -> bool
     }
 }
 
-fn learn(alloc: Global, branch: &mut Branch, text: &str) -> Result<(), AllocError> {
-    let atom = term_atom(alloc, text)?;
-    if !is_there(&branch.known, &atom.left) || !is_there(&branch.known, &atom.right) {
-        return Err(AllocError);
-    }
-    if text.contains('~') {
+fn learn(rt: &impl Handle, branch: &mut Branch, text: &str) {
+    let atom = term_atom(rt, text);
+    assert!(rt; is_there(&branch.known, &atom.left), "{text}");
+    assert!(rt; is_there(&branch.known, &atom.right), "{text}");
+    let learned = if text.contains('~') {
         branch.equate(atom.left, atom.right)
     } else {
         branch.assume(atom)
-    }
+    };
+    learned.expect(rt, "memory");
 }
 
 /// Adds a fact, or learns an atom.
-fn add(alloc: Global, branch: &mut Branch, text: &str) -> Result<(), AllocError> {
+pub fn add(rt: &impl Handle, branch: &mut Branch, text: &str) {
     if text.starts_with("One ") || text.starts_with("Two ") {
-        add_fact(alloc, branch, text)
+        add_fact(rt, branch, text);
     } else {
-        learn(alloc, branch, text)
+        learn(rt, branch, text);
     }
 }
 
-/// Adds facts and learns atoms, with commas between them, in turn.
-pub(super) fn add_all(alloc: Global, branch: &mut Branch, text: &str) -> Result<(), AllocError> {
+fn kinds(rt: &impl Handle) -> List<Kind> {
+    let mut kinds = List::new(rt.alloc());
+    kinds.push(Kind::Int).expect(rt, "memory");
+    kinds
+}
+
+/// A branch with these facts and lessons, which have commas between them, a parameter and a variable.
+pub fn branch(rt: &impl Handle, text: &str) -> Branch {
+    let branch = Branch::new(rt.alloc(), kinds(rt), kinds(rt));
+    let mut branch = branch.expect(rt, "memory");
     for piece in text.split(',') {
-        let piece = piece.trim();
-        if !piece.is_empty() {
-            add(alloc, branch, piece)?;
+        if !piece.trim().is_empty() {
+            add(rt, &mut branch, piece.trim());
         }
     }
-    Ok(())
-}
-
-/// A branch with these facts and lessons, a parameter and a variable.
-pub(super) fn branch(alloc: Global, text: &str) -> Result<Branch, AllocError> {
-    let mut branch = Branch::new(alloc, kinds(alloc)?, kinds(alloc)?)?;
-    add_all(alloc, &mut branch, text)?;
-    Ok(branch)
+    branch
 }

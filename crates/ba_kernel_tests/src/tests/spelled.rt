@@ -1,80 +1,49 @@
-//! Branches and mappings that are spelled.
+//! Branches that are spelled: their facts, what was learned, the oldest first, and their goal row, as
+//! in `One 1: u.0 u.1 @0 | u.0 = 5 | u.1`.
 //!
-//! A branch is its facts, what was learned, the oldest first, and its goal row, as in
-//! `One 1: u.0 u.1 @0 | u.0 = 5 | u.1`: a fact is its side, its table, its terms and its round. In
-//! what was learned `~` stands between terms that are the same, maybe NULL.
+//! A fact is its side, its table, its terms and its round. In what was learned `~` stands between
+//! terms that are the same, maybe NULL.
 
-use ba_facts::{Branch, Fact, Lesson, Mapping, Side, Term, TermAtom, TermRef};
-use ba_model::{Op, Shared, Value};
-use std::alloc::AllocError;
-use std::fmt::Write;
+use super::words::Handle;
+use ba_facts::{Branch, Lesson, Term};
+use ba_model::{Op, Value};
 
-fn write_value(text: &mut String, value: &Value) -> Result<(), AllocError> {
-    match value {
-        Value::Null => text.push_str("NULL"),
-        Value::Int(n) => write!(text, "{n}"),
-        Value::Text(letters) => text.push_str(letters.as_str()),
-    }
-}
-
-fn write_term(text: &mut String, term: TermRef<'_>) -> Result<(), AllocError> {
-    match term {
-        TermRef::Unknown(n) => write!(text, "u.{n}"),
-        TermRef::Val(value) => write_value(text, value),
-        TermRef::Param(n) => write!(text, "p.{n}"),
-        TermRef::Var(n) => write!(text, "v.{n}"),
-    }
+fn word(rt: &impl Handle, term: &Term) -> String {
+    let word = match term {
+        Term::Unknown(n) => format!(in rt.alloc(); "u.{n}"),
+        Term::Val(Value::Null) => format!(in rt.alloc(); "NULL"),
+        Term::Val(Value::Int(n)) => format!(in rt.alloc(); "{n}"),
+        Term::Val(Value::Text(letters)) => format!(in rt.alloc(); "{}", letters.as_str()),
+        Term::Param(n) => format!(in rt.alloc(); "p.{n}"),
+        Term::Var(n) => format!(in rt.alloc(); "v.{n}"),
+    };
+    word.expect(rt, "memory")
 }
 
 fn sign(op: Op) -> &'static str {
     match op {
-        Op::Eq => " = ",
-        Op::Ne => " <> ",
-        Op::Lt => " < ",
-        Op::Le => " <= ",
-        Op::IsNull => " null ",
-        Op::NotNull => " some ",
+        Op::Eq => "=",
+        Op::Ne => "<>",
+        Op::Lt => "<",
+        Op::Le => "<=",
+        Op::IsNull => "null",
+        Op::NotNull => "some",
     }
 }
 
-fn write_pair(text: &mut String, left: &Term, sign: &str, right: &Term) -> Result<(), AllocError> {
-    write_term(text, left.by_ref())?;
-    text.push_str(sign)?;
-    write_term(text, right.by_ref())
+fn pair(rt: &impl Handle, left: &Term, sign: &str, right: &Term) -> String {
+    let left = word(rt, left);
+    let right = word(rt, right);
+    format!(in rt.alloc(); "{left} {sign} {right}").expect(rt, "memory")
 }
 
-fn write_atom(text: &mut String, atom: &TermAtom) -> Result<(), AllocError> {
-    write_pair(text, &atom.left, sign(atom.op), &atom.right)
-}
-
-fn write_lesson(text: &mut String, lesson: &Lesson) -> Result<(), AllocError> {
-    match lesson {
-        Lesson::Same(left, right) => write_pair(text, left, " ~ ", right),
-        Lesson::Holds(atom) => write_atom(text, atom),
-    }
-}
-
-fn write_terms(text: &mut String, terms: &[Term]) -> Result<(), AllocError> {
+fn terms(rt: &impl Handle, terms: &[Term]) -> String {
+    let mut text = String::new(rt.alloc());
     for term in terms {
-        text.push_str(" ")?;
-        write_term(text, term.by_ref())?;
+        text.push_str(" ").expect(rt, "memory");
+        text.push_str(word(rt, term).as_str()).expect(rt, "memory");
     }
-    Ok(())
-}
-
-fn side_name(side: Side) -> &'static str {
-    match side {
-        Side::One => "One ",
-        Side::Two => "Two ",
-    }
-}
-
-fn write_fact(text: &mut String, fact: &Fact) -> Result<(), AllocError> {
-    let (table, round) = (fact.table, fact.round);
-    text.push_str(side_name(fact.side))?;
-    write!(text, "{table}:")?;
-    write_terms(text, fact.terms.as_slice())?;
-    write!(text, " @{round}")
+    text
 }
 
 /// What stands before the thing of the number.
@@ -82,50 +51,40 @@ fn comma(number: usize) -> &'static str {
     if number > 0 { ", " } else { "" }
 }
 
-fn write_facts(text: &mut String, facts: &[Shared<Fact>]) -> Result<(), AllocError> {
-    for (n, fact) in facts.iter().enumerate() {
-        text.push_str(comma(n))?;
-        write_fact(text, fact)?;
+fn facts(rt: &impl Handle, branch: &Branch) -> String {
+    let mut text = String::new(rt.alloc());
+    for (n, fact) in branch.facts.as_slice().iter().enumerate() {
+        let comma = comma(n);
+        let terms = terms(rt, fact.terms.as_slice());
+        let (side, table, round) = (fact.side, fact.table, fact.round);
+        let fact = format!(in rt.alloc(); "{comma}{side:?} {table}:{terms} @{round}");
+        text.push_str(fact.expect(rt, "memory").as_str())
+            .expect(rt, "memory");
     }
-    Ok(())
+    text
 }
 
-fn write_lessons(text: &mut String, lessons: &[Shared<Lesson>]) -> Result<(), AllocError> {
-    for (n, lesson) in lessons.iter().enumerate() {
-        text.push_str(comma(n))?;
-        write_lesson(text, lesson)?;
+fn lessons(rt: &impl Handle, branch: &Branch) -> String {
+    let mut text = String::new(rt.alloc());
+    for (n, lesson) in branch.known.learned().iter().enumerate() {
+        let lesson: &Lesson = lesson;
+        let pair = match lesson {
+            Lesson::Same(left, right) => pair(rt, left, "~", right),
+            Lesson::Holds(atom) => pair(rt, &atom.left, sign(atom.op), &atom.right),
+        };
+        text.push_str(comma(n)).expect(rt, "memory");
+        text.push_str(pair.as_str()).expect(rt, "memory");
     }
-    Ok(())
+    text
 }
 
-pub(super) fn write_branch(text: &mut String, branch: &Branch) -> Result<(), AllocError> {
-    write_facts(text, branch.facts.as_slice())?;
-    text.push_str(" | ")?;
-    write_lessons(text, branch.known.learned())?;
-    text.push_str(" |")?;
-    write_terms(text, branch.goal.as_slice())
-}
-
-fn write_numbers(text: &mut String, numbers: &[u32]) -> Result<(), AllocError> {
-    for n in numbers {
-        write!(text, "{n} ")?;
-    }
-    Ok(())
-}
-
-fn write_undecided(text: &mut String, atom: Option<u32>) -> Result<(), AllocError> {
-    match atom {
-        Some(n) => write!(text, "?{n} "),
-        None => Ok(()),
-    }
-}
-
-/// The mappings, with `;` after each: its facts, and behind `?` the first atom that isn't shown.
-pub(super) fn write_mappings(text: &mut String, mappings: &[Mapping]) -> Result<(), AllocError> {
-    for mapping in mappings {
-        write_numbers(text, mapping.facts.as_slice())?;
-        write_undecided(text, mapping.undecided)?;
-        text.push_str("; ")?;
-    }
-    Ok(())
+/// The branch, or `-` where there is none.
+pub fn spelled(rt: &impl Handle, branch: Option<&Branch>) -> String {
+    let Some(branch) = branch else {
+        return format!(in rt.alloc(); "-").expect(rt, "memory");
+    };
+    let facts = facts(rt, branch);
+    let lessons = lessons(rt, branch);
+    let goal = terms(rt, branch.goal.as_slice());
+    format!(in rt.alloc(); "{facts} | {lessons} |{goal}").expect(rt, "memory")
 }

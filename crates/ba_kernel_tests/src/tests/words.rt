@@ -2,72 +2,87 @@
 //!
 //! An operand is a word: `a.1` is column 1 of the part's first table and `b.1` that of its second,
 //! `p.0` a parameter, `v.0` a variable, a number is itself, `NULL` is NULL, and any other word is a
-//! text. A term is the same, with `u.3` for an unknown. An atom is two of them with `=`, `<>`, `<`,
-//! `<=`, `null` or `some` between them, of which the last is IS NOT NULL. Between atoms stand
-//! commas, and between the columns of a line bars.
+//! text, of which a quote before it is no part. A term is the same, with `u.3` for an unknown. An
+//! atom is two of them with `=`, `<>`, `<`, `<=`, `null` or `some` between them, of which the last is
+//! IS NOT NULL. Between atoms stand commas, and between the columns of a line bars.
+ghost use Rattle.std.specs.Prelude.{◌≡◌};
 
 use ba_facts::{Term, TermAtom};
-use ba_model::{Atom, List, Op, Operand, Str, Value};
-use std::alloc::{AllocError, Global};
+use ba_model::{Atom, List, Op, Operand, Shared, Str, Value};
+use std::process::Abort;
+
+/// What a test has: memory, and an end of the process where there is none.
+pub trait Handle: AllocGlobal + Abort {}
+
+impl<R: AllocGlobal + Abort> Handle for R {}
+
+pub fn shared<T: Drop>(rt: &impl Handle, value: T) -> Shared<T>
+    ensures { result ≡ value }
+{
+    Shared::new(rt.alloc(), value).expect(rt, "memory")
+}
 
 /// What stands between bars, from 0 on.
-pub(super) fn bar(text: &str, number: usize) -> &str {
+pub fn bar(text: &str, number: usize) -> &str {
     text.split('|').nth(number).unwrap_or("").trim()
 }
 
+/// The first word of a piece, and what stands behind it.
+pub fn named(piece: &str) -> (&str, &str) {
+    let piece = piece.trim();
+    piece.split_once(' ').unwrap_or((piece, ""))
+}
+
 /// The number that the word is. Any other word is told as the greatest.
-pub(super) fn number(word: &str) -> u32 {
-    word.trim().parse::<u32>().unwrap_or(0xffff_ffff)
+pub fn number(word: &str) -> u32 {
+    word.trim().parse::<u32>().unwrap_or(u32::MAX)
 }
 
-pub(super) fn add_numbers(all: &mut List<u32>, text: &str) -> Result<(), AllocError> {
+pub fn numbers(rt: &impl Handle, text: &str) -> List<u32> {
+    let mut all = List::new(rt.alloc());
     for word in text.split_whitespace() {
-        all.push(number(word))?;
+        all.push(number(word)).expect(rt, "memory");
     }
-    Ok(())
+    all
 }
 
-pub(super) fn numbers(alloc: Global, text: &str) -> Result<List<u32>, AllocError> {
-    let mut all = List::new(alloc);
-    add_numbers(&mut all, text)?;
-    Ok(all)
-}
-
-fn value(alloc: Global, word: &str) -> Result<Value, AllocError> {
+fn value(rt: &impl Handle, word: &str) -> Value {
     if word == "NULL" {
-        return Ok(Value::Null);
+        return Value::Null;
     }
     match word.parse::<i64>() {
-        Ok(n) => Ok(Value::Int(n)),
-        Err(_) => Ok(Value::Text(Str::new(alloc, word)?)),
+        Ok(n) => Value::Int(n),
+        Err(_) => {
+            let letters = word.strip_prefix('\'').unwrap_or(word);
+            Value::Text(Str::new(rt.alloc(), letters).expect(rt, "memory"))
+        }
     }
 }
 
-fn named_operand(letter: &str, n: u32) -> Operand {
-    match letter {
-        "a" => Operand::Col(0, n),
-        "b" => Operand::Col(1, n),
-        "p" => Operand::Param(n),
-        _ => Operand::Var(n),
-    }
-}
-
-fn operand(alloc: Global, word: &str) -> Result<Operand, AllocError> {
-    match word.split_once('.') {
-        Some((letter, digits)) => Ok(named_operand(letter, number(digits))),
-        None => Ok(Operand::Val(value(alloc, word)?)),
-    }
-}
-
-pub(super) fn add_operands(
-    alloc: Global,
-    all: &mut List<Operand>,
-    text: &str,
-) -> Result<(), AllocError> {
+pub fn values(rt: &impl Handle, text: &str) -> List<Value> {
+    let mut all = List::new(rt.alloc());
     for word in text.split_whitespace() {
-        all.push(operand(alloc, word)?)?;
+        all.push(value(rt, word)).expect(rt, "memory");
     }
-    Ok(())
+    all
+}
+
+fn operand(rt: &impl Handle, word: &str) -> Operand {
+    match word.split_once('.') {
+        Some(("b", digits)) => Operand::Col(1, number(digits)),
+        Some(("p", digits)) => Operand::Param(number(digits)),
+        Some(("v", digits)) => Operand::Var(number(digits)),
+        Some((_, digits)) => Operand::Col(0, number(digits)),
+        None => Operand::Val(value(rt, word)),
+    }
+}
+
+pub fn operands(rt: &impl Handle, text: &str) -> List<Operand> {
+    let mut all = List::new(rt.alloc());
+    for word in text.split_whitespace() {
+        all.push(operand(rt, word)).expect(rt, "memory");
+    }
+    all
 }
 
 fn op(word: &str) -> Op {
@@ -81,60 +96,51 @@ fn op(word: &str) -> Op {
     }
 }
 
-/// The three words of an atom.
-pub(super) fn sides(text: &str) -> (&str, &str, &str) {
+fn atom(rt: &impl Handle, text: &str) -> Atom {
     let mut words = text.split_whitespace();
     let left = words.next().unwrap_or("");
     let sign = words.next().unwrap_or("");
     let right = words.next().unwrap_or("");
-    (left, sign, right)
-}
-
-fn atom(alloc: Global, text: &str) -> Result<Atom, AllocError> {
-    let (left, sign, right) = sides(text);
-    Ok(Atom {
+    Atom {
         op: op(sign),
-        left: operand(alloc, left)?,
-        right: operand(alloc, right)?,
-    })
+        left: operand(rt, left),
+        right: operand(rt, right),
+    }
 }
 
-pub(super) fn add_atoms(alloc: Global, all: &mut List<Atom>, text: &str) -> Result<(), AllocError> {
+pub fn atoms(rt: &impl Handle, text: &str) -> List<Atom> {
+    let mut all = List::new(rt.alloc());
     for piece in text.split(',') {
         if !piece.trim().is_empty() {
-            all.push(atom(alloc, piece)?)?;
+            all.push(atom(rt, piece)).expect(rt, "memory");
         }
     }
-    Ok(())
+    all
 }
 
-fn named_term(letter: &str, n: u32) -> Term {
-    match letter {
-        "u" => Term::Unknown(n),
-        "p" => Term::Param(n),
-        _ => Term::Var(n),
+/// The term of an operand, whose column is an unknown's number.
+fn term(operand: Operand) -> Term {
+    match operand {
+        Operand::Col(_, n) => Term::Unknown(n),
+        Operand::Val(value) => Term::Val(value),
+        Operand::Param(n) => Term::Param(n),
+        Operand::Var(n) => Term::Var(n),
     }
 }
 
-pub(super) fn term(alloc: Global, word: &str) -> Result<Term, AllocError> {
-    match word.split_once('.') {
-        Some((letter, digits)) => Ok(named_term(letter, number(digits))),
-        None => Ok(Term::Val(value(alloc, word)?)),
-    }
-}
-
-pub(super) fn add_terms(alloc: Global, all: &mut List<Term>, text: &str) -> Result<(), AllocError> {
+pub fn terms(rt: &impl Handle, text: &str) -> List<Term> {
+    let mut all = List::new(rt.alloc());
     for word in text.split_whitespace() {
-        all.push(term(alloc, word)?)?;
+        all.push(term(operand(rt, word))).expect(rt, "memory");
     }
-    Ok(())
+    all
 }
 
-pub(super) fn term_atom(alloc: Global, text: &str) -> Result<TermAtom, AllocError> {
-    let (left, sign, right) = sides(text);
-    Ok(TermAtom {
-        op: op(sign),
-        left: term(alloc, left)?,
-        right: term(alloc, right)?,
-    })
+pub fn term_atom(rt: &impl Handle, text: &str) -> TermAtom {
+    let atom = atom(rt, text);
+    TermAtom {
+        op: atom.op,
+        left: term(atom.left),
+        right: term(atom.right),
+    }
 }

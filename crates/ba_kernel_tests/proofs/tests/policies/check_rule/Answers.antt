@@ -4,11 +4,11 @@ use Rattle.ba_model.specs.Fit.{IsQuery, PartFits, PartWithin, kinds_of}
 use Rattle.ba_model.specs.declared.limits.TheConstants.{MAX_PARTS}
 use Rattle.ba_model.specs.declared.policy.Parameter.{Parameter}
 use Rattle.ba_model.specs.declared.query.Part.{Part}
-use Rattle.ba_model.specs.declared.schema.Kind.{Kind}
+use Rattle.ba_model.specs.declared.query.Query.{Query}
 use Rattle.ba_model.specs.declared.schema.Rule.{Rule}
 use Rattle.ba_model.specs.declared.schema.Schema.{Schema}
 use Rattle.ba_kernel.specs.Courses.{RuleFits}
-use Rattle.ba_kernel_tests.proofs.tests.fitting.rule_fits.Goals as goal
+use Rattle.ba_kernel_tests.proofs.tests.policies.check_rule.Goals as goal
 
 all_left : {X : Type 0} (P : X → Type 0) (xs ys : List X) → All P (xs ++ ys) → All P xs
 all_left P [] ys h = All-nil P
@@ -44,17 +44,14 @@ module _ (s : Schema) (rule : Rule) (some_left : rule.left.parts ≢ []) (some_r
   unfolding left_fits right_fits
   rule_of is = record { left = left_fits is; right = right_fits is; kinds = refl }
 
-  rule_from : (parts : List Part) (params : List Parameter) (vars : List Kind) → parts ≡ rule.left.parts ++ rule.right.parts → params ≡ [] → vars ≡ [] →
-      IsQuery s (kinds_of params) vars (record { parts = parts }) → RuleFits s rule
-  rule_from parts params vars parts_are no_params no_vars is =
-      let a = subst (λ xs. IsQuery s (kinds_of params) vars (record { parts = xs })) parts_are is in
-      let b = subst (λ xs. IsQuery s (kinds_of xs) vars (record { parts = rule.left.parts ++ rule.right.parts })) no_params a in
-      let d = subst (λ xs. IsQuery s [] xs (record { parts = rule.left.parts ++ rule.right.parts })) no_vars b in
-      rule_of d
+  rule_from : (parts : List Part) (params : List Parameter) (query : Query) → parts ≡ rule.left.parts ++ rule.right.parts → params ≡ [] → query.parts ≡ parts →
+      IsQuery s (kinds_of params) [] query → RuleFits s rule
+  rule_from parts params query parts_are no_params same is =
+      let a = subst (λ xs. IsQuery s (kinds_of params) [] (record { parts = xs })) (same ∙ parts_are) is in
+      rule_of (subst (λ xs. IsQuery s (kinds_of xs) [] (record { parts = rule.left.parts ++ rule.right.parts })) no_params a)
 
 pub returns : goal.returns
-returns c =
+returns g c =
     rule_from c.args.schema.now c.args.rule.now
     (λ e. c.if-len-eq0.false (c.len.ensures ∙ ap length e)) (λ e. c.if-len-eq0-2.false (c.len-else-len-eq0.ensures ∙ ap length e))
-    c.in_ok-parts_of.field-0 c.new.result c.new-2.result c.in_ok-parts_of.ensures c.new.ensures c.new-2.ensures
-    c.in_ok-query_fits.ensures
+    c.joined-parts.result c.new.result c.checked-2.result c.joined-parts.ensures c.new.ensures c.checked-2.ensures.same c.checked-2.ensures.fits
