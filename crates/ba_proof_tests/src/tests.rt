@@ -1,4 +1,6 @@
 mod checked;
 mod forged;
+mod generals;
 mod given;
+mod words;
 mod written;

@@ -16,7 +16,7 @@ CREATE TABLE Events (EId INT PRIMARY KEY, Title TEXT NOT NULL, Duration INT NOT 
 CREATE TABLE Attendances (UId INT NOT NULL REFERENCES Users (UId),
   EId INT NOT NULL REFERENCES Events (EId), At INT NOT NULL, PRIMARY KEY (UId, EId));";
 
-const POLICY: &str = "PARAM MyUId INT;
+pub const POLICY: &str = "PARAM MyUId INT;
 CREATE VIEW V1 AS SELECT UId, Name FROM Users;
 CREATE VIEW V2 AS SELECT UId, EId, At FROM Attendances WHERE UId = ?MyUId;
 CREATE VIEW V3 AS SELECT e.EId, e.Title, e.Duration FROM Events e
@@ -30,11 +30,18 @@ pub const PROOF: &str =
 pub fn policy(alloc: Global) -> Result<Shared<Policy>, AllocError>
     ensures { IfOk result IsPolicy }
 {
+    policy_of(alloc, POLICY)
+}
+
+/// The policy of the text. A fault of a text is told as want of memory.
+pub fn policy_of(alloc: Global, text: &str) -> Result<Shared<Policy>, AllocError>
+    ensures { IfOk result IsPolicy }
+{
     let Ok(schema) = read_schema(alloc, SCHEMA.as_bytes()) else {
         return Err(AllocError);
     };
     let schema = Shared::new(alloc, schema)?;
-    let Ok(policy) = read_policy(alloc, &schema, POLICY.as_bytes()) else {
+    let Ok(policy) = read_policy(alloc, &schema, text.as_bytes()) else {
         return Err(AllocError);
     };
     Shared::new(alloc, policy)
