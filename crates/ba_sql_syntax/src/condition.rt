@@ -54,14 +54,26 @@ impl Progress {
         }
     }
 
-    /// Puts an operator out, if it waits.
-    fn put(&mut self, waits: bool, node: Node) -> Result<(), AllocError>
-        ensures nodes { OnOk result (self.new.nodes ≡ self.old.nodes ++ waiting waits node) }
+    /// Puts an AND out, if it waits.
+    fn put_and(&mut self, waits: bool) -> Result<(), AllocError>
+        ensures nodes { OnOk result (self.new.nodes ≡ self.old.nodes ++ waiting waits Node.And) }
         ensures stack { self.new.stack ≡ self.old.stack }
         ensures turn { self.new.turn ≡ self.old.turn }
     {
         if waits {
-            self.nodes.push(node)?;
+            self.nodes.push(Node::And)?;
+        }
+        Ok(())
+    }
+
+    /// Puts an OR out, if it waits.
+    fn put_or(&mut self, waits: bool) -> Result<(), AllocError>
+        ensures nodes { OnOk result (self.new.nodes ≡ self.old.nodes ++ waiting waits Node.Or) }
+        ensures stack { self.new.stack ≡ self.old.stack }
+        ensures turn { self.new.turn ≡ self.old.turn }
+    {
+        if waits {
+            self.nodes.push(Node::Or)?;
         }
         Ok(())
     }
@@ -73,7 +85,7 @@ impl Progress {
     {
         match self.stack.pop() {
             Some(top) => {
-                self.put(top.and, Node::And)?;
+                self.put_and(top.and)?;
                 self.turn = Turn::Have(top.or);
                 Ok(rest)
             }
@@ -99,7 +111,7 @@ impl Progress {
         }
         let (test, rest) = test(alloc, words)?;
         self.nodes.push(Node::Test(test))?;
-        self.put(top.and, Node::And)?;
+        self.put_and(top.and)?;
         self.turn = Turn::Have(top.or);
         Ok(rest)
     }
@@ -120,7 +132,7 @@ impl Progress {
         }
         if begins_with(words, Key::Or) {
             let rest = past(words, Key::Or)?;
-            self.put(or, Node::Or)?;
+            self.put_or(or)?;
             self.turn = Turn::Want(Level {
                 or: true,
                 and: false,
@@ -128,7 +140,7 @@ impl Progress {
             return Ok(rest);
         }
         let rest = past_sign(words, Sign::RightParen)?;
-        self.put(or, Node::Or)?;
+        self.put_or(or)?;
         self.close(rest)
     }
 
@@ -180,7 +192,7 @@ impl Progress {
         }
         match self.turn {
             Turn::Have(or) => {
-                self.put(or, Node::Or)?;
+                self.put_or(or)?;
                 Ok((self.nodes, rest))
             }
             Turn::Want(_) => Err(Failure::Fault(Syntax)),

@@ -184,9 +184,9 @@ fn terminal_of(alloc: Global, word: &Lexeme) -> Result<Terminal, AllocError>
 pub fn terminals(alloc: Global, words: &[Lexeme]) -> Result<List<Terminal>, AllocError>
     ensures { IfOk result (λ found. found ≡ terminals words.now) }
 {
-    let mut found = List::new(alloc);
+    let mut found = Vec::with_capacity(alloc, words.len())?;
     for word in words {
         found.push(terminal_of(alloc, word)?)?;
     }
-    Ok(found)
+    Ok(List::from_vec(found))
 }
