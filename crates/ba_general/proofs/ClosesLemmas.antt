@@ -28,3 +28,12 @@ told_false p q steps copied told came failure fault e same same_steps fits repla
     (subst (λ xs. Replays q xs (Err (Fault fault))) same_steps
     (subst (λ f. Replays q copied (Err f)) is_fault (subst (Replays q copied) is_err replays))) in
     subst (λ r. IfOk r (λ b. IsTrue b ↔ Closes p steps)) (sym e) ((λ h. absurd (false≢true h)), (λ closes. absurd ((one_end p steps fits).no_fault fault closes at)))
+
+-- steps that have a fault don't close the problem
+pub not_closed : (p q : Problem) (steps : List Step) (came : Result Proof (Failure ReplayFault)) (failure : Failure ReplayFault) (fault : ReplayFault) → q ≡ p →
+    ProblemFits p → Replays q steps came → came ≡ Err failure → failure ≡ Fault fault → ¬ (Closes p steps)
+not_closed p q steps came failure fault same fits replays is_err is_fault closes =
+    let at : Replays p steps (Err (Fault fault)) =
+    subst (λ x. Replays x steps (Err (Fault fault))) same
+    (subst (λ f. Replays q steps (Err f)) is_fault (subst (Replays q steps) is_err replays)) in
+    (one_end p steps fits).no_fault fault closes at

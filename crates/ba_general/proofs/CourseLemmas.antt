@@ -1,11 +1,11 @@
 -- The tables and the unknowns of each branch of a course.
-use Rattle.std.proofs.Common.{◌≡◌, ℕ, zero, suc, ◌+◌, ◌<◌, List, [], ◌∷◌, ◌++◌, length, map, take, refl, sym, ap, ◌∙◌, subst, append_assoc, append-nil, arith}
+use Rattle.std.proofs.Common.{◌≡◌, ℕ, zero, suc, ◌+◌, List, [], ◌∷◌, ◌++◌, length, map, refl, sym, ap, ◌∙◌, subst, append_assoc, append-nil, arith}
 use Rattle.std.specs.Prelude.{All, Some, None, slice_get, slice_set, unwrap_or, option_map, option_and_then}
 use Rattle.std.specs.List.{AllZip}
-use Rattle.std.proofs.lemmas.List.{length-append, length-map, map-append, same_from_push}
+use Rattle.std.proofs.lemmas.List.{length-append, length-map, map-append}
 use Rattle.std.proofs.lemmas.List.Elements.{All-append, All-cons, All-nil, All-set}
 use Rattle.std.proofs.lemmas.List.Sums.{sum_by-append, sum_by-cons}
-use Rattle.std.proofs.lemmas.Option.{get_or_from_slice_get, none-some}
+use Rattle.std.proofs.lemmas.Option.{none-some}
 use Rattle.ba_facts.specs.Knowing.{sort_of}
 use Rattle.ba_facts.specs.declared.branch.Branch.{Branch}
 use Rattle.ba_facts.specs.declared.term.Fact.{Fact}
@@ -14,8 +14,7 @@ use Rattle.ba_facts.specs.declared.term.Side.{Side}
 use Rattle.ba_facts.specs.declared.term.Side.TheVariants.{One, Two}
 use Rattle.ba_facts.specs.declared.term.Term.{Term}
 use Rattle.ba_kernel.proofs.CaseFactLemmas.{zip_append}
-use Rattle.ba_kernel.proofs.ZipLemmas.{taken}
-use Rattle.ba_kernel.specs.Courses.{IsOpen, IsStart, IsStartOf, Runs, Slots, Takes, after, branch_of, nothing_known}
+use Rattle.ba_kernel.specs.Courses.{IsOpen, IsStartOf, Runs, Slots, Takes, after, branch_of, nothing_known}
 use Rattle.ba_kernel.specs.Effects.{IsCase, Leads, with_fact, with_facts, with_lessons}
 use Rattle.ba_kernel.specs.declared.problem.Problem.{Problem}
 use Rattle.ba_kernel.specs.declared.step.Step.{Step}
@@ -25,7 +24,7 @@ use Rattle.ba_model.specs.declared.query.Part.{Part}
 use Rattle.ba_model.specs.declared.schema.Link.{Link}
 use Rattle.ba_model.specs.declared.schema.Schema.{Schema}
 use Rattle.ba_model.specs.declared.schema.Table.{Table}
-use Rattle.ba_general.specs.Layouts.{HasItsUnknowns, IsFilledOut, IsLaidOut, IsLayoutAt, IsLayoutOf, Layout, RunsAreLaidOut, adds, from_of, layout_after, one_of_table, put_cases, start_layout, tables_on, wide}
+use Rattle.ba_general.specs.Layouts.{HasItsUnknowns, IsFilledOut, IsLaidOut, IsLayoutOf, Layout, RunsAreLaidOut, adds, from_of, layout_after, one_of_table, put_cases, start_layout, tables_on, wide}
 
 abbrev pub tables_of : Branch → List ℕ
 tables_of b = map (λ (fact : Fact). fact.table) b.facts
@@ -236,41 +235,17 @@ starts_laid p (part ∷ parts) [] h = absurd h
 starts_laid p (part ∷ parts) (b ∷ branches) h =
     (ap tables_of h.0.new_is ∙ facts_tables p.policy.schema One 0 (nothing_known p) part.from, starts_laid p parts branches h.1)
 
--- the last of some steps that are accepted in turn
-pub record LastStep (p : Problem) (front : List Step) (step : Step) (new : Slots) : Type 0 where
-  pub old : Slots
-  pub runs : Runs p front old
-  pub takes : Takes p old step new
+-- the layout after some steps
+abbrev pub layout_of : Problem → Layout → List Step → Layout
+layout_of p layout [] = layout
+layout_of p layout (step ∷ later) = layout_of p (layout_after p layout step) later
 
-pub last_step : (p : Problem) (taken front : List Step) (step : Step) (new : Slots) → taken ≡ front ++ step ∷ [] → Runs p taken new → LastStep p front step new
-last_step p taken front step new e (Runs.start is) =
-    let wide : 0 ≡ length front + 1 = ap length e ∙ length-append front (step ∷ []) in
-    absurd (omega arith)
-last_step p taken front step new e (Runs.next {taken = before} {step = last} {old = old} h t) =
-    let same = same_from_push before front last step e in
-    record { old = old; runs = subst (λ xs. Runs p xs old) same.0 h; takes = subst (λ s. Takes p old s new) same.1 t }
+layout_more : (p : Problem) (layout : Layout) (front : List Step) (step : Step) → layout_of p layout (front ++ step ∷ []) ≡ layout_after p (layout_of p layout front) step
+layout_more p layout [] step = refl
+layout_more p layout (first ∷ front) step = layout_more p (layout_after p layout first) front step
 
-pub start_of : (p : Problem) (taken : List Step) (slots : Slots) → taken ≡ [] → Runs p taken slots → IsStart p slots
-start_of p taken slots e (Runs.start is) = is
-start_of p taken slots e (Runs.next {taken = before} {step = last} h t) =
-    let wide : length before + 1 ≡ 0 = sym (length-append before (last ∷ [])) ∙ ap length e in
-    absurd (omega arith)
-
-pub laid_at_start : (p : Problem) (layout : Layout) → layout ≡ start_layout p → IsLayoutAt p [] layout
-laid_at_start p layout e =
-    record {
-      of = λ slots runs.
-          let is = start_of p [] slots refl runs in
-          subst (IsLayoutOf slots) (sym e) (subst (λ s. IsLayoutOf s (start_layout p)) (sym is.slots_are) (starts_laid p p.goal.parts is.branches is.starts));
-    }
-
-pub laid_more : (p : Problem) (steps : List Step) (n : ℕ) (step : Step) (layout new : Layout) → n < length steps → slice_get steps n ≡ Some step →
-    IsLayoutAt p (take n steps) layout → new ≡ layout_after p layout step → IsLayoutAt p (take (n + 1) steps) new
-laid_more p steps n step layout new below at h e =
-    let is : take (n + 1) steps ≡ take n steps ++ step ∷ [] =
-    taken steps n step below (sym (get_or_from_slice_get steps n step step at)) in
-    record {
-      of = λ slots runs.
-          let last = last_step p (take (n + 1) steps) (take n steps) step slots is runs in
-          subst (IsLayoutOf slots) (sym e) (next_laid p last.old slots step layout last.takes (h.of last.old last.runs));
-    }
+pub runs_laid : (p : Problem) (taken : List Step) (slots : Slots) → Runs p taken slots → IsLayoutOf slots (layout_of p (start_layout p) taken)
+runs_laid p taken slots (Runs.start is) = subst (λ s. IsLayoutOf s (start_layout p)) (sym is.slots_are) (starts_laid p p.goal.parts is.branches is.starts)
+runs_laid p taken slots (Runs.next {taken = front} {step = step} {old = old} h t) =
+    subst (IsLayoutOf slots) (sym (layout_more p (start_layout p) front step))
+    (next_laid p old slots step (layout_of p (start_layout p) front) t (runs_laid p front old h))

@@ -1,19 +1,20 @@
 -- What a step makes, by the layout before it.
-use Rattle.std.proofs.Common.{◌≡◌, ◌≢◌, ℕ, suc, ◌+◌, ◌<◌, List, [], ◌∷◌, length, get_or, map, refl, sym, ap, ap₂, ◌∙◌, subst, append-nil, arith}
+use Rattle.std.proofs.Common.{◌≡◌, ◌≢◌, ℕ, zero, suc, ◌+◌, ◌<◌, List, [], ◌∷◌, length, get_or, map, take, refl, sym, ap, ap₂, ◌∙◌, subst, append-nil, arith}
 use Rattle.std.specs.Prelude.{Some, None, slice_get, slice_set}
 use Rattle.std.specs.List.{AllZip}
 use Rattle.std.proofs.lemmas.List.{length-append, length-map, length-set}
-use Rattle.std.proofs.lemmas.Option.{slice_get_within}
+use Rattle.std.proofs.lemmas.Option.{none-some, same_Some, slice_get_within}
 use Rattle.ba_facts.proofs.Elements.{get_append_old, get_set_same}
 use Rattle.ba_facts.specs.declared.branch.Branch.{Branch}
 use Rattle.ba_facts.specs.declared.term.Fact.{Fact}
-use Rattle.ba_kernel.specs.Courses.{IsOpen, Slots, Takes, after, branch_of}
+use Rattle.ba_kernel.specs.Courses.{IsOpen, Runs, Slots, Takes, after, branch_of}
 use Rattle.ba_kernel.specs.declared.problem.Problem.{Problem}
 use Rattle.ba_kernel.specs.declared.step.Step.{Step}
-use Rattle.ba_general.proofs.CourseLemmas.{CaseAdds, cases_add, open_filled, tables_at, tables_of}
-use Rattle.ba_general.specs.Layouts.{IsFilledOut, IsLayoutOf, Layout, adds, tables_on, wide}
-use Rattle.ba_general.specs.Leaving.{IsGapOf, Makes}
+use Rattle.ba_general.proofs.CourseLemmas.{CaseAdds, cases_add, layout_of, next_laid, open_filled, runs_filled, runs_laid, tables_at, tables_of}
+use Rattle.ba_general.specs.Layouts.{IsFilledOut, IsLaidOut, IsLayoutOf, Layout, adds, layout_after, start_layout, tables_on, wide}
+use Rattle.ba_general.specs.Leaving.{IsMadeBy, Makes, MaybeIs, StepsMakeTheirs, gap_made, made_by, made_from}
 use Rattle.ba_general.specs.declared.gap.Gap.{Gap}
+use Rattle.ba_general.specs.declared.making.Made.{Made}
 
 pub zip_wide : {X Y : Type 0} (R : X → Y → Type 0) (xs : List X) (ys : List Y) → AllZip R xs ys → length xs ≡ length ys
 zip_wide R [] [] h = refl
@@ -41,14 +42,11 @@ module _ (p : Problem) (layout : Layout) (step : Step) where
       ap length e ∙ (length-append (slice_set old at (Some d)) (map Some (f ∷ others)) ∙ ap₂ (λ n m. n + m) (length-set old at (Some d)) (length-map (f ∷ others) Some)) in
       absurd (omega arith)
 
-  pub gap_none : length (adds p (tables_on layout at) step) ≢ 1 → IsGapOf p layout step None
-  gap_none several =
-      record {
-        of = λ old new laid filled t gap makes.
-            several
-            (zip_wide (CaseAdds p.policy.schema t.branch) (adds p (tables_on layout at) step) t.cases (added_cases old new laid t) ∙
-            one_only old new t.branch makes.after t.cases t.open_ t.new_is makes.open_after makes.one_case);
-      }
+  gap_none : (old new : Slots) → IsLayoutOf old layout → Takes p old step new → length (adds p (tables_on layout at) step) ≢ 1 → (gap : Gap) → ¬ (Makes old new step gap)
+  gap_none old new laid t several gap makes =
+      several
+      (zip_wide (CaseAdds p.policy.schema t.branch) (adds p (tables_on layout at) step) t.cases (added_cases old new laid t) ∙
+      one_only old new t.branch makes.after t.cases t.open_ t.new_is makes.open_after makes.one_case)
 
   makes_one : (old new : Slots) (b : Branch) (cases : List Branch) (added : List ℕ) (gap : Gap) → IsLayoutOf old layout → IsFilledOut p old → IsOpen old at b →
       new ≡ after old at cases → AllZip (CaseAdds p.policy.schema b) (added ∷ []) cases → gap.facts.first ≡ length (tables_on layout at) →
@@ -75,15 +73,35 @@ module _ (p : Problem) (layout : Layout) (step : Step) where
         unknowns = h.0.unknowns ∙ ap (λ n. length b.known.unknowns + n) (sym v);
       }
 
-  pub gap_some : (added : List ℕ) (gap : Gap) → adds p (tables_on layout at) step ≡ added ∷ [] → gap.facts.first ≡ length (tables_on layout at) →
-      gap.facts.count ≡ length added → gap.unknowns.first ≡ wide p.policy.schema (tables_on layout at) → gap.unknowns.count ≡ wide p.policy.schema added →
-      IsGapOf p layout step (Some gap)
-  gap_some added gap one f g u v =
+  gap_is : (old new : Slots) (cases : Layout) → IsLayoutOf old layout → IsFilledOut p old → Takes p old step new → cases ≡ adds p (tables_on layout at) step →
+      MaybeIs (Makes old new step) (gap_made p.policy.schema (tables_on layout at) cases)
+  gap_is old new [] laid filled t e = gap_none old new laid t (λ one. let none : 0 ≡ 1 = ap length e ∙ one in absurd (omega (arith, none)))
+  gap_is old new (added ∷ []) laid filled t e =
+      makes_one old new t.branch t.cases added _ laid filled t.open_ t.new_is
+      (subst (λ more. AllZip (CaseAdds p.policy.schema t.branch) more t.cases) (sym e) (added_cases old new laid t)) refl refl refl refl
+  gap_is old new (added ∷ other ∷ others) laid filled t e =
+      gap_none old new laid t (λ one. let many : suc (suc (length others)) ≡ 1 = ap length e ∙ one in absurd (omega (arith, many)))
+
+  pub makes_its : (taken : List Step) (old new : Slots) → Runs p taken old → IsLayoutOf old layout → Takes p old step new → IsMadeBy old new step (made_by p layout step)
+  makes_its taken old new runs laid t =
       record {
-        of = λ old new laid filled t.
-            makes_one old new t.branch t.cases added gap laid filled t.open_ t.new_is
-            (subst (λ more. AllZip (CaseAdds p.policy.schema t.branch) more t.cases) one (added_cases old new laid t)) f g u v;
+        gap = gap_is old new (adds p (tables_on layout at) step) laid (runs_filled p taken old runs) t refl;
+        before = sym (zip_wide IsLaidOut old layout laid);
+        after = sym (zip_wide IsLaidOut new (layout_after p layout step) (next_laid p old new step layout t laid));
       }
+
+made_at : (p : Problem) (layout : Layout) (taken : List Step) (n : ℕ) (step : Step) (it : Made) → slice_get taken n ≡ Some step → slice_get (made_from p layout taken) n ≡ Some it →
+    it ≡ made_by p (layout_of p layout (take n taken)) step
+made_at p layout [] n step it at its_at = absurd (none-some step at)
+made_at p layout (first ∷ later) zero step it at its_at =
+    same_Some it (made_by p layout first) (sym its_at) ∙ ap (made_by p layout) (same_Some first step at)
+made_at p layout (first ∷ later) (suc n) step it at its_at = made_at p (layout_after p layout first) later n step it at its_at
+
+pub make_theirs : StepsMakeTheirs
+make_theirs p taken n old new step it runs t at its_at =
+    let layout : Layout = layout_of p (start_layout p) (take n taken) in
+    subst (IsMadeBy old new step) (sym (made_at p (start_layout p) taken n step it at its_at))
+    (makes_its p layout step (take n taken) old new runs (runs_laid p (take n taken) old runs) t)
 
 pub one_element : {X : Type 0} (xs : List X) (x : X) → length xs ≡ 1 → x ≡ get_or xs 0 x → xs ≡ x ∷ []
 one_element [] x one e = absurd (omega arith)

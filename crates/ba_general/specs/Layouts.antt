@@ -28,6 +28,10 @@ IsLayoutOf slots layout = AllZip IsLaidOut slots layout
 abbrev pub wide : Schema → List ℕ → ℕ
 wide s tables = sum_by (λ table. length (columns_of s.tables table)) tables
 
+-- of each branch
+abbrev pub counts : Problem → Layout → List ℕ
+counts p layout = map (wide p.policy.schema) layout
+
 -- each unknown of an open branch stands in one of its facts: there are as many as the facts' tables have columns
 abbrev pub HasItsUnknowns : Problem → Option Branch → Type 0
 HasItsUnknowns p None = Unit {0}
@@ -89,10 +93,6 @@ put_at layout n (suc number) tables = layout ++ tables ∷ []
 
 abbrev pub layout_after : Problem → Layout → Step → Layout
 layout_after p layout step = put_cases layout (branch_of step) (tables_on layout (branch_of step)) (adds p (tables_on layout (branch_of step)) step)
-
--- after these steps, where they are accepted
-pub record IsLayoutAt (p : Problem) (taken : List Step) (layout : Layout) : Type 0 where
-  pub of : (slots : Slots) → Runs p taken slots → IsLayoutOf slots layout
 
 -- the branches of a course are filled out, and the layouts of its steps are theirs
 abbrev pub RunsAreLaidOut : Type 0

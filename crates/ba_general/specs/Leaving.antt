@@ -1,6 +1,7 @@
--- Steps of a proof that it doesn't need: what the others are without one of them, and which stay.
-use Rattle.std.specs.Prelude.{◌≡◌, ℕ, suc, ◌+◌, ◌-◌, ◌<◌, ◌≤◌, ◌⊎◌, Bool, true, false, List, [], ◌∷◌, ◌++◌, Contains, length, take, drop, Option, Some, None, slice_get}
-use Rattle.std.specs.List.{AllZip, range_with_len}
+-- Steps of a proof that it doesn't need: what the others are without some that follow one another, and which stay.
+use Rattle.std.specs.Prelude.{◌≡◌, ℕ, zero, suc, ◌+◌, ◌-◌, ◌/◌, ◌<◌, ◌≤◌, ◌⊎◌, Bool, true, false, List, [], ◌∷◌, ◌++◌, length, replicate, take, drop, Option, Some, None}
+use Rattle.std.specs.Prelude.{slice_get, slice_set, unwrap_or}
+use Rattle.std.specs.List.{AllZip}
 use Rattle.ba_facts.specs.declared.branch.Branch.{Branch}
 use Rattle.ba_facts.specs.declared.term.Term.{Term}
 use Rattle.ba_facts.specs.declared.term.Term.TheVariants as terms
@@ -10,9 +11,11 @@ use Rattle.ba_kernel.specs.Replays.{Closes}
 use Rattle.ba_kernel.specs.declared.problem.Problem.{Problem}
 use Rattle.ba_kernel.specs.declared.step.Step.{Step}
 use Rattle.ba_kernel.specs.declared.step.Step.TheVariants as steps
-use Rattle.ba_general.specs.Layouts.{IsFilledOut, IsLayoutOf, Layout}
+use Rattle.ba_model.specs.declared.schema.Schema.{Schema}
+use Rattle.ba_general.specs.Layouts.{Layout, adds, layout_after, start_layout, tables_on, wide}
 use Rattle.ba_general.specs.declared.gap.Gap.{Gap}
 use Rattle.ba_general.specs.declared.gap.Span.{Span}
+use Rattle.ba_general.specs.declared.making.Made.{Made}
 
 -- ---- numbers without those of what a step made
 
@@ -47,7 +50,31 @@ pub data IsMoved (gap : Gap) : Step → Step → Type 0 where
   goal : {branch part : ℕ} {facts new : List ℕ} → AllZip (IsClosedUp gap.facts) facts new →
       IsMoved gap (steps.Goal branch part facts) (steps.Goal branch part new)
 
--- ---- the rest without a step
+-- ---- what steps make
+
+-- the facts and unknowns that the one case adds to a branch with facts of these tables, if there is one case
+abbrev pub gap_made : Schema → List ℕ → Layout → Option Gap
+gap_made s tables [] = None
+gap_made s tables (added ∷ []) = Some (record {
+  facts = record { first = length tables; count = length added };
+  unknowns = record { first = wide s tables; count = wide s added };
+})
+gap_made s tables (added ∷ other ∷ others) = None
+
+-- by a step of a course with this layout, and how many branches there are before it and after it
+abbrev pub made_by : Problem → Layout → Step → Made
+made_by p layout step = record {
+  gap = gap_made p.policy.schema (tables_on layout (branch_of step)) (adds p (tables_on layout (branch_of step)) step);
+  before = length layout;
+  after = length (layout_after p layout step);
+}
+
+abbrev pub made_from : Problem → Layout → List Step → List Made
+made_from p layout [] = []
+made_from p layout (step ∷ later) = made_by p layout step ∷ made_from p (layout_after p layout step) later
+
+abbrev pub made : Problem → List Step → List Made
+made p taken = made_from p (start_layout p) taken
 
 -- The step makes one case of its branch, and the gap is the facts and the unknowns that it adds there.
 pub record Makes (old new : Slots) (step : Step) (gap : Gap) : Type 0 where
@@ -61,51 +88,77 @@ pub record Makes (old new : Slots) (step : Step) (gap : Gap) : Type 0 where
   pub first_unknown : gap.unknowns.first ≡ length before.known.unknowns
   pub unknowns : length after.known.unknowns ≡ length before.known.unknowns + gap.unknowns.count
 
--- The later steps, on branches of which some have the gap: a step beside them stays, one on them is moved, and what it makes of its branch has the gap too.
-pub data AreLater (p : Problem) (gap : Gap) : List ℕ → Slots → List Step → List Step → Type 0 where
-  none : {on : List ℕ} {slots : Slots} → AreLater p gap on slots [] []
-  beside : {on : List ℕ} {slots next : Slots} {step : Step} {later rest : List Step} → ¬ (Contains on (branch_of step)) → Takes p slots step next →
-      AreLater p gap on next later rest → AreLater p gap on slots (step ∷ later) (step ∷ rest)
-  among : {on : List ℕ} {slots next : Slots} {step moved : Step} {later rest : List Step} → Contains on (branch_of step) → Takes p slots step next →
-      IsMoved gap step moved → AreLater p gap (on ++ range_with_len (length slots) (length next - length slots)) next later rest →
-      AreLater p gap on slots (step ∷ later) (moved ∷ rest)
+-- ---- the rest without some steps
 
--- One later step: told where it stays or is moved, and then it stands behind the rest; else it names what is gone.
-pub data IsNextLater (gap : Gap) (old : Slots) (step : Step) (new : Slots) (on : List ℕ) (rest : List Step) : List ℕ → List Step → Bool → Type 0 where
-  beside : ¬ (Contains on (branch_of step)) → IsNextLater gap old step new on rest on (rest ++ step ∷ []) true
-  among : {moved : Step} → Contains on (branch_of step) → IsMoved gap step moved →
-      IsNextLater gap old step new on rest (on ++ range_with_len (length old) (length new - length old)) (rest ++ moved ∷ []) true
-  gone : {any : List ℕ} → Contains on (branch_of step) → ((moved : Step) → ¬ (IsMoved gap step moved)) → IsNextLater gap old step new on rest any rest false
+-- what is missing on each branch, if anything is
+abbrev pub Gaps : Type 0
+Gaps = List (Option Gap)
 
--- The other steps: those before it as they are, those after it without what it made.
-pub record IsWithout (p : Problem) (taken : List Step) (number : ℕ) (rest : List Step) : Type 0 where
-  pub old : Slots
-  pub new : Slots
-  pub step : Step
-  pub step_is : slice_get taken number ≡ Some step
-  pub runs : Runs p (take number taken) old
-  pub takes : Takes p old step new
-  pub gap : Gap
-  pub makes : Makes old new step gap
+abbrev pub gap_on : Gaps → ℕ → Option Gap
+gap_on gaps branch = unwrap_or (slice_get gaps branch) None
+
+-- what is missing, and what is made next on the branch
+abbrev pub longer_span : Span → Span → Span
+longer_span old more = record { first = old.first; count = old.count + more.count }
+
+abbrev pub longer : Option Gap → Gap → Gap
+longer None gap = gap
+longer (Some old) gap = record { facts = longer_span old.facts gap.facts; unknowns = longer_span old.unknowns gap.unknowns }
+
+-- a step of the branch, which makes the gap, is left out
+abbrev pub gaps_with : Gaps → ℕ → Gap → Gaps
+gaps_with gaps branch gap = slice_set gaps branch (Some (longer (gap_on gaps branch) gap))
+
+-- the branches that a step makes of its own have its gap
+abbrev pub gaps_after : Gaps → Step → Made → Gaps
+gaps_after gaps step it = gaps ++ replicate (it.after - it.before) (gap_on gaps (branch_of step))
+
+-- a step of a branch with this gap, or with none
+abbrev pub IsMovedBy : Option Gap → Step → Step → Type 0
+IsMovedBy None step new = new ≡ step
+IsMovedBy (Some gap) step new = IsMoved gap step new
+
+-- The others of some steps, of which the first so many are left out: each of these makes one case, and each other one is moved, so that it names nothing that
+-- is missing.
+pub data AreOthers : Gaps → ℕ → List Step → List Made → List Step → Type 0 where
+  none : {gaps : Gaps} {left : ℕ} → AreOthers gaps left [] [] []
+  gone : {gaps : Gaps} {left : ℕ} {step : Step} {later rest : List Step} {it : Made} {its : List Made} {gap : Gap} → it.gap ≡ Some gap →
+      AreOthers (gaps_with gaps (branch_of step) gap) left later its rest → AreOthers gaps (suc left) (step ∷ later) (it ∷ its) rest
+  stays : {gaps : Gaps} {step moved : Step} {later rest : List Step} {it : Made} {its : List Made} → IsMovedBy (gap_on gaps (branch_of step)) step moved →
+      AreOthers (gaps_after gaps step it) zero later its rest → AreOthers gaps zero (step ∷ later) (it ∷ its) (moved ∷ rest)
+
+-- The other steps without those from one number up to another: those before them as they are, those after them without what is missing.
+pub record IsWithout (taken : List Step) (its : List Made) (first end : ℕ) (rest : List Step) : Type 0 where
+  pub it : Made
+  pub it_is : slice_get its first ≡ Some it
   pub moved : List Step
-  pub later : AreLater p gap (branch_of step ∷ []) new (drop (1 + number) taken) moved
-  pub rest_is : rest ≡ take number taken ++ moved
+  pub others : AreOthers (replicate it.before None) (end - first) (drop first taken) (drop first its) moved
+  pub rest_is : rest ≡ take first taken ++ moved
 
--- without the step the rest still proves the problem
-pub record IsLeftOut (p : Problem) (taken : List Step) (number : ℕ) (rest : List Step) : Type 0 where
-  pub without : IsWithout p taken number rest
+-- without these steps the rest still proves the problem
+pub record IsLeftOut (p : Problem) (taken : List Step) (first end : ℕ) (rest : List Step) : Type 0 where
+  pub without : IsWithout taken (made p taken) first end rest
   pub closes : Closes p rest
+
+abbrev pub CanNotBeLeftOut : Problem → List Step → ℕ → ℕ → Type 0
+CanNotBeLeftOut p taken first end = (rest : List Step) → ¬ (IsLeftOut p taken first end rest)
 
 -- ---- which steps stay
 
--- Of the steps before the number, from the last to the first, each is left out without which the rest proves the problem; the others stay.
-pub data Leaves (p : Problem) : List Step → ℕ → List Step → Type 0 where
-  done : {taken : List Step} → Leaves p taken 0 taken
-  out : {taken rest kept : List Step} {n : ℕ} → IsLeftOut p taken n rest → Leaves p rest n kept → Leaves p taken (suc n) kept
-  stays : {taken kept : List Step} {n : ℕ} → ((rest : List Step) → ¬ (IsLeftOut p taken n rest)) → Leaves p taken n kept → Leaves p taken (suc n) kept
+abbrev pub middle : ℕ → ℕ → ℕ
+middle first end = first + (end - first) / 2
+
+-- Of the steps from one number up to another all are left out at once, if the rest still proves the problem. Else the later half is gone through and then the
+-- earlier one, and a step alone stays.
+pub data Leaves (p : Problem) : List Step → ℕ → ℕ → List Step → Type 0 where
+  none : {taken : List Step} {first end : ℕ} → end ≤ first → Leaves p taken first end taken
+  out : {taken rest : List Step} {first end : ℕ} → first < end → IsLeftOut p taken first end rest → Leaves p taken first end rest
+  stays : {taken : List Step} {first end : ℕ} → end - first ≡ 1 → CanNotBeLeftOut p taken first end → Leaves p taken first end taken
+  halves : {taken half kept : List Step} {first end : ℕ} → 1 < end - first → CanNotBeLeftOut p taken first end → Leaves p taken (middle first end) end half →
+      Leaves p half first (middle first end) kept → Leaves p taken first end kept
 
 abbrev pub AreKept : Problem → List Step → List Step → Type 0
-AreKept p taken kept = Leaves p taken (length taken) kept
+AreKept p taken kept = Leaves p taken 0 (length taken) kept
 
 -- what a proof keeps is determined
 abbrev pub KeptAreOne : Type 0
@@ -122,14 +175,35 @@ MaybeIs P (Some x) = P x
 abbrev pub MaybeAll : {X Y : Type 0} → (X → Y → Type 0) → List X → Option (List Y) → Type 0
 MaybeAll P xs result = MaybeIs (AllZip P xs) result
 
--- the rest without the step where it is left out, or that it isn't
-abbrev pub MaybeLeftOut : Problem → List Step → ℕ → Option (List Step) → Type 0
-MaybeLeftOut p taken number result = MaybeIs (IsLeftOut p taken number) result
+-- the steps where they prove the problem, or that they don't
+abbrev pub IsTried : Problem → List Step → Option (List Step) → Type 0
+IsTried p rest None = ¬ (Closes p rest)
+IsTried p rest (Some same) = Closes p rest × (same ≡ rest)
 
--- what the step makes of a course with this layout, if it makes one case
-pub record IsGapOf (p : Problem) (layout : Layout) (step : Step) (gap : Option Gap) : Type 0 where
-  pub of : (old new : Slots) → IsLayoutOf old layout → IsFilledOut p old → Takes p old step new → MaybeIs (Makes old new step) gap
+-- what a step makes in a course: the gap, if it makes one case, and how many branches there are
+pub record IsMadeBy (old new : Slots) (step : Step) (it : Made) : Type 0 where
+  pub gap : MaybeIs (Makes old new step) it.gap
+  pub before : it.before ≡ length old
+  pub after : it.after ≡ length new
 
--- the next of the later steps of a course with this layout
-pub record IsNextOf (p : Problem) (gap : Gap) (layout : Layout) (step : Step) (on : List ℕ) (rest : List Step) (new_on : List ℕ) (new_rest : List Step) (told : Bool) : Type 0 where
-  pub of : (old new : Slots) → IsLayoutOf old layout → Takes p old step new → IsNextLater gap old step new on rest new_on new_rest told
+abbrev pub StepsMakeTheirs : Type 0
+StepsMakeTheirs = (p : Problem) (taken : List Step) (n : ℕ) (old new : Slots) (step : Step) (it : Made) → Runs p (take n taken) old → Takes p old step new →
+    slice_get taken n ≡ Some step → slice_get (made p taken) n ≡ Some it → IsMadeBy old new step it
+
+-- ---- one of the steps
+
+-- a step of the branch is left out, and its gap is missing there; not told where it makes none
+abbrev pub IsGone : Gaps → ℕ → Option Gap → Gaps → Bool → Type 0
+IsGone gaps branch None new told = told ≡ false
+IsGone gaps branch (Some gap) new told = (told ≡ true) × (new ≡ gaps_with gaps branch gap)
+
+-- a step stays behind those that stayed so far; not told where it names what is missing
+abbrev pub IsTaken : Gaps → List Step → Step → Made → Gaps → List Step → Bool → Type 0
+IsTaken gaps sofar step it new rest false = (moved : Step) → ¬ (IsMovedBy (gap_on gaps (branch_of step)) step moved)
+IsTaken gaps sofar step it new rest true =
+    (moved : Step) × IsMovedBy (gap_on gaps (branch_of step)) step moved × (new ≡ gaps_after gaps step it) × (rest ≡ sofar ++ moved ∷ [])
+
+-- the next step, where so many are still left out
+abbrev pub IsNext : ℕ → Gaps → List Step → Step → Made → Gaps → List Step → Bool → Type 0
+IsNext zero gaps sofar step it new rest told = IsTaken gaps sofar step it new rest told
+IsNext (suc left) gaps sofar step it new rest told = IsGone gaps (branch_of step) it.gap new told × (rest ≡ sofar)

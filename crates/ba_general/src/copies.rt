@@ -135,12 +135,11 @@ pub fn copy_entry(alloc: Global, entry: &ProblemEntry) -> Result<ProblemEntry, A
 
 /// Whether the steps are accepted, one after another, from the problem's start and leave no branch
 /// open.
-pub fn closes(alloc: Global, problem: &Problem, steps: &List<Step>) -> Result<bool, AllocError>
-    requires fits { ProblemFits problem.now }
+pub fn closes(alloc: Global, problem: Problem, steps: &List<Step>) -> Result<bool, AllocError>
+    requires fits { ProblemFits problem }
     requires few { length steps.now ≤ MAX_BUDGET }
-    ensures { IfOk result (λ told. IsTrue told ↔ Closes problem.now steps.now) }
+    ensures { IfOk result (λ told. IsTrue told ↔ Closes problem steps.now) }
 {
-    let problem = copy_problem(alloc, problem)?;
     let steps = copy_steps(alloc, steps)?;
     match replay(alloc, problem, steps) {
         Ok(_) => Ok(true),

@@ -175,7 +175,7 @@ impl<'a> Pass<'a> {
     {
         let assumed = self.kept_atoms(alloc)?;
         let problem = self.pattern.assuming(alloc, assumed)?;
-        closes(alloc, &problem, self.steps)
+        closes(alloc, problem, self.steps)
     }
 
     fn kept_atoms(&self, alloc: Global) -> Result<List<Atom>, AllocError>

@@ -2,7 +2,7 @@
 ghost use Rattle.ba_general.specs.Dropping.{AcceptanceGrows, PassIsMinimal, RunDropsEach};
 ghost use Rattle.ba_general.specs.Generals.{FullIsAccepted, OwnQuestionMatches, PatternStands, TemplateIsMinimal, TooWideIsNone, WideByOwnSteps};
 ghost use Rattle.ba_general.specs.Layouts.{RunsAreLaidOut};
-ghost use Rattle.ba_general.specs.Leaving.{KeptAreOne};
+ghost use Rattle.ba_general.specs.Leaving.{KeptAreOne, StepsMakeTheirs};
 ghost use Rattle.ba_general.specs.Patterns.{PatternIsOne};
 
 /// The steps that a proof keeps are determined.
@@ -60,6 +60,11 @@ pub(crate) fn pattern_stands()
 /// The tables of each branch's facts are those that its steps tell.
 pub(crate) fn runs_are_laid_out()
     ensures { RunsAreLaidOut }
+{}
+
+/// What each step makes, as these tables tell, is what it makes in the course.
+pub(crate) fn steps_make_theirs()
+    ensures { StepsMakeTheirs }
 {}
 
 /// Where all of a run can be dropped at once, each is dropped in turn.

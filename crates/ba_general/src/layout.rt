@@ -1,53 +1,57 @@
 //! Which tables the facts of each branch are of, without the branches themselves.
-ghost use Rattle.std.specs.Prelude.{◌≡◌, ◌+◌, ◌++◌, [], IfOk, OnOk, length, replicate, slice_get, unwrap_or};
+ghost use Rattle.std.specs.Prelude.{◌≡◌, ◌+◌, ◌++◌, [], IfOk, OnOk, length, replicate, slice_set};
 ghost use Rattle.ba_kernel.specs.Courses.{branch_of};
 ghost use Rattle.ba_model.specs.SchemaFaults.{columns_of};
-ghost use Rattle.ba_general.specs.Layouts.{adds, entry_adds, from_of, layout_after, one_of_table, put_at, put_cases, rule_adds, start_layout, tables_on, target_of, view_adds, wide};
+ghost use Rattle.ba_general.specs.Layouts.{adds, counts, entry_adds, from_of, one_of_table, put_at, put_cases, rule_adds, start_layout, tables_on, target_of, view_adds, wide};
 
 use ba_kernel::{Problem, Step};
 use ba_model::{List, Part};
 use std::alloc::{AllocError, Global};
-use std::marker::Model;
 
-/// For each number that was given to a branch the tables of its facts, in order. Those of a closed
-/// branch are left as they were.
+/// For each number that was given to a branch the tables of its facts, in order, and how many
+/// unknowns they have. Those of a closed branch are left as they were.
 #[derive(Debug, Drop)]
 pub struct Layout {
-    tables: Vec<List<u32>>,
-}
-
-impl Model for Layout {
-    ghost use Rattle.ba_general.specs.Layouts.{Layout as Tables};
-
-    ghost Value = { Tables };
-
-    ghost view = { λ it. it.tables.items };
+    pub tables: Vec<List<u32>>,
+    pub unknowns: Vec<usize>,
 }
 
 impl Layout {
     /// The start's branches: one for each part of the goal, with a fact for each of its tables.
     pub fn start(alloc: Global, problem: &Problem) -> Result<Layout, AllocError>
-        ensures { IfOk result (λ it. it ≡ start_layout problem.now) }
+        ensures tables { IfOk result (λ it. it.tables.items ≡ start_layout problem.now) }
+        ensures counted { IfOk result (λ it. it.unknowns.items ≡ counts problem.now it.tables.items) }
     {
-        Ok(Layout {
-            tables: froms(alloc, problem.goal.parts.as_slice())?,
-        })
+        let tables = froms(alloc, problem.goal.parts.as_slice())?;
+        let unknowns = column_counts(alloc, problem, tables.as_slice())?;
+        Ok(Layout { tables, unknowns })
     }
 
     /// How many numbers were given to branches.
     pub fn branches(&self) -> usize
-        ensures { result ≡ length self.now }
+        ensures { result ≡ length self.now.tables.items }
     {
         self.tables.len()
     }
 
     /// The tables of the facts of a branch; none where there is no branch of the number.
     pub fn tables(&self, branch: u32) -> &[u32]
-        ensures { result.now ≡ unwrap_or (slice_get self.now branch) [] }
+        ensures { result.now ≡ tables_on self.now.tables.items branch }
     {
         match self.tables.get(branch as usize) {
             Some(tables) => tables.as_slice(),
             None => &[],
+        }
+    }
+
+    /// How many unknowns the facts of a branch have.
+    pub fn unknowns(&self, problem: &Problem, branch: u32) -> usize
+        requires { self.now.unknowns.items ≡ counts problem.now self.now.tables.items }
+        ensures { result ≡ wide problem.now.policy.schema (tables_on self.now.tables.items branch) }
+    {
+        match self.unknowns.get(branch as usize) {
+            Some(count) => *count,
+            None => 0,
         }
     }
 
@@ -58,7 +62,7 @@ impl Layout {
         problem: &Problem,
         step: &Step,
     ) -> Result<Vec<List<u32>>, AllocError>
-        ensures { IfOk result (λ it. it.items ≡ adds problem.now (unwrap_or (slice_get self.now (branch_of step.now)) []) step.now) }
+        ensures { IfOk result (λ it. it.items ≡ adds problem.now (tables_on self.now.tables.items (branch_of step.now)) step.now) }
     {
         match step {
             Step::Entry { entry, .. } => entry_adds(alloc, problem, *entry),
@@ -73,38 +77,117 @@ impl Layout {
         }
     }
 
-    /// Takes a step: the first of its cases keeps the branch's number, and the others get the next
-    /// ones.
-    pub fn take(&mut self, alloc: Global, problem: &Problem, step: &Step) -> Result<(), AllocError>
-        ensures { OnOk result (self.new ≡ layout_after problem.now self.old step.now) }
+    /// The cases that a step makes of a branch, each with new facts of these tables: the first keeps
+    /// the branch's number, and the others get the next ones.
+    pub fn put(
+        &mut self,
+        alloc: Global,
+        problem: &Problem,
+        branch: u32,
+        cases: Vec<List<u32>>,
+    ) -> Result<(), AllocError>
+        requires { self.old.unknowns.items ≡ counts problem.now self.old.tables.items }
+        ensures tables { OnOk result (self.new.tables.items ≡ put_cases self.old.tables.items branch (tables_on self.old.tables.items branch) cases.items) }
+        ensures counted { OnOk result (self.new.unknowns.items ≡ counts problem.now self.new.tables.items) }
     {
-        let cases = self.added(alloc, problem, step)?;
-        self.put(alloc, step.branch(), cases)
+        if cases.len() == 1 {
+            return self.add(problem, branch, cases[0].as_slice());
+        }
+        self.put_all(alloc, problem, branch, cases)
     }
 
-    fn put(&mut self, alloc: Global, branch: u32, cases: Vec<List<u32>>) -> Result<(), AllocError>
-        ensures { OnOk result (self.new ≡ put_cases self.old branch (tables_on self.old branch) cases.items) }
+    /// New facts of a branch.
+    fn add(&mut self, problem: &Problem, branch: u32, added: &[u32]) -> Result<(), AllocError>
+        requires { self.old.unknowns.items ≡ counts problem.now self.old.tables.items }
+        ensures tables { OnOk result (self.new.tables.items ≡ slice_set self.old.tables.items branch (tables_on self.old.tables.items branch ++ added.now)) }
+        ensures counted { OnOk result (self.new.unknowns.items ≡ counts problem.now self.new.tables.items) }
+    {
+        let count = column_count(problem, added)?;
+        let count = sum(self.unknowns(problem, branch), count)?;
+        set_count(&mut self.unknowns, branch, count);
+        extend_at(&mut self.tables, branch, added)
+    }
+
+    fn put_all(
+        &mut self,
+        alloc: Global,
+        problem: &Problem,
+        branch: u32,
+        cases: Vec<List<u32>>,
+    ) -> Result<(), AllocError>
+        requires { self.old.unknowns.items ≡ counts problem.now self.old.tables.items }
+        ensures tables { OnOk result (self.new.tables.items ≡ put_cases self.old.tables.items branch (tables_on self.old.tables.items branch) cases.items) }
+        ensures counted { OnOk result (self.new.unknowns.items ≡ counts problem.now self.new.tables.items) }
     {
         let old = copy_numbers(alloc, self.tables(branch))?;
         for n in 0..cases.len() {
             let tables = joined(alloc, old.as_slice(), cases[n].as_slice())?;
-            self.put_case(branch, n, tables)?;
+            self.put_case(problem, branch, n, tables)?;
         }
         Ok(())
     }
 
-    fn put_case(&mut self, branch: u32, number: usize, tables: List<u32>) -> Result<(), AllocError>
-        ensures { OnOk result (self.new ≡ put_at self.old branch number tables) }
+    fn put_case(
+        &mut self,
+        problem: &Problem,
+        branch: u32,
+        number: usize,
+        tables: List<u32>,
+    ) -> Result<(), AllocError>
+        requires { self.old.unknowns.items ≡ counts problem.now self.old.tables.items }
+        ensures tables { OnOk result (self.new.tables.items ≡ put_at self.old.tables.items branch number tables) }
+        ensures counted { OnOk result (self.new.unknowns.items ≡ counts problem.now self.new.tables.items) }
     {
+        let count = column_count(problem, tables.as_slice())?;
         if number != 0 {
+            self.unknowns.push(count)?;
             self.tables.push(tables)?;
             return Ok(());
         }
-        if let Some(place) = self.tables.get_mut(branch as usize) {
-            *place = tables;
-        }
+        set_count(&mut self.unknowns, branch, count);
+        set_tables(&mut self.tables, branch, tables);
         Ok(())
     }
+}
+
+fn set_count(counts: &mut Vec<usize>, branch: u32, count: usize)
+    ensures { counts.new.items ≡ slice_set counts.old.items branch count }
+{
+    if let Some(place) = counts.get_mut(branch as usize) {
+        *place = count;
+    }
+}
+
+fn set_tables(all: &mut Vec<List<u32>>, branch: u32, tables: List<u32>)
+    ensures { all.new.items ≡ slice_set all.old.items branch tables }
+{
+    if let Some(place) = all.get_mut(branch as usize) {
+        *place = tables;
+    }
+}
+
+fn extend_at(all: &mut Vec<List<u32>>, branch: u32, added: &[u32]) -> Result<(), AllocError>
+    ensures { OnOk result (all.new.items ≡ slice_set all.old.items branch (tables_on all.old.items branch ++ added.now)) }
+{
+    if let Some(place) = all.get_mut(branch as usize) {
+        extend(place, added)?;
+    }
+    Ok(())
+}
+
+/// How many unknowns facts of each of these tables have.
+fn column_counts(
+    alloc: Global,
+    problem: &Problem,
+    layout: &[List<u32>],
+) -> Result<Vec<usize>, AllocError>
+    ensures { IfOk result (λ it. it.items ≡ counts problem.now layout.now) }
+{
+    let mut all = Vec::new(alloc);
+    for tables in layout {
+        all.push(column_count(problem, tables.as_slice())?)?;
+    }
+    Ok(all)
 }
 
 /// How many unknowns facts of these tables have: one for each column.
@@ -119,7 +202,7 @@ pub fn column_count(problem: &Problem, tables: &[u32]) -> Result<usize, AllocErr
 }
 
 /// The sum. More than a machine's word holds is told as want of memory.
-fn sum(count: usize, more: usize) -> Result<usize, AllocError>
+pub fn sum(count: usize, more: usize) -> Result<usize, AllocError>
     ensures { IfOk result (λ it. it ≡ count + more) }
 {
     match count.checked_add(more) {
@@ -135,6 +218,15 @@ fn columns(problem: &Problem, table: u32) -> usize
         Some(table) => table.columns.len(),
         None => 0,
     }
+}
+
+fn extend(numbers: &mut List<u32>, more: &[u32]) -> Result<(), AllocError>
+    ensures { OnOk result (numbers.new ≡ numbers.old ++ more.now) }
+{
+    for number in more {
+        numbers.push(*number)?;
+    }
+    Ok(())
 }
 
 fn copy_numbers(alloc: Global, numbers: &[u32]) -> Result<List<u32>, AllocError>

@@ -9,7 +9,9 @@ mod general;
 pub mod laws;
 mod layout;
 mod leaving;
+mod making;
 mod naming;
+mod others;
 mod pattern;
 mod retold;
 

@@ -1,23 +1,25 @@
-use Rattle.std.proofs.Common.{◌≡◌, ◌+◌, arith, length, subst, sym, ◌∙◌}
-use Rattle.std.proofs.lemmas.Bool.{false≢true}
-use Rattle.ba_general.proofs.KeptLemmas.{none_closes, none_without, without_wide}
+use Rattle.std.proofs.Common.{◌≤◌, arith, length, subst}
+use Rattle.ba_general.proofs.KeptLemmas.{made_wide, none_without, tried_gives, without_few}
 use Rattle.ba_general.specs.Leaving.{IsWithout, MaybeIs}
 use Rattle.ba_general.proofs.leaving.left_out.Goals as goal
 
+pub without-requires-clause-made : goal.without-requires-clause-made
+without-requires-clause-made c = made_wide c.args.problem.now c.args.taken.now.steps c.args.taken.now.made.items c.requires.made
+
 pub returns-in_default : goal.returns-in_default
 returns-in_default c =
-    none_without c.args.problem.now c.args.steps.now c.args.number
-    (subst (MaybeIs (IsWithout c.args.problem.now c.args.steps.now c.args.number)) c.in_default.is c.in_ok-rest.ensures)
+    none_without c.args.problem.now c.args.taken.now.steps c.args.taken.now.made.items c.args.first c.args.end c.requires.made
+    (subst (MaybeIs (IsWithout c.args.taken.now.steps c.args.taken.now.made.items c.args.first c.args.end)) c.in_default.is c.in_ok-rest.ensures)
 
-pub closes-requires-clause-few : goal.closes-requires-clause-few
-closes-requires-clause-few c =
-    let wide : length c.in-Some.rest + 1 ≡ length c.args.steps.now =
-    without_wide c.args.problem.now c.args.steps.now c.args.number c.in-Some.rest
-    (subst (MaybeIs (IsWithout c.args.problem.now c.args.steps.now c.args.number)) c.in-Some.is c.in_ok-rest.ensures) in
-    omega (arith, c.requires.few)
+pub tried-requires-clause-few : goal.tried-requires-clause-few
+tried-requires-clause-few c =
+    let few : length c.in-Some.rest ≤ length c.args.taken.now.steps =
+    without_few c.args.taken.now.steps c.args.taken.now.made.items c.args.first c.args.end c.in-Some.rest
+    (subst (MaybeIs (IsWithout c.args.taken.now.steps c.args.taken.now.made.items c.args.first c.args.end)) c.in-Some.is c.in_ok-rest.ensures) in
+    omega (arith, few, c.requires.few)
 
-pub returns-else-told : goal.returns-else-told
-returns-else-told c =
-    none_closes c.args.problem.now c.args.steps.now c.args.number c.in-Some.rest
-    (subst (MaybeIs (IsWithout c.args.problem.now c.args.steps.now c.args.number)) c.in-Some.is c.in_ok-rest.ensures)
-    (λ h. false≢true (sym c.if-told.false ∙ c.in_ok-told.ensures.1 h))
+pub returns : goal.returns
+returns c =
+    tried_gives c.args.problem.now c.args.taken.now.steps c.args.taken.now.made.items c.args.first c.args.end c.in-Some.rest c.tried.result c.requires.made
+    (subst (MaybeIs (IsWithout c.args.taken.now.steps c.args.taken.now.made.items c.args.first c.args.end)) c.in-Some.is c.in_ok-rest.ensures)
+    c.tried.ensures
