@@ -1,3 +1,4 @@
+pub mod Crossing
 pub mod Histories
 pub mod Places
 pub mod RowLemmas

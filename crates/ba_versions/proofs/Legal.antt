@@ -8,7 +8,7 @@ use Rattle.std.specs.declared.snapshot.Snapshot.{Snapshot}
 use Rattle.ba_model.specs.Conform.{Conforms}
 use Rattle.ba_model.specs.declared.schema.Schema.{Schema}
 use Rattle.ba_tables.specs.TableSet.{TableSet}
-use Rattle.ba_versions.specs.Calls.{IsOfSchema, IsPinned, IsVersion, Legal, Steps, start, next}
+use Rattle.ba_versions.specs.Calls.{IsLegal, IsOfSchema, IsPinned, IsVersion, Legal, Steps, start, next}
 use Rattle.ba_versions.specs.declared.call.VersionCall.{VersionCall}
 use Rattle.ba_versions.specs.declared.call.VersionCall.TheVariants.{Publish, Pin, Refused}
 
@@ -65,3 +65,8 @@ step_conforms opening Refused old new h all = All-same (IsVersion opening) new o
 pub all_conform : (opening : TableSet) {calls : List VersionCall} {list : List TableSet} → Legal opening calls list → All (IsVersion opening) list
 all_conform opening (start v) = All-cons (IsVersion opening) opening [] v (All-nil (IsVersion opening))
 all_conform opening (next {old = old} {new = new} call before step) = step_conforms opening call old new step (all_conform opening before)
+
+-- what versions tell of their calls, is legal from the opening tables of the first ones
+pub legal_seen : (opening first : TableSet) (calls seen : List VersionCall) (list : List TableSet) → opening ≡ first → ∥ Legal opening calls list ∥₁ → seen ≡ calls → IsLegal first seen
+legal_seen opening first calls seen list same legal is =
+    ∥∥₁_map legal (λ it. (list, subst (λ (l : List VersionCall). Legal first l list) (sym is) (subst (λ (t : TableSet). Legal t calls list) same it)))

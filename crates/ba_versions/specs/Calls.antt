@@ -36,3 +36,7 @@ Steps opening old Refused new = new ≡ old
 pub data Legal (opening : TableSet) : List VersionCall → List TableSet → Type 0 where
   start : IsVersion opening opening → Legal opening [] (opening ∷ [])
   next : {calls : List VersionCall} {old new : List TableSet} (call : VersionCall) → Legal opening calls old → Steps opening old call new → Legal opening (calls ++ call ∷ []) new
+
+-- some versions are left by the calls
+abbrev pub IsLegal : TableSet → List VersionCall → Type 0
+IsLegal opening calls = ∥ ((list : List TableSet) × Legal opening calls list) ∥₁

@@ -2,7 +2,9 @@
 #![tactic(auto)]
 
 mod call;
+mod turns;
 mod versions;
 
 pub use call::VersionCall;
+pub use turns::{pin, publish};
 pub use versions::Versions;

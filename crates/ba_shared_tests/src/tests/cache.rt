@@ -1,5 +1,6 @@
-//! A cache: the shard of a template, and calls by three passes.
+//! A cache: the shard of a template, and calls of three threads.
 ghost use Rattle.std.specs.Prelude.{ℕ, ◌+◌, IfOk, OnOk};
+ghost use Rattle.std.specs.Thread.{IsSync};
 ghost use Rattle.ba_cache.specs.Passes.{AreFree, IsOpened, IsWhole, OnEach};
 ghost use Rattle.ba_shared_tests.specs.Callers.{Awaits, HasLeft};
 
@@ -10,13 +11,15 @@ use std::alloc::{AllocError, Global};
 use std::fmt::Write;
 use std::sync::Wait;
 use std::test::Fail;
+use std::thread;
+use std::thread::Threads;
 
 type Closed = Vec<(Shelf, Vec<u32>)>;
 
-/// A pass that comes back, and the calls that were noted.
+/// A pass that comes back from a thread, and the calls that the thread noted.
 type Worked = (CachePass, Result<Vec<Told>, AllocError>);
 
-// ---- calls, as who makes them notes them
+// ---- calls, as a thread notes them
 
 fn admit_text(alloc: Global, answer: Result<Admit, AllocError>) -> Result<String, AllocError> {
     let mut text = String::new(alloc);
@@ -90,7 +93,7 @@ fn look<R: Wait>(
     })
 }
 
-/// A template of a width that only this pass admits, a look at all of that width, and a template that each pass admits.
+/// A template of a width that only this thread has, a look at all of that width, and a template that each thread has.
 fn three_calls<R: Wait>(
     rt: &R,
     alloc: Global,
@@ -134,7 +137,7 @@ fn calls<R: Wait>(
     Ok(told)
 }
 
-/// The calls by a pass, which comes back.
+/// The calls of a thread. The pass comes back.
 fn work<R: Wait>(rt: &R, alloc: Global, cache: &Cache, mut pass: CachePass, first: i64) -> Worked
     requires free { AreFree cache.now pass }
     requires left { OnEach (HasLeft 12) pass }
@@ -144,7 +147,26 @@ fn work<R: Wait>(rt: &R, alloc: Global, cache: &Cache, mut pass: CachePass, firs
     (pass, told)
 }
 
-// ---- three passes
+/// The calls of two threads.
+fn work_two<R: Threads + Wait + Sync>(
+    rt: &R,
+    alloc: Global,
+    cache: &Cache,
+    one: CachePass,
+    two: CachePass,
+) -> (Worked, Worked)
+    requires free { AreFree cache.now one × AreFree cache.now two }
+    requires left { OnEach (HasLeft 12) one × OnEach (HasLeft 12) two }
+    ensures free { AreFree cache.now result.0.0 × AreFree cache.now result.1.0 }
+{
+    thread::join(
+        rt,
+        || work(rt, alloc, cache, one, 20),
+        || work(rt, alloc, cache, two, 30),
+    )
+}
+
+// ---- three threads
 
 fn split_three(
     alloc: Global,
@@ -177,13 +199,21 @@ fn join_three(cache: &Cache, first: &mut CachePass, others: (CachePass, CachePas
     cache.join(first, three);
 }
 
-/// The shelves after the calls by three passes, one after another, and what was noted of each, by the numbers of the passes.
-fn run<R: Wait>(rt: &R, alloc: Global) -> Result<(Closed, Vec<Vec<Told>>), AllocError> {
+/// The shelves after the calls of three threads, and what each of these noted, by the numbers of their passes.
+fn run<R: Threads + Wait + Sync>(
+    rt: &R,
+    alloc: Global,
+) -> Result<(Closed, Vec<Vec<Told>>), AllocError> {
     let (cache, mut first) = Cache::new(alloc, 36)?;
     let (one, two, three) = split_three(alloc, &cache, &mut first)?;
-    let (one, a) = work(rt, alloc, &cache, one, 10);
-    let (two, b) = work(rt, alloc, &cache, two, 20);
-    let (three, c) = work(rt, alloc, &cache, three, 30);
+    let shared = &cache;
+    let ((one, a), ((two, b), (three, c))) = thread::join(
+        rt,
+        || work(rt, alloc, shared, one, 10),
+        || -> (Worked, Worked)
+            requires { IsSync R.row × AreFree shared.now two × AreFree shared.now three × OnEach (HasLeft 12) two × OnEach (HasLeft 12) three }
+        { work_two(rt, alloc, shared, two, three) },
+    );
     join_three(&cache, &mut first, (one, two, three));
     let closed = cache.close(alloc, first)?;
     let mut told = Vec::new(alloc);
@@ -214,7 +244,7 @@ fn next_call(told: &mut Vec<Told>, shard: u32) -> Option<Told> {
     Some(told.remove(place))
 }
 
-/// Whether plain lists answer the calls as the shelf did, in the order of its history.
+/// Whether plain lists answer the calls of the threads as the shelf did, in the order of its history.
 fn agrees(
     alloc: Global,
     shard: u32,
@@ -262,7 +292,7 @@ fn summary(
 }
 
 #[test]
-fn three_passes(rt: HostRuntime) -> Result<(), Fail> {
+fn three_threads(rt: HostRuntime) -> Result<(), Fail> {
     let alloc = rt.alloc();
     let (closed, mut told) = run(&rt, alloc)?;
     let text = summary(alloc, &closed, &mut told)?;
