@@ -10,11 +10,11 @@ use Rattle.ba_model.specs.declared.schema.Kind.TheVariants.{Int as IntKind, Text
 use Rattle.ba_model.specs.declared.value.Value.{Value}
 use Rattle.ba_model.specs.declared.value.Value.TheVariants as value
 use Rattle.ba_script.proofs.SaysLemmas.{length-say, script_reads}
-use Rattle.ba_script.proofs.TrackingLemmas.{begun-push}
+use Rattle.ba_script.proofs.TrackingLemmas.{begun-push, published-push}
 use Rattle.ba_script.specs.Contexts.{IsValueFor, of_kind}
 use Rattle.ba_script.specs.Lines.{script_lines}
-use Rattle.ba_script.specs.Reading.{begun, script_of}
-use Rattle.ba_script.specs.Scripts.{BeginFits, EntriesFit, EntryFits, IsOpen, IsScript, LinesSay, NumberedFrom, Says, begins, asks, ends}
+use Rattle.ba_script.specs.Reading.{begun, published, script_of}
+use Rattle.ba_script.specs.Scripts.{BeginFits, EntriesFit, EntryFits, IsLine, IsOpen, IsScript, LinesSay, NumberedFrom, PublishedFrom, Says, begins, asks, ends, publishes}
 use Rattle.ba_script.specs.declared.entry.Script.{Script}
 use Rattle.ba_script.specs.declared.entry.ScriptEntry.{ScriptEntry}
 use Rattle.ba_script.specs.declared.entry.ScriptEntry.TheVariants as entry
@@ -48,6 +48,7 @@ begin_fits : (params : List Parameter) (before : List ScriptEntry) (l : ScriptLi
 begin_fits params before (line.Begin name members) e (begins {context} free is few) = values_fit members params context.values is.values
 begin_fits params before (line.Ask name query) e (asks is few) = tt
 begin_fits params before (line.End name) e (ends is) = tt
+begin_fits params before (line.Publish set) e publishes = tt
 
 contexts_fit : (params : List Parameter) (before : List ScriptEntry) (lines : List (List ℕ)) (es : List ScriptEntry) → LinesSay params before lines es → AllByRecursion (BeginFits params) es
 contexts_fit params before [] [] h = tt
@@ -57,16 +58,17 @@ contexts_fit params before (bytes ∷ lines) (e ∷ es) h = (begin_fits params b
 
 -- ---- names
 
-entry_fits : (params : List Parameter) (before : List ScriptEntry) (l : ScriptLine) (e : ScriptEntry) → Says params before l e → EntryFits before e
-entry_fits params before (line.Begin name members) e (begins free is few) = (free, few)
-entry_fits params before (line.Ask name query) e (asks {asked} is few) = (asked, is, few)
-entry_fits params before (line.End name) e (ends {asked} is) = (asked, is)
+entry_fits : (params : List Parameter) (before : List ScriptEntry) (bytes : List ℕ) (l : ScriptLine) (e : ScriptEntry) → IsLine bytes l → Says params before l e → EntryFits before e
+entry_fits params before bytes (line.Begin name members) e read (begins free is few) = (free, few)
+entry_fits params before bytes (line.Ask name query) e read (asks {asked} is few) = (asked, is, few)
+entry_fits params before bytes (line.End name) e read (ends {asked} is) = (asked, is)
+entry_fits params before bytes (line.Publish set) e read publishes = read.2.0
 
 entries_fit : (params : List Parameter) (before : List ScriptEntry) (lines : List (List ℕ)) (es : List ScriptEntry) → LinesSay params before lines es → EntriesFit before es
 entries_fit params before [] [] h = tt
 entries_fit params before [] (e ∷ es) h = absurd h
 entries_fit params before (bytes ∷ lines) [] h = absurd h
-entries_fit params before (bytes ∷ lines) (e ∷ es) h = (entry_fits params before h.0.0 e h.0.2, entries_fit params (before ++ e ∷ []) lines es h.1)
+entries_fit params before (bytes ∷ lines) (e ∷ es) h = (entry_fits params before bytes h.0.0 e h.0.1 h.0.2, entries_fit params (before ++ e ∷ []) lines es h.1)
 
 -- ---- numbers
 
@@ -75,11 +77,13 @@ abbrev Below : ℕ → ScriptEntry → Type 0
 Below n (entry.Begin request name context) = request < n
 Below n (entry.Ask request name query) = Unit {0}
 Below n (entry.End request name) = Unit {0}
+Below n (entry.Publish number set) = Unit {0}
 
 below_more : (n : ℕ) (e : ScriptEntry) → Below n e → Below (n + 1) e
 below_more n (entry.Begin request name context) h = omega arith
 below_more n (entry.Ask request name query) h = tt
 below_more n (entry.End request name) h = tt
+below_more n (entry.Publish number set) h = tt
 
 all_more : (n : ℕ) (es : List ScriptEntry) → AllByRecursion (Below n) es → AllByRecursion (Below (n + 1)) es
 all_more n [] h = tt
@@ -105,6 +109,8 @@ number_on params before n (line.Ask name query) e es (asks {request} {asked} is 
     (open_below n before name request asked all is, rest n (begun-push before (entry.Ask request name query) ∙ count) (all_push n before (entry.Ask request name query) all tt))
 number_on params before n (line.End name) e es (ends {request} {asked} is) count all rest =
     (open_below n before name request asked all is, rest n (begun-push before (entry.End request name) ∙ count) (all_push n before (entry.End request name) all tt))
+number_on params before n (line.Publish set) e es publishes count all rest =
+    rest n (begun-push before (entry.Publish (published before) set) ∙ count) (all_push n before (entry.Publish (published before) set) all tt)
 
 numbered : (params : List Parameter) (before : List ScriptEntry) (n : ℕ) (lines : List (List ℕ)) (es : List ScriptEntry) → LinesSay params before lines es → begun before ≡ n
     → AllByRecursion (Below n) before → NumberedFrom n es
@@ -114,6 +120,20 @@ numbered params before n (bytes ∷ lines) [] h count all = absurd h
 numbered params before n (bytes ∷ lines) (e ∷ es) h count all =
     number_on params before n h.0.0 e es h.0.2 count all (λ m. numbered params (before ++ e ∷ []) m lines es h.1)
 
+published_on : (params : List Parameter) (before : List ScriptEntry) (n : ℕ) (l : ScriptLine) (e : ScriptEntry) (es : List ScriptEntry) → Says params before l e → published before ≡ n
+    → ((m : ℕ) → published (before ++ e ∷ []) ≡ m → PublishedFrom m es) → PublishedFrom n (e ∷ es)
+published_on params before n (line.Begin name members) e es (begins {context} free is few) count rest = rest n (published-push before (entry.Begin (begun before) name context) ∙ count)
+published_on params before n (line.Ask name query) e es (asks {request} is few) count rest = rest n (published-push before (entry.Ask request name query) ∙ count)
+published_on params before n (line.End name) e es (ends {request} is) count rest = rest n (published-push before (entry.End request name) ∙ count)
+published_on params before n (line.Publish set) e es publishes count rest =
+    (count, rest (n + 1) (published-push before (entry.Publish (published before) set) ∙ ap (λ m. m + 1) count))
+
+sets_numbered : (params : List Parameter) (before : List ScriptEntry) (n : ℕ) (lines : List (List ℕ)) (es : List ScriptEntry) → LinesSay params before lines es → published before ≡ n → PublishedFrom n es
+sets_numbered params before n [] [] h count = tt
+sets_numbered params before n [] (e ∷ es) h count = absurd h
+sets_numbered params before n (bytes ∷ lines) [] h count = absurd h
+sets_numbered params before n (bytes ∷ lines) (e ∷ es) h count = published_on params before n h.0.0 e es h.0.2 count (λ m. sets_numbered params (before ++ e ∷ []) m lines es h.1)
+
 pub is_script : (params : List Parameter) (bytes : List ℕ) (s : Script) → script_of params bytes ≡ Ok s → IsScript params s
 is_script params bytes s e =
     let h = script_reads params bytes s e in
@@ -121,5 +141,6 @@ is_script params bytes s e =
       few_entries = subst (λ n. n ≤ 65536) (sym (length-say params [] (script_lines bytes) s.entries h.entries)) h.few_lines;
       contexts = All-from_recursion (BeginFits params) s.entries (contexts_fit params [] (script_lines bytes) s.entries h.entries);
       numbered = numbered params [] 0 (script_lines bytes) s.entries h.entries refl tt;
+      published = sets_numbered params [] 0 (script_lines bytes) s.entries h.entries refl;
       fit = entries_fit params [] (script_lines bytes) s.entries h.entries;
     }

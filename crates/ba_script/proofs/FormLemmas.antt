@@ -8,10 +8,10 @@ use Rattle.ba_model.specs.Readings.{◌>>=◌}
 use Rattle.ba_model.specs.declared.limits.TheConstants.{MAX_NAME_BYTES}
 use Rattle.ba_script.specs.declared.line.Member.{Member}
 use Rattle.ba_script.specs.declared.line.ScriptLine.{ScriptLine}
-use Rattle.ba_script.specs.declared.line.ScriptLine.TheVariants.{Begin, Ask, End}
+use Rattle.ba_script.specs.declared.line.ScriptLine.TheVariants.{Begin, Ask, End, Publish}
 use Rattle.ba_script.specs.declared.fault.LineFault.{LineFault}
 use Rattle.ba_script.specs.declared.fault.LineFault.TheVariants.{Json, Shape}
-use Rattle.ba_script.specs.Script.{IsName, Spells, context_at, form_at, given_members, if_name, line_at, name_at, one_at, text_at, two_at}
+use Rattle.ba_script.specs.Script.{IsName, Spells, context_at, form_at, given_members, if_name, if_some, line_at, name_at, one_at, set_at, text_at, two_at}
 
 bind_ok : {A B : Type 0} (r : Result A LineFault) (f : A → Result B LineFault) (y : B) → (r >>= f) ≡ Ok y → (x : A) × (r ≡ Ok x) × (f x ≡ Ok y)
 bind_ok (Ok x) f y e = (x, refl, e)
@@ -54,6 +54,19 @@ name_reads n h =
     let least : nat_lt 0 (length n) ≡ true = lt-ltb 0 (length n) h.least in
     let most : nat_le (length n) MAX_NAME_BYTES ≡ true = le-leb (length n) MAX_NAME_BYTES h.most in
     rw (least, most) refl
+
+-- ---- the names of table sets
+
+set_is : (d : Data) (s : List ℕ) → set_at d ≡ Ok s → (0 < length s) × (d ≡ string s)
+unfolding set_at
+set_is d s e =
+    let found = bind_ok (text_at d) if_some s e in
+    let some = kept (nat_lt 0 (length found.0)) found.0 s found.2 in
+    (subst (λ (t : List ℕ). 0 < length t) some.1 (ltb-true 0 (length found.0) some.0), text_is d found.0 found.1 ∙ ap string some.1)
+
+set_reads : (s : List ℕ) → 0 < length s → set_at (string s) ≡ Ok s
+unfolding set_at
+set_reads s h = ap (λ b. cond b (Ok s) (Err Shape)) (lt-ltb 0 (length s) h)
 
 -- ---- contexts
 
@@ -102,13 +115,27 @@ begin_is k l d e it key other h =
     subst (Spells (object (member k d (member l e no_members)))) form
     (name.0, (context.0, context.1, two_keys k (codes "begin") d (string found.0) l (codes "context") e (object context.0) key name.1 other context.2))
 
+publish_is : (k : List ℕ) (d : Data) (it : ScriptLine) → k ≡ codes "publish" → (set_at d >>= λ set. Ok (Publish set)) ≡ Ok it → Spells (object (member k d no_members)) it
+publish_is k d it key e =
+    let found = bind_ok (set_at d) (λ set. Ok (Publish set)) it e in
+    let set = set_is d found.0 found.1 in
+    let form : Publish found.0 ≡ it = cc found.2 in
+    subst (Spells (object (member k d no_members))) form (set.0, one_key k (codes "publish") d (string found.0) key set.1)
+
+publish_or_none : (k : List ℕ) (d : Data) (it : ScriptLine) (b : Bool) → bytes_eq k (codes "publish") ≡ b → cond b (set_at d >>= λ set. Ok (Publish set)) (Err Shape) ≡ Ok it
+    → Spells (object (member k d no_members)) it
+publish_or_none k d it true t e = publish_is k d it (same_text _ _ t) e
+publish_or_none k d it false t e = cc e
+
 one_is : (k : List ℕ) (d : Data) (it : ScriptLine) → one_at k d ≡ Ok it → Spells (object (member k d no_members)) it
 unfolding one_at
 one_is k d it e = by (bytes_eq k (codes "end")) refl e
   where
-    by : (b : Bool) → bytes_eq k (codes "end") ≡ b → cond b (name_at d >>= λ name. Ok (End name)) (Err Shape) ≡ Ok it → Spells (object (member k d no_members)) it
+    by : (b : Bool) → bytes_eq k (codes "end") ≡ b
+        → cond b (name_at d >>= λ name. Ok (End name)) (cond (bytes_eq k (codes "publish")) (set_at d >>= λ set. Ok (Publish set)) (Err Shape)) ≡ Ok it
+        → Spells (object (member k d no_members)) it
     by true t e = end_is k d it (same_text _ _ t) e
-    by false t e = cc e
+    by false t e = publish_or_none k d it (bytes_eq k (codes "publish")) refl e
 
 begin_or_none : (k l : List ℕ) (d e : Data) (it : ScriptLine) (b : Bool) → (bytes_eq k (codes "begin") && bytes_eq l (codes "context")) ≡ b
     → cond b (name_at d >>= λ name. context_at e >>= λ context. Ok (Begin name context)) (Err Shape) ≡ Ok it → Spells (object (member k d (member l e no_members))) it
@@ -148,6 +175,7 @@ spelled d (Begin name context) h =
     ap line_at h.1.2 ∙ ap (λ (r : Result (List ℕ) LineFault). r >>= λ n. Ok (Begin n (given_members h.1.0))) (name_reads name h.0) ∙ ap (λ (c : List Member). Ok (Begin name c)) (sym h.1.1)
 spelled d (Ask name query) h = ap line_at h.1 ∙ ap (λ (r : Result (List ℕ) LineFault). r >>= λ n. Ok (Ask n query)) (name_reads name h.0)
 spelled d (End name) h = ap line_at h.1 ∙ ap (λ (r : Result (List ℕ) LineFault). r >>= λ n. Ok (End n)) (name_reads name h.0)
+spelled d (Publish set) h = ap line_at h.1 ∙ ap (λ (r : Result (List ℕ) LineFault). r >>= λ s. Ok (Publish s)) (set_reads set h.0)
 
 -- ---- a JSON value that isn't a line lacks the shape of one
 
@@ -174,6 +202,10 @@ name_shape : (d : Data) → OnlyShape (name_at d)
 unfolding name_at
 name_shape d = bind_shape (text_at d) if_name (text_shape d) (λ s. cond_shape (nat_lt 0 (length s) && nat_le (length s) MAX_NAME_BYTES) (Ok s) (Err Shape) (λ f e. cc e) (λ f e. cc e))
 
+set_shape : (d : Data) → OnlyShape (set_at d)
+unfolding set_at
+set_shape d = bind_shape (text_at d) if_some (text_shape d) (λ s. cond_shape (nat_lt 0 (length s)) (Ok s) (Err Shape) (λ f e. cc e) (λ f e. cc e))
+
 context_shape : (d : Data) → OnlyShape (context_at d)
 context_shape null f e = cc e
 context_shape (boolean b) f e = cc e
@@ -185,6 +217,9 @@ context_shape (object ms) f e = cc e
 end_shape : (d : Data) → OnlyShape (name_at d >>= λ name. Ok (End name))
 end_shape d = bind_shape (name_at d) (λ name. Ok (End name)) (name_shape d) (λ name f e. cc e)
 
+publish_shape : (d : Data) → OnlyShape (set_at d >>= λ set. Ok (Publish set))
+publish_shape d = bind_shape (set_at d) (λ set. Ok (Publish set)) (set_shape d) (λ set f e. cc e)
+
 ask_shape : (d e : Data) → OnlyShape (name_at d >>= λ name. text_at e >>= λ query. Ok (Ask name query))
 ask_shape d e = bind_shape (name_at d) (λ name. text_at e >>= λ query. Ok (Ask name query)) (name_shape d)
     (λ name. bind_shape (text_at e) (λ query. Ok (Ask name query)) (text_shape e) (λ query f h. cc h))
@@ -195,7 +230,7 @@ begin_shape d e = bind_shape (name_at d) (λ name. context_at e >>= λ context. 
 
 one_shape : (k : List ℕ) (d : Data) → OnlyShape (one_at k d)
 unfolding one_at
-one_shape k d = cond_shape (bytes_eq k (codes "end")) _ _ (end_shape d) (λ f e. cc e)
+one_shape k d = cond_shape (bytes_eq k (codes "end")) _ _ (end_shape d) (cond_shape (bytes_eq k (codes "publish")) _ _ (publish_shape d) (λ f e. cc e))
 
 two_shape : (k : List ℕ) (d : Data) (l : List ℕ) (e : Data) → OnlyShape (two_at k d l e)
 unfolding two_at

@@ -30,6 +30,7 @@ stays_by name request n (entry.Begin r it context) other =
     ap (λ b. cond b (Some (held r 0)) (Some (held request n))) other ∙ ap (λ m. Some (held request m)) (sym (add-zero n))
 stays_by name request n (entry.Ask r it query) other = asked_by (bytes_eq it name) request n
 stays_by name request n (entry.End r it) other = ap (λ b. cond b None (Some (held request n))) other ∙ ap (λ m. Some (held request m)) (sym (add-zero n))
+stays_by name request n (entry.Publish number set) other = ap (λ m. Some (held request m)) (sym (add-zero n))
 
 stays_from : (name : List ℕ) (request n : ℕ) (es : List ScriptEntry) → AllByRecursion (Leaves name) es → open_from name (Some (held request n)) es ≡ Some (held request (counted name n es))
 stays_from name request n [] stays = refl
@@ -119,6 +120,7 @@ kept_on name o (entry.End r it) es x was is stays more = by (bytes_eq it name) r
     by : (b : Bool) → bytes_eq it name ≡ b → cond b None o ≡ Some was → Traced name o (entry.End r it ∷ es) x
     by true same e = cc e
     by false same e = inr (passed_here name o (entry.End r it) es x was refl same e stays more)
+kept_on name o (entry.Publish number set) es x was is stays more = inr (passed_here name o (entry.Publish number set) es x was refl tt is stays more)
 
 traced : (name : List ℕ) (o : Option Opened) (es : List ScriptEntry) (x : Opened) → open_from name o es ≡ Some x → Traced name o es x
 traced name o [] x is = inr (record { was = x; is = is; stays = tt; more = refl })

@@ -15,7 +15,7 @@ use Rattle.ba_script.specs.Contexts.{context_of}
 use Rattle.ba_script.specs.Lines.{script_lines}
 use Rattle.ba_script.specs.Reading.{ask_of, begin_of, begun, context_at, end_of, entries_from, entry_at, entry_of, numbered, open_after, script_from, script_of, script_with}
 use Rattle.ba_script.specs.Script.{IsJson, Spells, line_at as line_of_data, script_line_of}
-use Rattle.ba_script.specs.Scripts.{HasBadLine, IsFree, IsLine, IsNoScript, LineFails, LineSays, LinesSay, ReadsScript, Says, SaysNone, begins, asks, ends, begun_twice, asks_unbegun, ends_unbegun, no_context as lacks_context, many_requests, many_asks, json, shape, says_none, many_lines, bad_line}
+use Rattle.ba_script.specs.Scripts.{HasBadLine, IsFree, IsLine, IsNoScript, LineFails, LineSays, LinesSay, ReadsScript, Says, SaysNone, begins, asks, ends, publishes, begun_twice, asks_unbegun, ends_unbegun, no_context as lacks_context, many_requests, many_asks, json, shape, says_none, many_lines, bad_line}
 use Rattle.ba_script.specs.declared.entry.Script.{Script}
 use Rattle.ba_script.specs.declared.entry.ScriptEntry.{ScriptEntry}
 use Rattle.ba_script.specs.declared.entry.ScriptEntry.TheVariants as entry
@@ -71,6 +71,7 @@ pub told : (params : List Parameter) (before : List ScriptEntry) (n : ℕ) (l : 
 told params before n (line.Begin name members) = begin_told params before n name members (open_after before name) refl
 told params before n (line.Ask name query) = ask_told params before n name query (open_after before name) refl
 told params before n (line.End name) = end_told params before n name (open_after before name) refl
+told params before n (line.Publish set) = publishes
 
 -- what a line says is its entry
 says_entry : (params : List Parameter) (before : List ScriptEntry) (n : ℕ) (l : ScriptLine) (e : ScriptEntry) → Says params before l e → entry_of params before n l ≡ Ok e
@@ -81,6 +82,7 @@ says_entry params before n (line.Begin name members) e (begins {context} free is
 says_entry params before n (line.Ask name query) e (asks {request} {asked} is few) =
     ap (ask_of n name query) (open_is before name request asked is) ∙ ap (λ b. cond b (Ok (entry.Ask request name query)) (Err (TooMany what.Asks MAX_ASKS))) (lt-ltb _ _ few)
 says_entry params before n (line.End name) e (ends {request} {asked} is) = ap (end_of n name) (open_is before name request asked is)
+says_entry params before n (line.Publish set) e publishes = refl
 
 -- why a line says nothing is its fault
 none_fault : (params : List Parameter) (before : List ScriptEntry) (n : ℕ) (l : ScriptLine) (f : ScriptFault) → SaysNone params before n l f → entry_of params before n l ≡ Err f
@@ -96,6 +98,7 @@ none_fault params before n (line.Ask name query) f (asks_unbegun free) = ap (ask
 none_fault params before n (line.Ask name query) f (many_asks {request} {asked} is many) =
     ap (ask_of n name query) (open_is before name request asked is) ∙ ap (λ b. cond b (Ok (entry.Ask request name query)) (Err (TooMany what.Asks MAX_ASKS))) (le-ltb _ _ many)
 none_fault params before n (line.End name) f (ends_unbegun free) = ap (end_of n name) (free_is before name free)
+none_fault params before n (line.Publish set) f none = elim none [ ]
 
 -- ---- one line's bytes
 

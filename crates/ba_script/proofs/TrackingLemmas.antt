@@ -1,16 +1,18 @@
 -- What is kept of the open names follows each entry.
-use Rattle.std.proofs.Common.{◌≡◌, ◌∙◌, ℕ, ◌+◌, List, [], ◌∷◌, ◌++◌, length, Bool, true, false, cond, Option, Some, None, option_map, Result, Ok, Err, refl, sym, ap, ap₂, arith}
+use Rattle.std.proofs.Common.{◌≡◌, ◌∙◌, ℕ, ◌+◌, ◌<◌, ◌≤◌, List, [], ◌∷◌, ◌++◌, length, Bool, true, false, cond, Option, Some, None, option_map, Result, Ok, Err, refl, sym, ap, ap₂, arith, length-append}
 use Rattle.std.specs.BTreeMap.{is_at}
 use Rattle.std.specs.Cmp.Lexicographic.{slice_cmp, texts_ties}
 use Rattle.std.specs.List.{fold}
 use Rattle.std.specs.Ordering.{nat_cmp}
 use Rattle.std.specs.Str.{bytes_eq}
+use Rattle.std.proofs.lemmas.List.Sums.{count_by-le-length}
 use Rattle.std.proofs.lemmas.Slice.Eq.{bytes_eq-Decides}
+use Rattle.ba_model.specs.declared.limits.TheConstants.{MAX_LINES}
 use Rattle.ba_model.specs.declared.policy.Parameter.{Parameter}
 use Rattle.ba_model.specs.Readings.{◌>>=◌, Gives, widened}
 use Rattle.ba_model.specs.declared.failure.Failure.{Failure}
 use Rattle.ba_model.specs.declared.failure.Failure.TheVariants as errors
-use Rattle.ba_script.specs.Reading.{ask_of, asked, begin_of, begun, begun_by, end_of, entries_from, entry_at, entry_of, is_begin, open_by, open_from}
+use Rattle.ba_script.specs.Reading.{ask_of, asked, begin_of, begun, begun_by, end_of, entries_from, entry_at, entry_of, is_begin, is_publish, open_by, open_from, published, published_by}
 use Rattle.ba_script.specs.Script.{script_line_of}
 use Rattle.ba_script.specs.Tracking.{Moves, Tracks, kept_entry_at, kept_entry_of}
 use Rattle.ba_script.specs.declared.entry.ScriptEntry.{ScriptEntry}
@@ -58,20 +60,33 @@ unfolding is_begin
 begun-one n (entry.Begin request name context) = refl
 begun-one n (entry.Ask request name query) = omega arith
 begun-one n (entry.End request name) = omega arith
+begun-one n (entry.Publish number set) = omega arith
 
 pub begun-push : (es : List ScriptEntry) (e : ScriptEntry) → begun (es ++ e ∷ []) ≡ begun_by (begun es) e
 begun-push es e = fold-push (λ n x. n + cond (is_begin x) 1 0) 0 es e ∙ begun-one (begun es) e
+
+published-one : (n : ℕ) (e : ScriptEntry) → n + cond (is_publish e) 1 0 ≡ published_by n e
+unfolding is_publish
+published-one n (entry.Begin request name context) = omega arith
+published-one n (entry.Ask request name query) = omega arith
+published-one n (entry.End request name) = omega arith
+published-one n (entry.Publish number set) = refl
+
+pub published-push : (es : List ScriptEntry) (e : ScriptEntry) → published (es ++ e ∷ []) ≡ published_by (published es) e
+published-push es e = fold-push (λ n x. n + cond (is_publish x) 1 0) 0 es e ∙ published-one (published es) e
 
 pub tracks_on : (before : List ScriptEntry) (e : ScriptEntry) (old new : Requests) → Tracks before old → Moves e old new → Tracks (before ++ e ∷ []) new
 tracks_on before e old new tracks moves = record {
   names = λ name. moves.names name ∙ ap (λ held. open_by name held e) (tracks.names name) ∙ sym (open_from-push name None before e);
   count = moves.count ∙ ap (λ n. begun_by n e) tracks.count ∙ sym (begun-push before e);
+  sets = moves.sets ∙ ap (λ n. published_by n e) tracks.sets ∙ sym (published-push before e);
 }
 
 pub entry_kept : (params : List Parameter) (before : List ScriptEntry) (it : Requests) (n : ℕ) (l : ScriptLine) → Tracks before it → kept_entry_of params it n l ≡ entry_of params before n l
 entry_kept params before it n (line.Begin name members) tracks = ap₂ (λ held number. begin_of params n name members held number) (tracks.names name) tracks.count
 entry_kept params before it n (line.Ask name query) tracks = ap (ask_of n name query) (tracks.names name)
 entry_kept params before it n (line.End name) tracks = ap (end_of n name) (tracks.names name)
+entry_kept params before it n (line.Publish set) tracks = ap (λ number. Ok (entry.Publish number set)) tracks.sets
 
 bind_kept : (params : List Parameter) (before : List ScriptEntry) (it : Requests) (n : ℕ) (r : Result ScriptLine ScriptFault) → Tracks before it
     → (r >>= kept_entry_of params it n) ≡ (r >>= entry_of params before n)
@@ -105,3 +120,14 @@ pub read_none : (params : List Parameter) (before : List ScriptEntry) (it : Requ
 read_none params before it n bytes lines items errors.NoMemory whole tracks number first gives is = tt
 read_none params before it n bytes lines items (errors.Fault f) whole tracks number first gives is =
     sym is ∙ next_line params before it n bytes lines items (Err f) tracks number first gives
+
+-- ---- how many lines there are
+
+-- the number of one more table set is below the number of lines
+pub room_for : (before : List ScriptEntry) (it : Requests) (bytes : List ℕ) (lines items : List (List ℕ)) → Tracks before it → items ≡ bytes ∷ lines → length before + length items ≤ MAX_LINES
+    → it.published < MAX_LINES
+room_for before it bytes lines items tracks first few = omega (arith, tracks.sets, count_by-le-length is_publish before, ap length first, few)
+
+pub few_more : (before after : List ScriptEntry) (e : ScriptEntry) (bytes : List ℕ) (lines items : List (List ℕ)) → items ≡ bytes ∷ lines → after ≡ before ++ e ∷ []
+    → length before + length items ≤ MAX_LINES → length after + length lines ≤ MAX_LINES
+few_more before after e bytes lines items first pushed few = omega (arith, ap length first, ap length pushed, length-append before (e ∷ []), few)

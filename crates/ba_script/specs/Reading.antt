@@ -30,6 +30,7 @@ abbrev pub open_by : List ℕ → Option Opened → ScriptEntry → Option Opene
 open_by name held (entry.Begin request it context) = if bytes_eq it name then Some (record { request = request; asks = 0 }) else held
 open_by name held (entry.Ask request it query) = if bytes_eq it name then option_map asked held else held
 open_by name held (entry.End request it) = if bytes_eq it name then None else held
+open_by name held (entry.Publish number set) = held
 
 abbrev pub open_from : List ℕ → Option Opened → List ScriptEntry → Option Opened
 open_from name held [] = held
@@ -43,15 +44,35 @@ unfoldable pub is_begin : ScriptEntry → Bool
 is_begin (entry.Begin request name context) = true
 is_begin (entry.Ask request name query) = false
 is_begin (entry.End request name) = false
+is_begin (entry.Publish number set) = false
 
 abbrev pub begun_by : ℕ → ScriptEntry → ℕ
 begun_by n (entry.Begin request name context) = n + 1
 begun_by n (entry.Ask request name query) = n
 begun_by n (entry.End request name) = n
+begun_by n (entry.Publish number set) = n
 
 -- how many requests these entries begin
 abbrev pub begun : List ScriptEntry → ℕ
 begun before = count_by is_begin before
+
+-- ---- The table sets that entries publish
+
+unfoldable pub is_publish : ScriptEntry → Bool
+is_publish (entry.Begin request name context) = false
+is_publish (entry.Ask request name query) = false
+is_publish (entry.End request name) = false
+is_publish (entry.Publish number set) = true
+
+abbrev pub published_by : ℕ → ScriptEntry → ℕ
+published_by n (entry.Begin request name context) = n
+published_by n (entry.Ask request name query) = n
+published_by n (entry.End request name) = n
+published_by n (entry.Publish number set) = n + 1
+
+-- how many table sets these entries publish
+abbrev pub published : List ScriptEntry → ℕ
+published before = count_by is_publish before
 
 -- ---- One line
 
@@ -80,6 +101,7 @@ abbrev pub entry_of : List Parameter → List ScriptEntry → ℕ → ScriptLine
 entry_of params before n (line.Begin name members) = begin_of params n name members (open_after before name) (begun before)
 entry_of params before n (line.Ask name query) = ask_of n name query (open_after before name)
 entry_of params before n (line.End name) = end_of n name (open_after before name)
+entry_of params before n (line.Publish set) = Ok (entry.Publish (published before) set)
 
 -- the entry that the bytes of the next line are, after these entries; lines are numbered from 1
 unfoldable pub entry_at : List Parameter → List ScriptEntry → List ℕ → Result ScriptEntry ScriptFault

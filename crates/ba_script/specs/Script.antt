@@ -10,7 +10,7 @@ use Rattle.ba_script.specs.declared.line.Given.{Given}
 use Rattle.ba_script.specs.declared.line.Given.TheVariants.{Int, Text, Other}
 use Rattle.ba_script.specs.declared.line.Member.{Member}
 use Rattle.ba_script.specs.declared.line.ScriptLine.{ScriptLine}
-use Rattle.ba_script.specs.declared.line.ScriptLine.TheVariants.{Begin, Ask, End}
+use Rattle.ba_script.specs.declared.line.ScriptLine.TheVariants.{Begin, Ask, End, Publish}
 use Rattle.ba_script.specs.declared.fault.LineFault.{LineFault}
 use Rattle.ba_script.specs.declared.fault.LineFault.TheVariants.{Json, Shape}
 
@@ -28,6 +28,13 @@ if_name s = if nat_lt 0 (length s) && nat_le (length s) MAX_NAME_BYTES then Ok s
 -- a text of 1 to 64 bytes
 unfoldable pub name_at : Data → Result (List ℕ) LineFault
 name_at d = text_at d >>= if_name
+
+abbrev pub if_some : List ℕ → Result (List ℕ) LineFault
+if_some s = if nat_lt 0 (length s) then Ok s else Err Shape
+
+-- a text that isn't empty
+unfoldable pub set_at : Data → Result (List ℕ) LineFault
+set_at d = text_at d >>= if_some
 
 abbrev pub given_from : Option (List ℕ) → Option ℤ → Given
 given_from (Some s) n = Text s
@@ -52,7 +59,10 @@ context_at d = given_or (as_object d)
 
 -- an object with this one member
 unfoldable pub one_at : List ℕ → Data → Result ScriptLine LineFault
-one_at k d = if bytes_eq k (codes "end") then (name_at d >>= λ name. Ok (End name)) else Err Shape
+one_at k d =
+    if bytes_eq k (codes "end") then (name_at d >>= λ name. Ok (End name))
+    else (if bytes_eq k (codes "publish") then (set_at d >>= λ set. Ok (Publish set))
+    else Err Shape)
 
 -- an object with these two members
 unfoldable pub two_at : List ℕ → Data → List ℕ → Data → Result ScriptLine LineFault
@@ -100,6 +110,7 @@ Spells d (Begin name context) = IsName name × ((members : Members) × (context 
     × (d ≡ object (member (codes "begin") (string name) (member (codes "context") (object members) no_members))))
 Spells d (Ask name query) = IsName name × (d ≡ object (member (codes "ask") (string name) (member (codes "query") (string query) no_members)))
 Spells d (End name) = IsName name × (d ≡ object (member (codes "end") (string name) no_members))
+Spells d (Publish set) = (0 < length set) × (d ≡ object (member (codes "publish") (string set) no_members))
 
 -- the bytes are the UTF-8 of a JSON text of this value
 pub record IsJson (bytes : List ℕ) (d : Data) : Type 0 where

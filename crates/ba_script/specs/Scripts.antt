@@ -8,7 +8,7 @@ use Rattle.ba_model.specs.declared.limits.TheConstants.{MAX_ASKS, MAX_LINES, MAX
 use Rattle.ba_model.specs.declared.limits.Counted.TheVariants as what
 use Rattle.ba_script.specs.Contexts.{IsContext}
 use Rattle.ba_script.specs.Lines.{script_lines}
-use Rattle.ba_script.specs.Reading.{begun, script_of}
+use Rattle.ba_script.specs.Reading.{begun, published, script_of}
 use Rattle.ba_script.specs.Script.{IsJson, Spells}
 use Rattle.ba_script.specs.declared.entry.Script.{Script}
 use Rattle.ba_script.specs.declared.entry.ScriptEntry.{ScriptEntry}
@@ -21,16 +21,18 @@ use Rattle.ba_script.specs.declared.line.ScriptLine.{ScriptLine}
 use Rattle.ba_script.specs.declared.line.ScriptLine.TheVariants as line
 use Rattle.serde_json.specs.Data.{Data}
 
--- the entry is a question under the name, or of another name
+-- the entry is a question under the name, or of another name, or of none
 abbrev pub Leaves : List ℕ → ScriptEntry → Type 0
 Leaves name (entry.Begin request it context) = bytes_eq it name ≡ false
 Leaves name (entry.Ask request it query) = Unit {0}
 Leaves name (entry.End request it) = bytes_eq it name ≡ false
+Leaves name (entry.Publish number set) = Unit {0}
 
 unfoldable pub is_ask_under : List ℕ → ScriptEntry → Bool
 is_ask_under name (entry.Begin request it context) = false
 is_ask_under name (entry.Ask request it query) = bytes_eq it name
 is_ask_under name (entry.End request it) = false
+is_ask_under name (entry.Publish number set) = false
 
 -- the request is open under the name after these entries: it began there, the name wasn't ended or begun again, and it asked so many questions
 pub record IsOpen (before : List ScriptEntry) (name : List ℕ) (request asks : ℕ) : Type 0 where
@@ -45,12 +47,14 @@ pub record IsOpen (before : List ScriptEntry) (name : List ℕ) (request asks : 
 abbrev pub IsFree : List ScriptEntry → List ℕ → Type 0
 IsFree before name = (request asks : ℕ) → ¬ (IsOpen before name request asks)
 
--- What a line says after these entries. A new request has as its number how many were begun before.
+-- What a line says after these entries. A new request has as its number how many were begun before, and a table set that is published
+-- how many were published before.
 pub data Says (params : List Parameter) (before : List ScriptEntry) : ScriptLine → ScriptEntry → Type 0 where
   begins : {name : List ℕ} {members : List Member} {context : Context} → IsFree before name → IsContext params members context → begun before < MAX_REQUESTS
       → Says params before (line.Begin name members) (entry.Begin (begun before) name context)
   asks : {name query : List ℕ} {request asked : ℕ} → IsOpen before name request asked → asked < MAX_ASKS → Says params before (line.Ask name query) (entry.Ask request name query)
   ends : {name : List ℕ} {request asked : ℕ} → IsOpen before name request asked → Says params before (line.End name) (entry.End request name)
+  publishes : {set : List ℕ} → Says params before (line.Publish set) (entry.Publish (published before) set)
 
 -- why a line says nothing after these entries, where it is line n
 pub data SaysNone (params : List Parameter) (before : List ScriptEntry) (n : ℕ) : ScriptLine → ScriptFault → Type 0 where
@@ -111,19 +115,31 @@ abbrev pub BeginFits : List Parameter → ScriptEntry → Type 0
 BeginFits params (entry.Begin request name context) = ContextFits (kinds_of params) context
 BeginFits params (entry.Ask request name query) = Unit {0}
 BeginFits params (entry.End request name) = Unit {0}
+BeginFits params (entry.Publish number set) = Unit {0}
 
--- begin entries are numbered from n on, and each other one has a number of a begin entry before it
+-- begin entries are numbered from n on, and each question and each end has a number of a begin entry before it
 abbrev pub NumberedFrom : ℕ → List ScriptEntry → Type 0
 NumberedFrom n [] = Unit {0}
 NumberedFrom n (entry.Begin request name context ∷ es) = (request ≡ n) × NumberedFrom (n + 1) es
 NumberedFrom n (entry.Ask request name query ∷ es) = (request < n) × NumberedFrom n es
 NumberedFrom n (entry.End request name ∷ es) = (request < n) × NumberedFrom n es
+NumberedFrom n (entry.Publish number set ∷ es) = NumberedFrom n es
 
--- a request begins under a name that isn't open; a question and an end are of the request that is open under their name
+-- publish entries are numbered from n on
+abbrev pub PublishedFrom : ℕ → List ScriptEntry → Type 0
+PublishedFrom n [] = Unit {0}
+PublishedFrom n (entry.Begin request name context ∷ es) = PublishedFrom n es
+PublishedFrom n (entry.Ask request name query ∷ es) = PublishedFrom n es
+PublishedFrom n (entry.End request name ∷ es) = PublishedFrom n es
+PublishedFrom n (entry.Publish number set ∷ es) = (number ≡ n) × PublishedFrom (n + 1) es
+
+-- a request begins under a name that isn't open; a question and an end are of the request that is open under their name; a table set that
+-- is published has a name
 abbrev pub EntryFits : List ScriptEntry → ScriptEntry → Type 0
 EntryFits before (entry.Begin request name context) = IsFree before name × (request < MAX_REQUESTS)
 EntryFits before (entry.Ask request name query) = (asked : ℕ) × IsOpen before name request asked × (asked < MAX_ASKS)
 EntryFits before (entry.End request name) = (asked : ℕ) × IsOpen before name request asked
+EntryFits before (entry.Publish number set) = 0 < length set
 
 -- each of these entries, after those before it
 abbrev pub EntriesFit : List ScriptEntry → List ScriptEntry → Type 0
@@ -135,6 +151,7 @@ pub record IsScript (params : List Parameter) (script : Script) : Type 0 where
   pub few_entries : length script.entries ≤ MAX_LINES
   pub contexts : All (BeginFits params) script.entries
   pub numbered : NumberedFrom 0 script.entries
+  pub published : PublishedFrom 0 script.entries
   pub fit : EntriesFit [] script.entries
 
 -- the bytes are read as the script that they are, and refused for the fault that they have

@@ -2,8 +2,8 @@
 
 use ba_model::{Context, List, Str};
 
-/// What a line of a script says. Requests are numbered by their begin lines, from 0; at the line of an entry its request is open
-/// under the name, or begins.
+/// What a line of a script says. Requests are numbered by their begin lines, from 0; at the line of an entry that has a request this
+/// is open under the name, or begins.
 #[derive(Debug, Drop)]
 pub enum ScriptEntry {
     /// The request begins, with a value of its kind for each parameter of the policy.
@@ -22,6 +22,11 @@ pub enum ScriptEntry {
     End {
         request: u32,
         name: Str,
+    },
+    /// A table set is published. Publish lines are numbered from 0.
+    Publish {
+        number: u32,
+        set: Str,
     },
 }
 

@@ -1,4 +1,4 @@
-//! Scripts: the lines of a file that begin requests, ask and end them.
+//! Scripts: the lines of a file that begin requests, ask and end them, and publish table sets.
 #![tactic(auto)]
 
 mod context;

@@ -2,7 +2,7 @@
 ghost use Rattle.std.specs.Prelude.{◌≡◌, IfOk};
 ghost use Rattle.serde_json.specs.View.{view, members_view};
 ghost use Rattle.ba_model.specs.Readings.{Gives};
-ghost use Rattle.ba_script.specs.Script.{context_at, given_members, given_of, line_at, name_at, one_at, script_line_of, text_at, two_at};
+ghost use Rattle.ba_script.specs.Script.{context_at, given_members, given_of, line_at, name_at, one_at, script_line_of, set_at, text_at, two_at};
 
 use crate::fault::LineFault;
 use ba_model::{Failure, List, MAX_NAME_BYTES, Str};
@@ -35,6 +35,8 @@ pub enum ScriptLine {
     Ask { ask: Str, query: Str },
     /// `{"end":NAME}`
     End { end: Str },
+    /// `{"publish":SET}`: the name of a table set isn't empty, and may have any length.
+    Publish { publish: Str },
 }
 
 /// The line that bytes without their line feed are, else `Json` or `Shape`. Where an object has a key twice, its last value counts.
@@ -80,6 +82,10 @@ fn one_member(alloc: Global, key: &str, value: &Value) -> Result<ScriptLine, Fai
         let end = name_of(alloc, value)?;
         return Ok(ScriptLine::End { end });
     }
+    if key == "publish" {
+        let publish = set_of(alloc, value)?;
+        return Ok(ScriptLine::Publish { publish });
+    }
     Err(Failure::Fault(LineFault::Shape))
 }
 
@@ -121,6 +127,17 @@ fn name_of(alloc: Global, value: &Value) -> Result<Str, Failure<LineFault>>
 {
     let text = text_of(alloc, value)?;
     if text.is_empty() || text.len() > MAX_NAME_BYTES {
+        return Err(Failure::Fault(LineFault::Shape));
+    }
+    Ok(text)
+}
+
+#[tactic(auto, unfolding(crate::specs::Script::set_at))]
+fn set_of(alloc: Global, value: &Value) -> Result<Str, Failure<LineFault>>
+    ensures { Gives result (set_at (view value.now)) }
+{
+    let text = text_of(alloc, value)?;
+    if text.is_empty() {
         return Err(Failure::Fault(LineFault::Shape));
     }
     Ok(text)

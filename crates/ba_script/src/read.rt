@@ -1,6 +1,7 @@
 //! Reads a script.
-ghost use Rattle.std.specs.Prelude.{◌≡◌, [], IfOk};
+ghost use Rattle.std.specs.Prelude.{◌≡◌, ◌<◌, ◌≤◌, [], IfOk, length};
 ghost use Rattle.ba_model.specs.Readings.{Gives, widened};
+ghost use Rattle.ba_model.specs.declared.limits.TheConstants.{MAX_LINES as most_lines};
 ghost use Rattle.ba_script.specs.Lines.{script_lines};
 ghost use Rattle.ba_script.specs.Reading.{entries_from, script_of};
 ghost use Rattle.ba_script.specs.Script.{script_line_of};
@@ -34,6 +35,7 @@ fn entry_of(
     line: u64,
     it: ScriptLine,
 ) -> Result<ScriptEntry, Failure<ScriptFault>>
+    requires room { requests.old.published < most_lines }
     ensures gives { Gives result (kept_entry_of params.now requests.old line it) }
     ensures moves { IfOk result (λ entry. Moves entry requests.old requests.new) }
 {
@@ -43,6 +45,7 @@ fn entry_of(
         }
         ScriptLine::Ask { ask, query } => requests.ask(line, ask, query),
         ScriptLine::End { end } => requests.end(line, end),
+        ScriptLine::Publish { publish } => Ok(requests.publish(publish)),
     }
 }
 
@@ -53,6 +56,7 @@ fn entry_at(
     line: u64,
     bytes: &[u8],
 ) -> Result<ScriptEntry, Failure<ScriptFault>>
+    requires room { requests.old.published < most_lines }
     ensures gives { Gives result (kept_entry_at params.now requests.old line bytes.now) }
     ensures moves { IfOk result (λ entry. Moves entry requests.old requests.new) }
 {
@@ -65,6 +69,7 @@ fn entries_of(
     params: &[Parameter],
     lines: Lines<'_>,
 ) -> Result<List<ScriptEntry>, Failure<ScriptFault>>
+    requires few { length lines ≤ most_lines }
     ensures { Gives result (entries_from params.now [] lines.entry) }
 {
     let mut requests = Requests::new(alloc);

@@ -1,9 +1,10 @@
-//! The requests that are open between the lines of a script.
-ghost use Rattle.std.specs.Prelude.{◌≡◌, [], IfOk};
+//! What is kept between the lines of a script: the requests that are open, and the numbers of what is next.
+ghost use Rattle.std.specs.Prelude.{◌≡◌, ◌<◌, [], IfOk};
 ghost use Rattle.std.specs.BTreeMap.{get};
 ghost use Rattle.std.specs.Cmp.Lexicographic.{slice_cmp};
 ghost use Rattle.std.specs.Ordering.{nat_cmp};
 ghost use Rattle.ba_model.specs.Readings.{Gives};
+ghost use Rattle.ba_model.specs.declared.limits.TheConstants.{MAX_LINES as most_lines};
 ghost use Rattle.ba_script.specs.Contexts.{context_of};
 ghost use Rattle.ba_script.specs.Reading.{ask_of, begin_of, context_at, end_of};
 ghost use Rattle.ba_script.specs.Tracking.{Moves, Tracks, opened};
@@ -27,11 +28,12 @@ pub(crate) struct Opened {
     pub(crate) asks: u32,
 }
 
-/// The names that are open, and how many requests were begun.
+/// The names that are open, how many requests were begun, and how many table sets published.
 #[derive(Drop)]
 pub(crate) struct Requests {
     pub(crate) names: BTreeMap<Str, Opened>,
     pub(crate) begun: u32,
+    pub(crate) published: u32,
 }
 
 fn bad<T>(line: u64, reason: LineFault) -> Result<T, Failure<ScriptFault>>
@@ -69,6 +71,7 @@ impl Requests {
         Requests {
             names: BTreeMap::new(alloc),
             begun: 0,
+            published: 0,
         }
     }
 
@@ -143,5 +146,16 @@ impl Requests {
             }),
             None => bad(line, LineFault::Unbegun),
         }
+    }
+
+    /// The table set is published, whatever is open.
+    pub(crate) fn publish(&mut self, set: Str) -> ScriptEntry
+        requires room { self.old.published < most_lines }
+        ensures number { result ≡ ScriptEntry.Publish self.old.published set }
+        ensures moves { Moves result self.old self.new }
+    {
+        let number = self.published;
+        self.published += 1;
+        ScriptEntry::Publish { number, set }
     }
 }

@@ -7,7 +7,7 @@ use Rattle.serde_json.specs.Written.{has_float, items_have_float, members_have_f
 use Rattle.ba_model.specs.declared.value.Value.{Value}
 use Rattle.ba_model.specs.declared.value.Value.TheVariants as value
 use Rattle.ba_wire.specs.declared.line.Block.TheVariants as blocked
-use Rattle.ba_wire.specs.Printed.{Printed, begin, end, answer, block, unread, memory, word_member, unsupported_in, value_json, row_json, json_of}
+use Rattle.ba_wire.specs.Printed.{Printed, begin, end, publish, answer, block, unread, memory, word_member, unsupported_in, value_json, row_json, json_of}
 
 value_whole : (v : Value) → has_float (value_json v) ≡ false
 value_whole value.Null = refl
@@ -31,6 +31,7 @@ pub json_whole : (p : Printed) → has_float (json_of p) ≡ false
 unfolding json_of
 json_whole (begin request line version) = refl
 json_whole (end request line) = refl
+json_whole (publish line set version) = refl
 json_whole (answer by line request rows version) = rw (rows_whole rows) refl
 json_whole (block blocked.Refuted line request version) = refl
 json_whole (block (blocked.Spent steps) line request version) = refl
@@ -56,6 +57,7 @@ pub json_shallow : (p : Printed) → depth (json_of p) ≤ max_depth
 unfolding json_of
 json_shallow (begin request line version) = omega arith
 json_shallow (end request line) = omega arith
+json_shallow (publish line set version) = omega arith
 json_shallow (answer by line request rows version) = let flat = rows_flat rows in omega arith
 json_shallow (block blocked.Refuted line request version) = omega arith
 json_shallow (block (blocked.Spent steps) line request version) = omega arith

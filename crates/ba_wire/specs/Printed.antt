@@ -35,6 +35,8 @@ pub data Printed : Type 0 where
   begin : (request : List ℕ) (line version : ℕ) → Printed
   -- the request ends at this line
   end : (request : List ℕ) (line : ℕ) → Printed
+  -- the table set is published at this line, as this version of the tables
+  publish : (line : ℕ) (set : List ℕ) (version : ℕ) → Printed
   answer : By → (line : ℕ) (request : List ℕ) (rows : List (List Value)) (version : ℕ) → Printed
   block : Block → (line : ℕ) (request : List ℕ) (version : ℕ) → Printed
   unread : (line : ℕ) (request : List ℕ) → ReadQueryFault → (version : ℕ) → Printed
@@ -44,6 +46,7 @@ pub data Printed : Type 0 where
 abbrev pub printed : Line → Printed
 printed (lines.Begin request line version) = begin request.now line version
 printed (lines.End request line) = end request.now line
+printed (lines.Publish line set version) = publish line set.now version
 printed (lines.Answer by line request rows version) = answer by line request.now rows.now version
 printed (lines.Block blocked line request version) = block blocked line request.now version
 printed (lines.Unread line request fault version) = unread line request.now fault.now version
@@ -51,6 +54,7 @@ printed (lines.Memory line) = memory line
 
 abbrev pub by_name : By → List ℕ
 by_name by.Cover = codes "cover"
+by_name by.Template = codes "template"
 by_name by.Proof = codes "proof"
 
 abbrev pub block_name : Block → List ℕ
@@ -150,6 +154,10 @@ json_of (begin request line version) =
 json_of (end request line) =
     object (member (codes "end") (string request)
     (member (codes "line") (count line) no_members))
+json_of (publish line set version) =
+    object (member (codes "line") (count line)
+    (member (codes "publish") (string set)
+    (member (codes "version") (count version) no_members)))
 json_of (answer by line request rows version) =
     object (member (codes "by") (string (by_name by))
     (member (codes "line") (count line)

@@ -4,7 +4,7 @@
 ghost use Rattle.std.specs.Prelude.{◌≡◌, IfOk, option_copied, string_bytes};
 ghost use Rattle.serde_json.specs.View.{view};
 ghost use Rattle.ba_wire.specs.Object.{made};
-ghost use Rattle.ba_wire.specs.Printed.{ReadsBack, by_name, block_name, clause_name, unsupported_in, value_json, row_json, rows_json, begin, end, answer, block, unread, memory, printed, json_of, line_bytes};
+ghost use Rattle.ba_wire.specs.Printed.{ReadsBack, by_name, block_name, clause_name, unsupported_in, value_json, row_json, rows_json, begin, end, publish, answer, block, unread, memory, printed, json_of, line_bytes};
 
 use crate::names::fault_name;
 use crate::object::Object;
@@ -19,6 +19,8 @@ use std::alloc::{AllocError, Global};
 pub enum By {
     /// One view for each part of the question.
     Cover,
+    /// A template that was learned from a proof.
+    Template,
     /// A proof that the question is compliant.
     Proof,
 }
@@ -48,6 +50,12 @@ pub enum Line<'a> {
     End {
         end: &'a Str,
         line: u64,
+    },
+    /// The table set of this name is published, as the tables' version of this number.
+    Publish {
+        line: u64,
+        publish: &'a Str,
+        version: u32,
     },
     /// A question's answer: its rows, in order.
     Answer {
@@ -81,6 +89,7 @@ impl By {
     {
         match self {
             By::Cover => "cover",
+            By::Template => "template",
             By::Proof => "proof",
         }
     }
@@ -169,6 +178,15 @@ fn end_object(alloc: Global, request: &Str, line: u64) -> Result<Object, AllocEr
         .with_count("line", line)
 }
 
+fn publish_object(alloc: Global, line: u64, set: &Str, version: u32) -> Result<Object, AllocError>
+    ensures { IfOk result (λ it. made it ≡ json_of (publish line set.now version)) }
+{
+    Object::new(alloc)
+        .with_count("line", line)?
+        .with_text("publish", set.as_str())?
+        .with_count("version", version as u64)
+}
+
 fn answer_object(
     alloc: Global,
     by: By,
@@ -253,6 +271,11 @@ fn line_object(alloc: Global, line: &Line) -> Result<Object, AllocError>
             version,
         } => begin_object(alloc, begin, *line, *version),
         Line::End { end, line } => end_object(alloc, end, *line),
+        Line::Publish {
+            line,
+            publish,
+            version,
+        } => publish_object(alloc, *line, publish, *version),
         Line::Answer {
             by,
             line,

@@ -14,7 +14,7 @@ fn write_line(alloc: Global, line: &Line, told: &mut String) -> Told {
     told.push_str(text.as_str())
 }
 
-/// Begins, answers, blocks and ends.
+/// Begins, answers, blocks, ends and publishes.
 fn write_run(alloc: Global, name: &Str, rows: &List<Row>, told: &mut String) -> Told {
     let (line, version, begin, end, request) = (1, 0, name, name, name);
     let lines = [
@@ -37,6 +37,11 @@ fn write_run(alloc: Global, name: &Str, rows: &List<Row>, told: &mut String) -> 
             version: 1,
         },
         Line::End { end, line: 4 },
+        Line::Publish {
+            line: 5,
+            publish: name,
+            version: 4294967295,
+        },
         Line::Memory {
             line: 18446744073709551615,
         },
@@ -72,6 +77,7 @@ fn lines_of_a_run(rt: HostRuntime) -> Result<(), Fail> {
 {"by":"cover","line":2,"request":"a\"b","rows":[["\"\\/\b\f\n\r\t\u0000\u001fé😀"],[null],[-9223372036854775808]],"version":0}
 {"blocked":"refuted","line":3,"request":"a\"b","version":1}
 {"end":"a\"b","line":4}
+{"line":5,"publish":"a\"b","version":4294967295}
 {"line":18446744073709551615,"memory":true}
 "#;
     assert_eq!(rt; told.as_str(), want);
@@ -138,21 +144,30 @@ fn lines_of_blocks(rt: HostRuntime) -> Result<(), Fail> {
     Ok(())
 }
 
+fn write_answer(alloc: Global, by: By, request: &Str, told: &mut String) -> Told {
+    let rows = List::new(alloc);
+    let line = Line::Answer {
+        by,
+        line: 2,
+        request,
+        rows: &rows,
+        version: 1,
+    };
+    write_line(alloc, &line, told)
+}
+
+/// Each ground of an answer has its name.
 #[test]
-fn line_of_an_answer_by_proof(rt: HostRuntime) -> Result<(), Fail> {
+fn lines_of_answers(rt: HostRuntime) -> Result<(), Fail> {
     let alloc = rt.alloc();
     let request = Str::new(alloc, "r1")?;
-    let rows = List::new(alloc);
     let mut told = String::new(alloc);
-    let line = Line::Answer {
-        by: By::Proof,
-        line: 2,
-        request: &request,
-        rows: &rows,
-        version: 0,
-    };
-    write_line(alloc, &line, &mut told)?;
-    let want = "{\"by\":\"proof\",\"line\":2,\"request\":\"r1\",\"rows\":[],\"version\":0}\n";
+    for by in [By::Template, By::Proof] {
+        write_answer(alloc, by, &request, &mut told)?;
+    }
+    let want = r#"{"by":"template","line":2,"request":"r1","rows":[],"version":1}
+{"by":"proof","line":2,"request":"r1","rows":[],"version":1}
+"#;
     assert_eq!(rt; told.as_str(), want);
     Ok(())
 }

@@ -45,6 +45,7 @@ impl Reading for Lines {
             }
             Ok(ScriptLine::Ask { ask, query }) => write!(told, "ask {ask}: {query}"),
             Ok(ScriptLine::End { end }) => write!(told, "end {end}"),
+            Ok(ScriptLine::Publish { publish }) => write!(told, "publish {publish}"),
             Err(Failure::NoMemory) => Err(AllocError),
             Err(Failure::Fault(LineFault::Json)) => told.push_str("json"),
             Err(Failure::Fault(LineFault::Shape)) => told.push_str("shape"),
@@ -62,6 +63,15 @@ const LINES: &str = r#"{"begin":"r1","context":{"MyUId":2}} => begin r1 MyUId=2
 {"end":1,"end":"b"} => end b
 {"end":"[[64 x]]"} => end [[64 x]]
 {"end":"[[65 x]]"}
+{"publish":"t 1"} => publish t 1
+{"publish":"\u00e9","publish":"a/b"} => publish a/b
+{"publish":"[[65 x]]"} => publish [[65 x]]
+{"publish":""}
+{"publish":1}
+{"publish":["t1"]}
+{"publish":"t1","version":1}
+{"publish":"t1","context":{}}
+{"end":"r1","publish":"t1"}
 {"begin":"r","context":{"b":9223372036854775807,"a":-9223372036854775808}} => begin r a=-9223372036854775808 b=9223372036854775807
 {"begin":"r","context":{"a":9223372036854775808,"b":-9223372036854775809,"c":18446744073709551616}} => begin r a? b? c?
 {"begin":"r","context":{"a":9223372036854775808,"b":1e400000}} => json
@@ -112,6 +122,7 @@ fn write_entry(told: &mut String, entry: &ScriptEntry) -> Told {
             query,
         } => write!(told, "ask {request} {name} {query};"),
         ScriptEntry::End { request, name } => write!(told, "end {request} {name};"),
+        ScriptEntry::Publish { number, set } => write!(told, "publish {number} {set};"),
     }
 }
 
@@ -127,7 +138,7 @@ fn write_entries(told: &mut String, entries: &[ScriptEntry]) -> Told {
 }
 
 /// The script with lines for the letters that stand before a `.` at its front: B begins r1 and C r2,
-/// A and F ask in them, and E ends r1.
+/// A and F ask in them, and E ends r1. P publishes t1.
 fn with_lines(alloc: Global, text: &str) -> Result<String, AllocError> {
     let (letters, rest) = text.split_once('.').unwrap_or(("", text));
     let mut all = String::new(alloc);
@@ -144,6 +155,7 @@ fn line_of(letter: char) -> &'static str {
         'C' => "{\"begin\":\"r2\",\"context\":{\"MyUId\":2,\"Name\":\"ann\"}}\n",
         'A' => "{\"ask\":\"r1\",\"query\":\"q\"}\n",
         'F' => "{\"ask\":\"r2\",\"query\":\"q\"}\n",
+        'P' => "{\"publish\":\"t1\"}\n",
         _ => "{\"end\":\"r1\"}\n",
     }
 }
@@ -167,12 +179,18 @@ impl Reading for Scripts {
 const SCRIPTS: &str =
     r#"{"begin":"r1","context":{"MyUId":-9223372036854775808,"Name":"\u0061"}}^~{"context":{"Name":"bob","MyUId":1},"begin":"r2"}~{"ask":"r2","query":"SELECT 1"}~{"query":"","ask":"r1"}~{"end":"r1"}~{"ask":"r2","query":"x","query":"y"}~{"begin":"r1","context":{"Name":"c","MyUId":7,"MyUId":8}}~{"ask":"r1","query":"z"} => begin 0 r1 'a' -9223372036854775808;begin 1 r2 'bob' 1;ask 1 r2 SELECT 1;ask 0 r1 ;end 0 r1;ask 1 r2 y;begin 2 r1 'c' 8;ask 2 r1 z;
 BAEBA. => begin 0 r1 'ann' 2;ask 0 r1 q;end 0 r1;begin 1 r1 'ann' 2;ask 1 r1 q;
+PBPAEP.{"publish":"[[65 x]]"} => publish 0 t1;begin 0 r1 'ann' 2;publish 1 t1;ask 0 r1 q;end 0 r1;publish 2 t1;publish 3 [[65 x]];
 ."#;
 
 /// Each line has its fault before a later one.
 const FAULTS: &str = r#"{"begin":"r1","context":{"MyUId":2,"Name":"ann"} => line 1 json
 ~ => line 1 json
-{"publish":"t1"} => line 1 shape
+{"publish":""} => line 1 shape
+{"publish":2}~{ => line 1 shape
+{"publish":"t1","begin":"r1"} => line 1 shape
+PA. => line 2 unbegun
+BPC.{"ask":"t1","query":"q"} => line 4 unbegun
+BPB. => line 3 begun
 A. => line 1 unbegun
 {"begin":"r1","context":{}} => line 1 context
 {"begin":"r1","context":{"MyUId":2,"Name":"ann","X":1}} => line 1 context
@@ -204,6 +222,8 @@ BC[[256 AF]]F. => {"fault":"limit","limit":256,"status":7,"what":"asks"}~
 [[8192 BE]]. => 16384 entries
 [[8192 BE]]B. => {"fault":"limit","limit":8192,"status":7,"what":"requests"}~
 [[8192 BE]].{"begin":"r1","context":{}} => line 16385 context
+[[65536 P]]. => 65536 entries
+[[65536 P]].{ => {"fault":"limit","limit":65536,"status":7,"what":"lines"}~
 [[65536 ~]] => line 1 json
 [[65536 ~]]{ => {"fault":"limit","limit":65536,"status":7,"what":"lines"}~"#;
 

@@ -15,4 +15,5 @@ returns-clause-moves c =
     record {
       names = λ q. asked_once (opened old) name q before _ is ((written.3 (subst IsSome (sym is) refl)).0 q);
       count = refl;
+      sets = refl;
     }

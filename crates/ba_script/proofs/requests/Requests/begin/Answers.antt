@@ -9,4 +9,5 @@ returns-clause-moves c =
     record {
       names = λ q. begun_under c.in_ok-copy.field-0 c.args.name q (Some (record { request = old.begun; asks = 0 })) (opened old q) _ c.in_ok-copy.ensures (c.in_ok-insert.ensures.updates.0 q);
       count = refl;
+      sets = refl;
     }

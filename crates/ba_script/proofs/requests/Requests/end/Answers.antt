@@ -7,4 +7,5 @@ pub returns-in-Some-clause-moves : goal.returns-in-Some-clause-moves
 returns-in-Some-clause-moves c = record {
   names = λ q. chosen c.args.name q None (opened c.args.self.now q) _ (c.remove.ensures.updates.0 q);
   count = refl;
+  sets = refl;
 }
