@@ -1,9 +1,17 @@
 -- What follows for the judgement of a query, and for its reply.
-use Rattle.std.proofs.Common.{◌≡◌, refl, sym, subst, ℕ, ◌≤◌, List, [], ◌∷◌, ◌++◌, length}
-use Rattle.std.proofs.lemmas.List.Elements.{All-append, All-cons, All-contains_itself, All-head, All-nil, All-tail, All-weaker}
+use Rattle.std.proofs.Common.{◌≡◌, ◌∙◌, refl, sym, ap, subst, ℕ, suc, ◌+◌, ◌<◌, ◌≤◌, inl, inr, List, [], ◌∷◌, ◌++◌, length, take, drop, get_or, append-nil, add-one, drop-cons, Option, Some, None, Result, Ok, Err, IfOk, IfSome}
+use Rattle.std.proofs.lemmas.List.{take_all, take_more, take-append-drop}
+use Rattle.std.proofs.lemmas.List.Elements.{All-append, All-cons, All-contains_itself, All-head, All-nil, All-push, All-tail, All-weaker}
 use Rattle.std.specs.List.{All, Contains}
-use Rattle.ba_comply.specs.Comply.{AnswerEverywhere, Records}
+use Rattle.std.specs.Prelude.{MatchOption}
+use Rattle.ba_cache.specs.Passes.{CallsOn}
+use Rattle.ba_cache.specs.Rows.{IsSound, kept}
+use Rattle.ba_cache.specs.declared.call.Kept.{Kept}
+use Rattle.ba_cache.specs.declared.call.ShelfCall.{ShelfCall}
+use Rattle.ba_comply.specs.Comply.{AnswerEverywhere}
 use Rattle.ba_comply.specs.declared.trace.TraceEntry.{TraceEntry}
+use Rattle.ba_direct.specs.Cover.{AlwaysStrong, Covered, IsCover}
+use Rattle.ba_direct.specs.declared.covers.Cover.{Cover}
 use Rattle.ba_facts.specs.Shown.{Absurd}
 use Rattle.ba_facts.specs.declared.branch.Branch.{Branch}
 use Rattle.ba_instant.specs.Dues.{Ends, EndsProved, EndsSaturated, Searches}
@@ -19,9 +27,13 @@ use Rattle.ba_kernel.specs.Tests.{IsTidy, Proof, RunsAreTidy}
 use Rattle.ba_kernel.specs.declared.problem.Problem.{Problem}
 use Rattle.ba_kernel.specs.declared.step.Step.{Step}
 use Rattle.ba_kernel.specs.declared.step.Step.TheVariants as steps
+use Rattle.ba_match.specs.Matching.{IsFirstMatch, IsFound}
 use Rattle.ba_model.specs.Conform.{Conforms}
 use Rattle.ba_model.specs.Fit.{ContextFits, IsQuery, kinds_of}
 use Rattle.ba_model.specs.Meaning.{InAnswer, IsAnswer}
+use Rattle.ba_model.specs.Readings.{Fails}
+use Rattle.ba_model.specs.declared.failure.Failure.{Failure}
+use Rattle.ba_model.specs.declared.failure.Failure.TheVariants as failures
 use Rattle.ba_model.specs.declared.policy.Context.{Context}
 use Rattle.ba_model.specs.declared.policy.Policy.{Policy}
 use Rattle.ba_model.specs.declared.query.Query.{Query}
@@ -33,16 +45,24 @@ use Rattle.ba_refute.specs.declared.clause.Counterexample.{Counterexample}
 use Rattle.ba_refute.specs.declared.tried.Tried.{Tried}
 use Rattle.ba_refute.specs.declared.tried.Tried.TheVariants as tried
 use Rattle.ba_session.proofs.GivenLemmas.{IsFixedOn, all_given, facts_given, open_fixed}
-use Rattle.ba_session.specs.Asking.{IsAsker, IsReason, Uncovered, answer_in, question}
-use Rattle.ba_session.specs.Judging.{Decides, IsAllowed, IsLeft, IsTold, Judges, Stands}
+use Rattle.ba_session.specs.Asking.{HasFault, IsAsker, IsChecked, IsFirstToMatch, IsGround, IsKept, IsNoMatch, IsReason, IsReleased, NoneMatches, Reads, Replies, Uncovered, answer_in, look_at, question}
+use Rattle.ba_session.specs.Judging as judging
+use Rattle.ba_session.specs.Judging.{Answers, AnswersByProof, Decides, IsCompliant, IsLeft, IsServing, IsTold, Judges, Says, refusal_of}
+use Rattle.ba_session.proofs.PassLemmas.{makes_more, makes_none, makes_one}
+use Rattle.ba_session.specs.Passing.{LeavesVersions, Makes, ShelfCalls, on_shelf}
+use Rattle.ba_session.specs.declared.service.Passes.{Passes}
 use Rattle.ba_session.specs.declared.judge.Judgement.{Judgement}
-use Rattle.ba_session.specs.declared.judge.Judgement.TheVariants.{Allow}
-use Rattle.ba_session.specs.declared.reply.By.{By}
+use Rattle.ba_session.specs.declared.judge.Judgement.TheVariants.{Serve, Prove, Deny}
 use Rattle.ba_session.specs.declared.reply.By.TheVariants as by
 use Rattle.ba_session.specs.declared.reply.Reply.{Reply}
 use Rattle.ba_session.specs.declared.reply.Reply.TheVariants.{Answer, Blocked, Unread, NoMemory}
 use Rattle.ba_session.specs.declared.reply.Why.TheVariants as why
 use Rattle.ba_session.specs.declared.request.Request.{Request}
+use Rattle.ba_sql_query.specs.Texts.{query_of}
+use Rattle.ba_sql_query.specs.declared.fault.ReadQueryFault.{ReadQueryFault}
+use Rattle.ba_template.specs.Found.{MatchedIsStrong, Matches}
+use Rattle.ba_template.specs.Shapes.{shape_of, shard_of}
+use Rattle.ba_template.specs.declared.found.Match.{Match}
 
 -- ---- a branch that is saturated
 
@@ -104,23 +124,44 @@ module _ (policy : Policy) (asker : Request) (budget : ℕ) (query : Query) (pro
   pub left_at : (leaf : Leaf) → end ≡ settled.Saturated leaf → IsLeft (question policy asker query) leaf.branch
   left_at leaf e = left_of (question policy asker query) budget leaf (saturated_at leaf e)
 
-  pub proved_at : (proof : Proof) → end ≡ settled.Proved proof → Uncovered policy asker query → ProblemIsQuestion →
-      QuestionFits policy asker.context asker.trace query → (taken : List Step) → taken ≡ proof.steps → StrongAll proof.problem → IsAllowed policy asker budget query (by.Proof taken)
-  proved_at proof e uncovered law fits taken same strong =
+  pub proved_at : (proof : Proof) → end ≡ settled.Proved proof → ProblemIsQuestion → QuestionFits policy asker.context asker.trace query → StrongAll proof.problem →
+      judging.Searches policy asker budget query (Prove proof)
+  proved_at proof e law fits strong =
       let it : EndsProved First (question policy asker query) budget proof = subst (Ends First (question policy asker query) budget) e ends_at in
-      record {
-        ground = (
-          uncovered,
-          record {
-            problem_is = refl;
-            slots = it.slots;
-            searches = subst (λ z. Searches First (question policy asker query) z it.slots) (sym same) it.searches;
-            few = subst (λ z. length z ≤ budget) (sym same) it.few;
-            closed = it.closed;
-          },
-        );
-        strong = law policy asker.context asker.trace query fits.context (subst StrongAll it.problem_is strong);
-      }
+      (it, law policy asker.context asker.trace query fits.context (subst StrongAll it.problem_is strong))
+
+-- ---- templates
+
+-- the template that serves is sound
+served_strong : MatchedIsStrong → (policy : Policy) (asker : Request) (query : Query) (found : List Kept) (id : ℕ) (it : Match) → ContextFits (kinds_of policy.params) asker.context → All IsSound found →
+    IsFirstToMatch policy asker query found id it → IsCompliant policy asker query
+served_strong law policy asker query found id it fits sound first =
+    let all : All IsSound (first.before ++ kept id first.template ∷ first.after) = subst (All IsSound) first.found_is sound in
+    law first.template.problem policy asker.context asker.trace query it (sound_at first.before (kept id first.template) first.after all) fits first.first.is_match
+  where
+    sound_at : (before : List Kept) (it : Kept) (after : List Kept) → All IsSound (before ++ it ∷ after) → IsSound it
+    sound_at [] it after h = All-head IsSound it after h
+    sound_at (b ∷ before) it after h = sound_at before it after (All-tail IsSound b (before ++ it ∷ after) h)
+
+module _ (law : MatchedIsStrong) (policy : Policy) (asker : Request) (budget : ℕ) (query : Query) (fits : QuestionFits policy asker.context asker.trace query) (found : List Kept)
+    (sound : All IsSound found) (served : Option (ℕ × Match)) (serving : IsServing policy asker query found served) where
+  pub judged_served : (id : ℕ) (it : Match) → served ≡ Some (id, it) → Judges policy asker budget query found (Serve id it)
+  judged_served id it e =
+      let first : IsFirstToMatch policy asker query found id it = subst (IsServing policy asker query found) e serving in
+      (first, served_strong law policy asker query found id it fits.context sound first)
+
+  pub judged_search : (judgement : Judgement) → served ≡ None → judging.Searches policy asker budget query judgement → Judges policy asker budget query found judgement
+  judged_search (Serve id it) e h = absurd h
+  judged_search (Prove proof) e h = (subst (IsServing policy asker query found) e serving, h)
+  judged_search (Deny reason) e h = (subst (IsServing policy asker query found) e serving, h)
+
+  pub judged_result : {E : Type 0} → served ≡ None → (r : Result Judgement E) → IfOk r (judging.Searches policy asker budget query) → IfOk r (Judges policy asker budget query found)
+  judged_result e (Ok judgement) h = judged_search judgement e h
+  judged_result e (Err error) h = tt
+
+-- the same of equal templates and judgements
+pub judged_at : (policy : Policy) (asker : Request) (budget : ℕ) (query : Query) (seen found : List Kept) → seen ≡ found → (j it : Judgement) → j ≡ it → Judges policy asker budget query seen j → Judges policy asker budget query found it
+judged_at policy asker budget query seen found same j it is h = subst (Judges policy asker budget query found) is (subst (λ z. Judges policy asker budget query z j) same h)
 
 -- ---- a request and its tables
 
@@ -137,66 +178,263 @@ records_fit law policy c d conforms context (it ∷ trace) queries answers =
     (records_fit law policy c d conforms context trace (All-tail (λ entry. IsQuery policy.schema (kinds_of policy.params) [] entry.query) it trace queries)
     (All-tail (λ entry. IsAnswer entry.query c d entry.rows) it trace answers))
 
-pub question_fits : AnswersAreRecords → (policy : Policy) (tables : RowSet) (asker : Request) (query : Query) → Stands policy tables asker →
+pub question_fits : AnswersAreRecords → (policy : Policy) (asker : Request) (query : Query) → IsChecked policy → IsAsker policy asker →
     IsQuery policy.schema (kinds_of policy.params) [] query → QuestionFits policy asker.context asker.trace query
-question_fits law policy tables asker query stands asked = record {
-  tables = stands.schema_tables;
-  rules = stands.rules;
-  policy_fits = stands.policy_fits;
-  context = stands.is_asker.context;
-  trace_fits = records_fit law policy asker.context tables stands.conforms stands.is_asker.context asker.trace stands.is_asker.queries stands.is_asker.recorded.entries;
+question_fits law policy asker query checked is_asker asked = record {
+  tables = checked.tables;
+  rules = checked.rules;
+  policy_fits = checked.fits;
+  context = is_asker.context;
+  trace_fits = records_fit law policy asker.context asker.tables.rows is_asker.conforms is_asker.context asker.trace is_asker.queries is_asker.recorded.entries;
   asked = asked;
 }
 
-pub told : AnswerEverywhere → (policy : Policy) (tables : RowSet) (asker : Request) (budget : ℕ) (query : Query) (judgement : Judgement) (ground : By) (q : Query) (found rows : List (List Value)) →
-    Stands policy tables asker → Judges policy asker budget query judgement → judgement ≡ Allow ground → q ≡ query → IsAnswer q asker.context tables found → rows ≡ found →
-    IsTold policy tables asker budget query query rows ground
-told everywhere policy tables asker budget query judgement ground q found rows stands judges e same answer rows_are =
-    let allowed : IsAllowed policy asker budget query ground = subst (Judges policy asker budget query) e judges in
-    let given : IsAnswer query asker.context tables rows =
-    subst (λ z. IsAnswer z asker.context tables rows) same (subst (IsAnswer q asker.context tables) (sym rows_are) answer) in
+-- what is compliant, is released
+released : AnswerEverywhere → (policy : Policy) (asker : Request) (query : Query) (rows : List (List Value)) → IsAsker policy asker → IsCompliant policy asker query →
+    IsAnswer query asker.context asker.tables.rows rows → IsReleased policy asker query rows
+released law policy asker query rows is_asker strong answer = record {
+  answer = answer;
+  everywhere = λ d alike.
+      law policy asker.context asker.trace query asker.tables.rows d rows strong is_asker.conforms alike.conforms alike.agrees is_asker.recorded alike.records answer;
+}
+
+-- ---- replies
+
+-- a covered query is compliant
+pub covered_strong : (policy : Policy) (asker : Request) (query : Query) → QuestionFits policy asker.context asker.trace query → (seen_policy : Policy) (seen_query : Query) → seen_policy ≡ policy → seen_query ≡ query →
+    (found : Option Cover) (cover : Cover) → found ≡ Some cover → IfSome found (λ it. AlwaysStrong seen_policy asker.context seen_query) → IsCompliant policy asker query
+covered_strong policy asker query fits seen_policy seen_query same_policy same_query found cover e h =
+    let always : AlwaysStrong seen_policy asker.context seen_query = subst (λ z. IfSome z (λ it. AlwaysStrong seen_policy asker.context seen_query)) e h in
+    let here : AlwaysStrong policy asker.context query = subst (λ z. AlwaysStrong policy asker.context z) same_query (subst (λ z. AlwaysStrong z asker.context seen_query) same_policy always) in
+    here.after fits.policy_fits fits.context asker.trace
+
+module _ (policy : Policy) (asker : Request) (budget : ℕ) (query : Query) where
+  module _ (law : AnswerEverywhere) (is_asker : IsAsker policy asker) (strong : IsCompliant policy asker query) where
+    -- the rows of what was told
+    told_released : (other : Query) (rows : List (List Value)) → IsTold asker query other rows → IsReleased policy asker query rows
+    told_released other rows told = released law policy asker query rows is_asker strong told.answer
+
+    -- a covered query's answer
+    pub says_covered : (cover : Cover) → IsCover policy asker.context query cover → (reply : Reply) → Answers asker query (by.Cover cover) reply → (made : ShelfCalls) → made.calls ≡ [] →
+        Says policy asker budget query made reply
+    says_covered cover is (Answer other rows it) (told, same) made none =
+        (told.same, subst (λ z. IsGround policy asker budget query z made) (sym same) (is, none), told_released other rows told)
+    says_covered cover is (Blocked other reason) h made none = absurd h
+    says_covered cover is (Unread fault) h made none = absurd h
+    says_covered cover is NoMemory h made none = inl none
+
+    -- what is found of a cover, with the policy and the query by other names
+    pub says_cover : (seen_policy : Policy) (seen_query : Query) → seen_policy ≡ policy → seen_query ≡ query → (cover : Cover) (found : Option Cover) → found ≡ Some cover →
+        MatchOption found (Covered seen_policy asker.context seen_query → ⊥) (IsCover seen_policy asker.context seen_query) → (reply : Reply) → Answers asker query (by.Cover cover) reply →
+        (passes : Passes) → (made : ShelfCalls) × Says policy asker budget query made reply × Makes made passes passes
+    says_cover seen_policy seen_query same_policy same_query cover found e h reply answers passes =
+        let is : IsCover seen_policy asker.context seen_query cover =
+        subst (λ z. MatchOption z (Covered seen_policy asker.context seen_query → ⊥) (IsCover seen_policy asker.context seen_query)) e h in
+        let there : IsCover policy asker.context query cover = subst (λ z. IsCover policy asker.context z cover) same_query (subst (λ z. IsCover z asker.context seen_query cover) same_policy is) in
+        (on_shelf query [], says_covered cover there reply answers (on_shelf query []) refl, makes_none (on_shelf query []) passes passes refl refl)
+
+    module _ (found : List Kept) where
+      -- a query's answer by a template
+      pub decides_served : (shard id : ℕ) (it : Match) → IsFirstToMatch policy asker query found id it → shard ≡ shard_of (shape_of [] query) → (reply : Reply) → Answers asker query (by.Template shard id it) reply →
+          Decides policy asker budget query found [] reply
+      decides_served shard id it first shard_is (Answer other rows ground) (told, same) =
+          (told.same, subst (λ z. judging.IsGroundAfter policy asker budget query found z []) (sym same) (first, shard_is, refl), told_released other rows told)
+      decides_served shard id it first shard_is (Blocked other reason) h = absurd h
+      decides_served shard id it first shard_is (Unread fault) h = absurd h
+      decides_served shard id it first shard_is NoMemory h = refl
+
+      -- its answer by a proof
+      pub decides_proved : (proof : Proof) → NoneMatches policy asker query found → EndsProved First (question policy asker query) budget proof → (calls : List ShelfCall) (reply : Reply) →
+          AnswersByProof asker query proof calls reply → Decides policy asker budget query found calls reply
+      decides_proved proof none ends calls (Answer other rows (by.Cover cover)) (told, h) = absurd h
+      decides_proved proof none ends calls (Answer other rows (by.Template shard id it)) (told, h) = absurd h
+      decides_proved proof none ends calls (Answer other rows (by.Proof taken keeping)) (told, (same, kept_is)) = (
+        told.same,
+        (
+          none,
+          record {
+            problem_is = refl;
+            slots = ends.slots;
+            searches = subst (λ z. Searches First (question policy asker query) z ends.slots) (sym same) ends.searches;
+            few = subst (λ z. length z ≤ budget) (sym same) ends.few;
+            closed = ends.closed;
+          },
+          subst (λ (z : Proof). IsKept z keeping calls) (λ i. record { problem = ends.problem_is i; steps = sym same i }) kept_is,
+        ),
+        told_released other rows told,
+      )
+      decides_proved proof none ends calls (Blocked other reason) h = absurd h
+      decides_proved proof none ends calls (Unread fault) h = absurd h
+      decides_proved proof none ends calls NoMemory h = h
+
+  -- an answer by a proof
+  pub decides_answer : AnswerEverywhere → IsAsker policy asker → (found : List Kept) (proof : Proof) (reply : Reply) (old new : Passes) → Judges policy asker budget query found (Prove proof) →
+      ((calls : List ShelfCall) × AnswersByProof asker query proof calls reply × Makes (on_shelf query calls) old new) →
+      (calls : List ShelfCall) × Decides policy asker budget query found calls reply × Makes (on_shelf query calls) old new
+  decides_answer law is_asker found proof reply old new (none, (ends, strong)) (calls, answers, made) =
+      (calls, decides_proved law is_asker strong found proof none ends calls reply answers, made)
+
+  -- with the look before it
+  pub says_decided : Uncovered policy asker query → (found : List Kept) (calls : List ShelfCall) (reply : Reply) → Decides policy asker budget query found calls reply →
+      Says policy asker budget query (on_shelf query (look_at query found ∷ calls)) reply
+  says_decided uncovered found calls (Answer other rows (by.Cover cover)) (same, h, is_released) = absurd h
+  says_decided uncovered found calls (Answer other rows (by.Template shard id it)) (same, (first, shard_is, none), is_released) = (
+    same,
     record {
-      same = refl;
-      ground = allowed.ground;
-      released = record {
-        answer = given;
-        everywhere = λ d alike.
-            everywhere policy asker.context asker.trace query tables d rows allowed.strong stands.conforms alike.conforms alike.agrees
-            stands.is_asker.recorded alike.records given;
-      };
-    }
+      uncovered = uncovered;
+      found = found;
+      first = first;
+      shard_is = shard_is;
+      made_is = ap (λ z. on_shelf query (look_at query found ∷ z)) none;
+    },
+    is_released,
+  )
+  says_decided uncovered found calls (Answer other rows (by.Proof taken keeping)) (same, (none, proof, kept_is), is_released) = (
+    same,
+    record {
+      uncovered = uncovered;
+      found = found;
+      none = none;
+      proof = proof;
+      rest = calls;
+      kept_is = kept_is;
+      made_is = refl;
+    },
+    is_released,
+  )
+  says_decided uncovered found calls (Blocked other reason) (same, none, is_reason, no_calls) = (
+    same,
+    record {
+      uncovered = uncovered;
+      found = found;
+      none = none;
+      reason = is_reason;
+      made_is = ap (λ z. on_shelf query (look_at query found ∷ z)) no_calls;
+    },
+  )
+  says_decided uncovered found calls (Unread fault) h = absurd h
+  says_decided uncovered found calls NoMemory no_calls = inr (record {
+    uncovered = uncovered;
+    calls = look_at query found ∷ [];
+    look = inr (found, refl);
+    made_is = ap (λ z. on_shelf query (look_at query found ∷ z)) no_calls;
+  })
+
+  -- the same of what was decided, with the calls of the look
+  pub says_looked : Uncovered policy asker query → (found : List Kept) (reply : Reply) (old between new : Passes) → LeavesVersions old between →
+      CallsOn (shard_of (shape_of [] query)) old.cache between.cache (look_at query found) →
+      ((calls : List ShelfCall) × Decides policy asker budget query found calls reply × Makes (on_shelf query calls) between new) →
+      (made : ShelfCalls) × Says policy asker budget query made reply × Makes made old new
+  says_looked uncovered found reply old between new versions call (calls, decided, made) = (
+    on_shelf query (look_at query found ∷ calls),
+    says_decided uncovered found calls reply decided,
+    makes_more (shard_of (shape_of [] query)) (look_at query found ∷ []) calls old between new (makes_one (shard_of (shape_of [] query)) (look_at query found) old between versions call) made,
+  )
+
+  -- of a text that was read
+  replies_said : (text : List ℕ) → Reads policy text query → (made : ShelfCalls) (reply : Reply) → Says policy asker budget query made reply → Replies policy asker budget text made reply
+  replies_said text reads made (Answer other rows ground) (same, is_ground, is_released) =
+      subst (λ z. Replies policy asker budget text made (Answer z rows ground)) (sym same) (record { reads = reads; ground = is_ground; released = is_released })
+  replies_said text reads made (Blocked other reason) (same, denied) =
+      subst (λ z. Replies policy asker budget text made (Blocked z reason)) (sym same) (record { reads = reads; denied = denied })
+  replies_said text reads made (Unread fault) h = absurd h
+  replies_said text reads made NoMemory (inl none) = inl none
+  replies_said text reads made NoMemory (inr looked) = inr (query, reads, looked)
+
+  pub replies_made : (text : List ℕ) → Reads policy text query → (reply : Reply) (old new : Passes) → ((made : ShelfCalls) × Says policy asker budget query made reply × Makes made old new) →
+      (made : ShelfCalls) × Replies policy asker budget text made reply × Makes made old new
+  replies_made text reads reply old new (made, says, makes) = (made, replies_said text reads made reply says, makes)
+
+-- of a text that wasn't read
+pub refused_made : (seen policy : Policy) → seen ≡ policy → (asker : Request) (budget : ℕ) (text : List ℕ) (failure : Failure ReadQueryFault) (reply : Reply) → reply ≡ refusal_of failure →
+    Fails failure (query_of seen.schema seen.params text) → (passes : Passes) → (made : ShelfCalls) × Replies policy asker budget text made reply × Makes made passes passes
+refused_made seen policy same asker budget text failures.NoMemory reply is h passes = (
+  record { shard = 0; calls = [] },
+  subst (Replies policy asker budget text (record { shard = 0; calls = [] })) (sym is) (inl refl),
+  makes_none (record { shard = 0; calls = [] }) passes passes refl refl,
+)
+refused_made seen policy same asker budget text (failures.Fault fault) reply is h passes = (
+  record { shard = 0; calls = [] },
+  subst (Replies policy asker budget text (record { shard = 0; calls = [] })) (sym is) (subst (λ z. HasFault z text fault) same h, refl),
+  makes_none (record { shard = 0; calls = [] }) passes passes refl refl,
+)
+
+refused_adds : (failure : Failure ReadQueryFault) → answer_in (refusal_of failure) ≡ []
+refused_adds failures.NoMemory = refl
+refused_adds (failures.Fault fault) = refl
+
+pub refused_same : (failure : Failure ReadQueryFault) (reply : Reply) (asker : Request) → reply ≡ refusal_of failure → asker ≡ record asker { trace = asker.trace ++ answer_in reply }
+refused_same failure reply asker is = λ i. record asker { trace = sym (ap (λ z. asker.trace ++ answer_in z) is ∙ ap (λ z. asker.trace ++ z) (refused_adds failure) ∙ append-nil asker.trace) i }
 
 -- ---- the request after a reply
 
-module _ (policy : Policy) (tables : RowSet) (old new : Request) (is : IsAsker policy tables old) (same : new.context ≡ old.context) where
-  asks_more : (more : List TraceEntry) → new.trace ≡ old.trace ++ more → All (λ entry. IsQuery policy.schema (kinds_of policy.params) [] entry.query) more →
-      All (λ entry. IsAnswer entry.query old.context tables entry.rows) more → IsAsker policy tables new
-  asks_more more e queries answers = record {
-    context = subst (ContextFits (kinds_of policy.params)) (sym same) is.context;
-    queries = subst (All (λ entry. IsQuery policy.schema (kinds_of policy.params) [] entry.query)) (sym e)
-        (All-append (λ entry. IsQuery policy.schema (kinds_of policy.params) [] entry.query) old.trace more is.queries queries);
-    recorded = subst (λ z. Records z new.context tables) (sym e) (subst (λ z. Records (old.trace ++ more) z tables) (sym same)
-        (record { entries = All-append (λ entry. IsAnswer entry.query old.context tables entry.rows) old.trace more is.recorded.entries answers }));
+module _ (policy : Policy) (old : Request) (is : IsAsker policy old) where
+  abbrev HasQuery : TraceEntry → Type 0
+  HasQuery entry = IsQuery policy.schema (kinds_of policy.params) [] entry.query
+
+  asks_more : (more : List TraceEntry) → All HasQuery more → All (λ entry. IsAnswer entry.query old.context old.tables.rows entry.rows) more →
+      IsAsker policy (record old { trace = old.trace ++ more })
+  asks_more more queries answers = record {
+    context = is.context;
+    schema = is.schema;
+    conforms = is.conforms;
+    queries = All-append HasQuery old.trace more is.queries queries;
+    recorded = record { entries = All-append (λ entry. IsAnswer entry.query old.context old.tables.rows entry.rows) old.trace more is.recorded.entries answers };
   }
 
-  asks_same : new.trace ≡ old.trace ++ [] → IsAsker policy tables new
-  asks_same e = asks_more [] e (All-nil (λ entry. IsQuery policy.schema (kinds_of policy.params) [] entry.query)) (All-nil (λ entry. IsAnswer entry.query old.context tables entry.rows))
+  pub asks_same : IsAsker policy (record old { trace = old.trace ++ [] })
+  asks_same = asks_more [] (All-nil HasQuery) (All-nil (λ entry. IsAnswer entry.query old.context old.tables.rows entry.rows))
 
-  asks_at : (budget : ℕ) (query : Query) (reply : Reply) → IsQuery policy.schema (kinds_of policy.params) [] query →
-      Decides policy tables old budget query reply → new.trace ≡ old.trace ++ answer_in reply → IsAsker policy tables new
-  asks_at budget query (Answer other rows ground) asked h e =
-      asks_more (record { query = other; rows = rows } ∷ []) e
-      (All-cons (λ entry. IsQuery policy.schema (kinds_of policy.params) [] entry.query) (record { query = other; rows = rows }) [] (subst (IsQuery policy.schema (kinds_of policy.params) []) (sym h.same) asked)
-      (All-nil (λ entry. IsQuery policy.schema (kinds_of policy.params) [] entry.query)))
-      (All-cons (λ entry. IsAnswer entry.query old.context tables entry.rows) (record { query = other; rows = rows }) []
-      (subst (λ z. IsAnswer z old.context tables rows) (sym h.same) h.released.answer)
-      (All-nil (λ entry. IsAnswer entry.query old.context tables entry.rows)))
-  asks_at budget query (Blocked other reason) asked h e = asks_same e
-  asks_at budget query (Unread fault) asked h e = asks_same e
-  asks_at budget query NoMemory asked h e = asks_same e
+  asks_on : (budget : ℕ) (query : Query) (made : ShelfCalls) (reply : Reply) → IsQuery policy.schema (kinds_of policy.params) [] query → Says policy old budget query made reply →
+      IsAsker policy (record old { trace = old.trace ++ answer_in reply })
+  asks_on budget query made (Answer other rows ground) asked (same, is_ground, is_released) =
+      let entry : TraceEntry = record { query = other; rows = rows } in
+      asks_more (entry ∷ [])
+      (All-cons HasQuery entry [] (subst (IsQuery policy.schema (kinds_of policy.params) []) (sym same) asked) (All-nil HasQuery))
+      (All-cons (λ entry. IsAnswer entry.query old.context old.tables.rows entry.rows) entry []
+      (subst (λ z. IsAnswer z old.context old.tables.rows rows) (sym same) is_released.answer)
+      (All-nil (λ entry. IsAnswer entry.query old.context old.tables.rows entry.rows)))
+  asks_on budget query made (Blocked other reason) asked h = asks_same
+  asks_on budget query made (Unread fault) asked h = asks_same
+  asks_on budget query made NoMemory asked h = asks_same
 
-  pub asks_on : (budget : ℕ) (rows : RowSet) (p : Policy) (query : Query) (reply : Reply) → rows ≡ tables → p ≡ policy → IsQuery p.schema (kinds_of p.params) [] query →
-      Decides policy rows old budget query reply → new.trace ≡ old.trace ++ answer_in reply → IsAsker policy tables new
-  asks_on budget rows p query reply same_rows same_policy asked h e =
-      asks_at budget query reply (subst (λ z. IsQuery z.schema (kinds_of z.params) [] query) same_policy asked)
-      (subst (λ z. Decides policy z old budget query reply) same_rows h) e
+  pub asks_after : (budget : ℕ) (query : Query) (reply : Reply) (old_passes new_passes : Passes) (new : Request) → IsQuery policy.schema (kinds_of policy.params) [] query →
+      ((made : ShelfCalls) × Says policy old budget query made reply × Makes made old_passes new_passes) → new ≡ record old { trace = old.trace ++ answer_in reply } → IsAsker policy new
+  asks_after budget query reply old_passes new_passes new asked (made, says, makes) same = subst (IsAsker policy) (sym same) (asks_on budget query made reply asked says)
+
+-- ---- templates, one by one
+
+-- what is found of a template, which another name has too
+module _ (policy : Policy) (asker : Request) (query : Query) (seen t : Proof) (same : seen ≡ t) (found : Option Match) (is_found : IsFound seen.problem policy asker.context asker.trace query found) where
+  pub found_first : (it : Match) → found ≡ Some it → IsFirstMatch t.problem policy asker.context asker.trace query it
+  found_first it e =
+      subst (λ (z : Proof). IsFirstMatch z.problem policy asker.context asker.trace query it) same
+      (subst (IsFound seen.problem policy asker.context asker.trace query) e is_found)
+
+  pub found_none : found ≡ None → ¬ (Matches t.problem policy asker.context asker.trace query)
+  found_none e =
+      subst (λ (z : Proof). ¬ (Matches z.problem policy asker.context asker.trace query)) same
+      (subst (IsFound seen.problem policy asker.context asker.trace query) e is_found)
+
+split_at : (found : List Kept) (i : ℕ) (it : Kept) → i < length found → it ≡ get_or found i it → found ≡ take i found ++ it ∷ drop (i + 1) found
+split_at found i it below is =
+    sym (take-append-drop i found) ∙ ap (λ z. take i found ++ z) (drop-cons found i it below ∙ ap (λ z. z ∷ drop (suc i) found) (sym is) ∙ ap (λ z. it ∷ drop z found) (sym (add-one i)))
+
+module _ (policy : Policy) (asker : Request) (query : Query) (found : List Kept) (i : ℕ) (it : Kept) (below : i < length found) (is : it ≡ get_or found i it)
+    (none : NoneMatches policy asker query (take i found)) where
+  pub first_here : (m : Match) → IsFirstMatch it.template.problem policy asker.context asker.trace query m → IsFirstToMatch policy asker query found it.id m
+  first_here m first = record {
+    before = take i found;
+    template = it.template;
+    after = drop (i + 1) found;
+    found_is = split_at found i it below is;
+    none_before = none;
+    first = first;
+  }
+
+  pub none_here : IsNoMatch policy asker query it → NoneMatches policy asker query (take (i + 1) found)
+  none_here fails =
+      subst (NoneMatches policy asker query) (sym (take_more found i it below ∙ ap (λ z. take i found ++ z ∷ []) (sym is))) (All-push (IsNoMatch policy asker query) (take i found) it none fails)
+
+pub none_at_all : (policy : Policy) (asker : Request) (query : Query) (found : List Kept) (i : ℕ) → length found ≤ i → NoneMatches policy asker query (take i found) → NoneMatches policy asker query found
+none_at_all policy asker query found i past none = subst (NoneMatches policy asker query) (take_all i found past) none

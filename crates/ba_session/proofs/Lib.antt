@@ -1,2 +1,4 @@
 mod GivenLemmas
 mod JudgeLemmas
+mod KeepLemmas
+pub mod PassLemmas

@@ -1,17 +1,27 @@
 -- What a request is told, question after question.
-use Rattle.std.specs.Prelude.{◌≡◌, ℕ, List, [], ◌∷◌, All, ⊤, Err}
+use Rattle.std.specs.Prelude.{◌≡◌, ◌⊎◌, ℕ, List, [], ◌∷◌, ◌++◌, All, Result, Ok, Err}
+use Rattle.ba_cache.specs.Rows.{kept}
+use Rattle.ba_cache.specs.declared.call.Kept.{Kept}
+use Rattle.ba_cache.specs.declared.call.ShelfCall.{ShelfCall}
+use Rattle.ba_cache.specs.declared.call.ShelfCall.TheVariants.{Look, Admit, Refused}
 use Rattle.ba_comply.specs.Comply.{Agree, Records}
 use Rattle.ba_comply.specs.declared.trace.TraceEntry.{TraceEntry}
 use Rattle.ba_direct.specs.Cover.{Covered, IsCover}
+use Rattle.ba_general.specs.Generals.{IsGeneralised, IsTooWide}
 use Rattle.ba_instant.specs.Dues.{EndsProved, EndsSaturated, EndsSpent}
 use Rattle.ba_instant.specs.declared.ends.Leaf.{Leaf}
 use Rattle.ba_instant.specs.declared.order.Pick.TheVariants.{First}
+use Rattle.ba_kernel.specs.Courses.{RuleFits}
 use Rattle.ba_kernel.specs.Problems.{problem_of}
+use Rattle.ba_kernel.specs.Tests as kernel
 use Rattle.ba_kernel.specs.declared.problem.Problem.{Problem}
 use Rattle.ba_kernel.specs.declared.step.Step.{Step}
+use Rattle.ba_match.specs.Matching.{IsFirstMatch}
 use Rattle.ba_model.specs.Conform.{Conforms}
-use Rattle.ba_model.specs.Fit.{ContextFits, IsQuery, kinds_of}
+use Rattle.ba_model.specs.Fit.{ContextFits, IsQuery, PolicyFits, kinds_of}
 use Rattle.ba_model.specs.Meaning.{IsAnswer}
+use Rattle.ba_model.specs.SchemaFaults.{AreTables}
+use Rattle.ba_model.specs.declared.policy.Context.{Context}
 use Rattle.ba_model.specs.declared.policy.Policy.{Policy}
 use Rattle.ba_model.specs.declared.query.Query.{Query}
 use Rattle.ba_model.specs.declared.value.RowSet.{RowSet}
@@ -20,8 +30,11 @@ use Rattle.ba_refute.specs.Counterexamples.{IsCounterexample, IsFirstUnmet}
 use Rattle.ba_refute.specs.Images.{IsImage}
 use Rattle.ba_refute.specs.declared.clause.Clause.{Clause}
 use Rattle.ba_refute.specs.declared.clause.Counterexample.{Counterexample}
+use Rattle.ba_session.specs.Passing.{ShelfCalls, on_shelf}
 use Rattle.ba_session.specs.declared.reply.By.{By}
-use Rattle.ba_session.specs.declared.reply.By.TheVariants.{Cover, Proof}
+use Rattle.ba_session.specs.declared.reply.By.TheVariants.{Cover, Template, Proof}
+use Rattle.ba_session.specs.declared.reply.Keeping.{Keeping}
+use Rattle.ba_session.specs.declared.reply.Keeping.TheVariants as keeping
 use Rattle.ba_session.specs.declared.reply.Reply.{Reply}
 use Rattle.ba_session.specs.declared.reply.Reply.TheVariants.{Answer, Blocked, Unread, NoMemory}
 use Rattle.ba_session.specs.declared.reply.Why.{Why}
@@ -30,18 +43,43 @@ use Rattle.ba_session.specs.declared.request.Request.{Request}
 use Rattle.ba_sql_query.specs.Reads.{ReadsQuery}
 use Rattle.ba_sql_query.specs.Texts.{query_of}
 use Rattle.ba_sql_query.specs.declared.fault.ReadQueryFault.{ReadQueryFault}
+use Rattle.ba_template.specs.Found.{Matches}
+use Rattle.ba_template.specs.Shapes.{shape_of, shard_of}
+use Rattle.ba_template.specs.declared.found.Match.{Match}
+use Rattle.ba_versions.specs.declared.call.VersionCall.{VersionCall}
+use Rattle.ba_versions.specs.declared.call.VersionCall.TheVariants as version
+
+-- the policy, its schema and its rules were checked
+pub record IsChecked (policy : Policy) : Type 0 where
+  pub fits : PolicyFits policy
+  pub tables : AreTables policy.schema.tables
+  pub rules : All (RuleFits policy.schema) policy.schema.rules
+
+-- ---- beginning
+
+-- it has the context, and has asked nothing
+pub record IsBegun (context : Context) (asker : Request) : Type 0 where
+  pub context_is : asker.context ≡ context
+  pub trace_is : asker.trace ≡ []
+
+-- the call on the versions that the beginning of a request is
+abbrev pub begun : {E : Type 0} → Result Request E → VersionCall
+begun (Ok asker) = version.Pin asker.version (record { marker = record {}; value = asker.tables })
+begun (Err _) = version.Refused
+
+-- ---- answers
 
 -- The user can't tell the database from the request's tables: it meets the schema, gives every view the same rows, and each
 -- earlier answered query its printed rows.
-pub record LooksAlike (policy : Policy) (tables : RowSet) (asker : Request) (d : RowSet) : Type 0 where
+pub record LooksAlike (policy : Policy) (asker : Request) (d : RowSet) : Type 0 where
   pub conforms : Conforms policy.schema d
-  pub agrees : Agree policy asker.context tables d
+  pub agrees : Agree policy asker.context asker.tables.rows d
   pub records : Records asker.trace asker.context d
 
 -- The rows are the query's answer in the request's tables, and in every database that the user can't tell from them.
-pub record IsReleased (policy : Policy) (tables : RowSet) (asker : Request) (query : Query) (rows : List (List Value)) : Type 0 where
-  pub answer : IsAnswer query asker.context tables rows
-  pub everywhere : (d : RowSet) → LooksAlike policy tables asker d → IsAnswer query asker.context d rows
+pub record IsReleased (policy : Policy) (asker : Request) (query : Query) (rows : List (List Value)) : Type 0 where
+  pub answer : IsAnswer query asker.context asker.tables.rows rows
+  pub everywhere : (d : RowSet) → LooksAlike policy asker d → IsAnswer query asker.context d rows
 
 -- the problem of the request's question
 abbrev pub question : Policy → Request → Query → Problem
@@ -50,15 +88,71 @@ question policy asker query = problem_of policy asker.context asker.trace query
 abbrev pub Uncovered : Policy → Request → Query → Type 0
 Uncovered policy asker query = Covered policy asker.context query → ⊥
 
+-- ---- templates
+
+-- the call that looks at the question's shape and finds these
+abbrev pub look_at : Query → List Kept → ShelfCall
+look_at query found = Look (record { marker = record {}; value = shape_of [] query }) (record { marker = record {}; value = found })
+
+-- the template doesn't match the question
+abbrev pub IsNoMatch : Policy → Request → Query → Kept → Type 0
+IsNoMatch policy asker query it = ¬ (Matches it.template.problem policy asker.context asker.trace query)
+
+-- none of the templates matches the question
+abbrev pub NoneMatches : Policy → Request → Query → List Kept → Type 0
+NoneMatches policy asker query found = All (IsNoMatch policy asker query) found
+
+-- the template with this number is the first that matches the question, and this is its first match
+pub record IsFirstToMatch (policy : Policy) (asker : Request) (query : Query) (found : List Kept) (id : ℕ) (it : Match) : Type 0 where
+  pub before : List Kept
+  pub template : kernel.Proof
+  pub after : List Kept
+  pub found_is : found ≡ before ++ kept id template ∷ after
+  pub none_before : NoneMatches policy asker query before
+  pub first : IsFirstMatch template.problem policy asker.context asker.trace query it
+
+-- ---- proofs
+
 -- the steps are due ones, within the budget, and close the question's problem
 abbrev pub IsProof : Policy → Request → ℕ → Query → List Step → Type 0
 IsProof policy asker budget query steps =
     EndsProved First (question policy asker query) budget (record { problem = question policy asker query; steps = steps })
 
--- why the question is answered: a cover, or, where there is none, a proof
-abbrev pub IsGround : Policy → Request → ℕ → Query → By → Type 0
-IsGround policy asker budget query (Cover cover) = IsCover policy asker.context query cover
-IsGround policy asker budget query (Proof steps) = Uncovered policy asker query × IsProof policy asker budget query steps
+-- What becomes of a proof's template, and the calls on the shelf that this takes: it is admitted, with the shelf's answer; the proof is too wide for one; or there is
+-- no memory for it, which the shelf may have told.
+abbrev pub IsKept : kernel.Proof → Keeping → List ShelfCall → Type 0
+IsKept proof (keeping.Stored answer) calls =
+    (template : kernel.Proof) × IsGeneralised proof template × (calls ≡ Admit (record { marker = record {}; value = template }) answer ∷ [])
+IsKept proof keeping.Wide calls = IsTooWide proof × (calls ≡ [])
+IsKept proof keeping.NoMemory calls = (calls ≡ []) ⊎ (calls ≡ Refused ∷ [])
+
+-- ---- grounds
+
+-- It is the first of the templates found for the question's shape that matches it.
+pub record IsServed (policy : Policy) (asker : Request) (query : Query) (shard id : ℕ) (it : Match) (made : ShelfCalls) : Type 0 where
+  pub uncovered : Uncovered policy asker query
+  pub found : List Kept
+  pub first : IsFirstToMatch policy asker query found id it
+  pub shard_is : shard ≡ shard_of (shape_of [] query)
+  pub made_is : made ≡ on_shelf query (look_at query found ∷ [])
+
+-- None of the templates found for the question's shape matches it, the steps prove it, and its template is kept, or not.
+pub record IsProved (policy : Policy) (asker : Request) (budget : ℕ) (query : Query) (steps : List Step) (keeping : Keeping) (made : ShelfCalls) : Type 0 where
+  pub uncovered : Uncovered policy asker query
+  pub found : List Kept
+  pub none : NoneMatches policy asker query found
+  pub proof : IsProof policy asker budget query steps
+  pub rest : List ShelfCall
+  pub kept_is : IsKept (record { problem = question policy asker query; steps = steps }) keeping rest
+  pub made_is : made ≡ on_shelf query (look_at query found ∷ rest)
+
+-- why the question is answered, and the calls on shelves that this takes: a cover, which takes none, or, where there is none, a template or a proof
+abbrev pub IsGround : Policy → Request → ℕ → Query → By → ShelfCalls → Type 0
+IsGround policy asker budget query (Cover cover) made = IsCover policy asker.context query cover × (made.calls ≡ [])
+IsGround policy asker budget query (Template shard id it) made = IsServed policy asker query shard id it made
+IsGround policy asker budget query (Proof steps keeping) made = IsProved policy asker budget query steps keeping made
+
+-- ---- blocks
 
 -- the due steps, within the budget, end at a saturated branch, and the pair is its image, which is a counterexample
 pub record IsRefuted (policy : Policy) (asker : Request) (budget : ℕ) (query : Query) (pair : Counterexample) : Type 0 where
@@ -80,6 +174,16 @@ IsReason policy asker budget query (Refuted pair) = IsRefuted policy asker budge
 IsReason policy asker budget query (Spent steps) = EndsSpent First (question policy asker query) budget steps
 IsReason policy asker budget query (Stuck leaf clause) = IsStuck policy asker budget query leaf clause
 
+-- The question isn't covered, none of the templates found for its shape matches it, and it is blocked for this reason.
+pub record IsDenied (policy : Policy) (asker : Request) (budget : ℕ) (query : Query) (why : Why) (made : ShelfCalls) : Type 0 where
+  pub uncovered : Uncovered policy asker query
+  pub found : List Kept
+  pub none : NoneMatches policy asker query found
+  pub reason : IsReason policy asker budget query why
+  pub made_is : made ≡ on_shelf query (look_at query found ∷ [])
+
+-- ---- replies
+
 -- the text reads as the query, for the policy's schema and parameters
 abbrev pub Reads : Policy → List ℕ → Query → Type 0
 Reads policy text query = ReadsQuery policy.schema policy.params text query
@@ -89,23 +193,37 @@ abbrev pub HasFault : Policy → List ℕ → ReadQueryFault → Type 0
 HasFault policy text fault = query_of policy.schema policy.params text ≡ Err fault
 
 -- the text's query is answered by these rows, for this reason
-pub record IsAnswered (policy : Policy) (tables : RowSet) (asker : Request) (budget : ℕ) (text : List ℕ) (query : Query) (rows : List (List Value)) (by : By) : Type 0 where
+pub record IsAnswered (policy : Policy) (asker : Request) (budget : ℕ) (text : List ℕ) (query : Query) (rows : List (List Value)) (by : By) (made : ShelfCalls) : Type 0 where
   pub reads : Reads policy text query
-  pub ground : IsGround policy asker budget query by
-  pub released : IsReleased policy tables asker query rows
+  pub ground : IsGround policy asker budget query by made
+  pub released : IsReleased policy asker query rows
 
--- the text's query isn't covered, and is blocked for this reason
-pub record IsBlocked (policy : Policy) (asker : Request) (budget : ℕ) (text : List ℕ) (query : Query) (why : Why) : Type 0 where
+-- the text's query is blocked for this reason
+pub record IsBlocked (policy : Policy) (asker : Request) (budget : ℕ) (text : List ℕ) (query : Query) (why : Why) (made : ShelfCalls) : Type 0 where
   pub reads : Reads policy text query
+  pub denied : IsDenied policy asker budget query why made
+
+-- a look at the question's shape was refused, or found these
+abbrev pub IsLook : Query → List ShelfCall → Type 0
+IsLook query calls = (calls ≡ Refused ∷ []) ⊎ ((found : List Kept) × (calls ≡ look_at query found ∷ []))
+
+-- memory ran out behind one look at the question's shape, which isn't covered
+pub record HasLooked (policy : Policy) (asker : Request) (query : Query) (made : ShelfCalls) : Type 0 where
   pub uncovered : Uncovered policy asker query
-  pub reason : IsReason policy asker budget query why
+  pub calls : List ShelfCall
+  pub look : IsLook query calls
+  pub made_is : made ≡ on_shelf query calls
 
--- A question's reply, as the request stands. Want of memory may stand in place of any other.
-abbrev pub Replies : Policy → RowSet → Request → ℕ → List ℕ → Reply → Type 0
-Replies policy tables asker budget text (Answer query rows by) = IsAnswered policy tables asker budget text query rows by
-Replies policy tables asker budget text (Blocked query why) = IsBlocked policy asker budget text query why
-Replies policy tables asker budget text (Unread fault) = HasFault policy text fault
-Replies policy tables asker budget text NoMemory = ⊤
+-- where memory ran out: before any call, or behind a look
+abbrev pub IsInterrupted : Policy → Request → List ℕ → ShelfCalls → Type 0
+IsInterrupted policy asker text made = (made.calls ≡ []) ⊎ ((query : Query) × Reads policy text query × HasLooked policy asker query made)
+
+-- A question's reply, as the request stands, and the calls on shelves that this takes. Want of memory may stand in place of any other reply.
+abbrev pub Replies : Policy → Request → ℕ → List ℕ → ShelfCalls → Reply → Type 0
+Replies policy asker budget text made (Answer query rows by) = IsAnswered policy asker budget text query rows by made
+Replies policy asker budget text made (Blocked query why) = IsBlocked policy asker budget text query why made
+Replies policy asker budget text made (Unread fault) = HasFault policy text fault × (made.calls ≡ [])
+Replies policy asker budget text made NoMemory = IsInterrupted policy asker text made
 
 -- what the reply adds to the trace
 abbrev pub answer_in : Reply → List TraceEntry
@@ -114,8 +232,11 @@ answer_in (Blocked query why) = []
 answer_in (Unread fault) = []
 answer_in NoMemory = []
 
--- The request's context is one for the policy, its queries were checked, and their answers in the request's tables are recorded.
-pub record IsAsker (policy : Policy) (tables : RowSet) (asker : Request) : Type 0 where
+-- The request's context is one for the policy, its tables are of the policy's schema and conform to it, its queries were checked, and their answers in the tables are
+-- recorded.
+pub record IsAsker (policy : Policy) (asker : Request) : Type 0 where
   pub context : ContextFits (kinds_of policy.params) asker.context
+  pub schema : asker.tables.schema ≡ policy.schema
+  pub conforms : Conforms policy.schema asker.tables.rows
   pub queries : All (λ entry. IsQuery policy.schema (kinds_of policy.params) [] entry.query) asker.trace
-  pub recorded : Records asker.trace asker.context tables
+  pub recorded : Records asker.trace asker.context asker.tables.rows

@@ -1,2 +1,3 @@
+pub mod Passing
 pub mod Asking
 pub mod Judging

@@ -1,53 +1,88 @@
-//! Whether a request's query may be answered.
-ghost use Rattle.std.specs.Prelude.{◌≤◌, ℕ, IfOk};
-ghost use Rattle.ba_direct.specs.Cover.{Covered};
+//! Whether a request's query may be answered, where no views cover it.
+ghost use Rattle.std.specs.Prelude.{◌≤◌, ℕ, All, IfOk};
+ghost use Rattle.ba_cache.specs.Rows.{IsSound};
 ghost use Rattle.ba_instant.specs.Dues.{EndsSaturated};
 ghost use Rattle.ba_instant.specs.declared.order.Pick.TheVariants.{First};
 ghost use Rattle.ba_kernel.specs.Asked.{QuestionFits};
 ghost use Rattle.ba_model.specs.declared.limits.TheConstants.{MAX_BUDGET};
 ghost use Rattle.ba_refute.specs.Images.{TellsTried};
-ghost use Rattle.ba_session.specs.Asking.{IsReason, Uncovered, question};
-ghost use Rattle.ba_session.specs.Judging.{IsLeft, Judges};
+ghost use Rattle.ba_session.specs.Asking.{IsReason, question};
+ghost use Rattle.ba_session.specs.Judging.{IsLeft, IsServing, Judges, Searches};
 
-use crate::reply::{By, Why};
+use crate::reply::Why;
 use crate::request::Request;
-use ba_direct::cover;
+use ba_cache::Kept;
 use ba_facts::Branch;
 use ba_instant::{Leaf, Settled, settle};
-use ba_kernel::Problem;
 use ba_kernel::laws::{problem_is_question, question_is_problem, runs_are_tidy};
+use ba_kernel::{Problem, Proved};
+use ba_match::match_template;
 use ba_model::{Policy, Query, Shared};
 use ba_refute::{Tried, try_branch};
+use ba_template::Match;
+use ba_template::laws::matched_is_strong;
 use std::alloc::{AllocError, Global};
 
 /// Whether a query may be answered, with the evidence.
 #[derive(Drop)]
 pub(crate) enum Judgement {
-    Allow(By),
-    Block(Why),
+    /// The template with this number matches it.
+    Serve(u32, Match),
+    Prove(Proved),
+    Deny(Why),
 }
 
 impl Request {
-    /// Whether the query may be answered: where it is covered, or else proved.
+    /// Whether the query may be answered: by the first of the templates that matches it, or else by a
+    /// proof.
     pub(crate) fn judge(
         &self,
         alloc: Global,
         policy: &Shared<Policy>,
         budget: u32,
+        found: &[Kept],
         query: &Shared<Query>,
     ) -> Result<Judgement, AllocError>
         requires fits { QuestionFits policy.now self.now.context self.now.trace query.now }
         requires limit { budget ≤ MAX_BUDGET }
-        ensures { IfOk result (Judges policy.now self.now budget query.now) }
+        requires sound { All IsSound found.now }
+        ensures { IfOk result (Judges policy.now self.now budget query.now found.now) }
     {
-        let found = cover(alloc, policy, &self.context, query)?;
-        match found {
-            Some(cover) => Ok(Judgement::Allow(By::Cover(cover))),
+        matched_is_strong();
+        let served = self.serving(alloc, policy, found, query)?;
+        match served {
+            Some((id, it)) => Ok(Judgement::Serve(id, it)),
             None => self.search(alloc, policy, budget, query),
         }
     }
 
-    /// Whether the query, which isn't covered, is proved by the budget's due steps.
+    /// The first of the templates that matches the query, with its number.
+    fn serving(
+        &self,
+        alloc: Global,
+        policy: &Shared<Policy>,
+        found: &[Kept],
+        query: &Query,
+    ) -> Result<Option<(u32, Match)>, AllocError>
+        ensures { IfOk result (IsServing policy.now self.now query.now found.now) }
+    {
+        for kept in found {
+            let matched = match_template(
+                alloc,
+                &kept.template,
+                policy,
+                &self.context,
+                &self.trace,
+                query,
+            )?;
+            if let Some(it) = matched {
+                return Ok(Some((kept.id, it)));
+            }
+        }
+        Ok(None)
+    }
+
+    /// Whether the query is proved by the budget's due steps.
     fn search(
         &self,
         alloc: Global,
@@ -57,19 +92,21 @@ impl Request {
     ) -> Result<Judgement, AllocError>
         requires fits { QuestionFits policy.now self.now.context self.now.trace query.now }
         requires limit { budget ≤ MAX_BUDGET }
-        requires uncovered { Uncovered policy.now self.now query.now }
-        ensures { IfOk result (Judges policy.now self.now budget query.now) }
+        ensures { IfOk result (Searches policy.now self.now budget query.now) }
     {
         problem_is_question();
         let problem = Problem::of(alloc, policy, &self.context, &self.trace, query)?;
         let settled = settle(alloc, problem, budget)?;
         match settled {
-            Settled::Proved(proved) => Ok(Judgement::Allow(By::Proof(proved.into_steps()))),
+            Settled::Proved(proved) => {
+                let _strong = proved.problem();
+                Ok(Judgement::Prove(proved))
+            }
             Settled::Saturated(leaf) => {
                 let why = self.reason_of(alloc, policy, query, leaf)?;
-                Ok(Judgement::Block(why))
+                Ok(Judgement::Deny(why))
             }
-            Settled::Spent(steps) => Ok(Judgement::Block(Why::Spent(steps))),
+            Settled::Spent(steps) => Ok(Judgement::Deny(Why::Spent(steps))),
         }
     }
 

@@ -1,23 +1,40 @@
 //! What becomes of a question.
 
+use ba_cache::Admit;
 use ba_direct::Cover;
 use ba_instant::Leaf;
 use ba_kernel::Step;
 use ba_model::{List, Query, Row, Shared};
 use ba_refute::{Clause, Counterexample};
 use ba_sql_query::ReadQueryFault;
+use ba_template::Match;
+
+/// What became of the template of a proof.
+#[derive(Clone, Copy, Debug, Drop, PartialEq, Eq)]
+pub enum Keeping {
+    /// The shelf of the question's shard answered so.
+    Stored(Admit),
+    /// The proof is too wide for a template.
+    Wide,
+    /// There was no memory to make it or to keep it.
+    NoMemory,
+}
 
 /// Why a question is answered: the evidence.
 #[derive(Drop)]
 pub enum By {
     /// Views cover the question: one for each part, with a pairing of the tables.
     Cover(Cover),
-    /// No views cover it, and these are the due steps, at most as many as the budget, that leave no
-    /// branch of its problem open.
-    Proof(List<Step>),
+    /// No views cover it, and of the templates that the shelf of its shard gave for its shape the one
+    /// with this number is the first that matches: this is its first match.
+    Template { shard: u32, id: u32, found: Match },
+    /// No views cover it, none of the templates that were given matches, and these are the due steps,
+    /// at most as many as the budget, that leave no branch of its problem open.
+    Proof(List<Step>, Keeping),
 }
 
-/// Why a question, which no views cover, is blocked: the evidence.
+/// Why a question is blocked, which no views cover and no template that was given matches: the
+/// evidence.
 #[derive(Drop)]
 pub enum Why {
     /// The due steps end at a saturated branch, and its image is this: two databases and a row that

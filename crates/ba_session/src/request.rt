@@ -1,158 +1,348 @@
 //! Requests.
-ghost use Rattle.std.specs.Prelude.{◌≡◌, ◌++◌, ◌≤◌, [], All, IfOk, OnErr, OnOk};
-ghost use Rattle.ba_kernel.specs.Courses.{RuleFits};
-ghost use Rattle.ba_model.specs.Fit.{IsQuery, PolicyFits, kinds_of};
+ghost use Rattle.std.specs.Prelude.{◌≡◌, ◌++◌, ◌∷◌, ◌<◌, ◌≤◌, [], All, IfOk, List, OnErr};
+ghost use Rattle.ba_cache.specs.Rows.{IsSound};
+ghost use Rattle.ba_cache.specs.declared.call.ShelfCall.{ShelfCall};
+ghost use Rattle.ba_general.specs.Generals.{IsOfQuestion};
+ghost use Rattle.ba_kernel.specs.Asked.{QuestionFits};
+ghost use Rattle.ba_model.specs.Fit.{ContextFits, IsQuery, kinds_of};
+ghost use Rattle.ba_model.specs.Meaning.{IsAnswer};
 ghost use Rattle.ba_model.specs.Readings.{Gives};
-ghost use Rattle.ba_model.specs.SchemaFaults.{AreTables};
 ghost use Rattle.ba_model.specs.declared.limits.TheConstants.{MAX_BUDGET};
-ghost use Rattle.ba_session.specs.Asking.{IsAsker, Reads, Replies, answer_in};
-ghost use Rattle.ba_session.specs.Judging.{Decides, Stands};
+ghost use Rattle.ba_session.specs.Asking.{IsAsker, IsBegun, IsChecked, Reads, Replies, Uncovered, answer_in, begun};
+ghost use Rattle.ba_session.specs.Judging.{Answers, AnswersByProof, Decides, Says, refusal_of};
+ghost use Rattle.ba_session.specs.Passing.{AreOf, HasRoom, LeavesShelves, Makes, ShelfCalls, on_shelf};
 ghost use Rattle.ba_sql_query.specs.Texts.{query_of};
+ghost use Rattle.ba_template.specs.Shapes.{shape_of, shard_of};
+ghost use Rattle.ba_turn.specs.Passes.{MakesCall, known_by};
 
 use crate::judge::Judgement;
-use crate::reply::Reply;
+use crate::keep::keep;
+use crate::reply::{By, Reply};
+use crate::service::{Passes, Service};
+use ba_cache::Found;
 use ba_comply::laws::answer_everywhere;
 use ba_comply::{Trace, TraceEntry};
+use ba_direct::cover;
 use ba_eval::answer_indexed;
-use ba_index::Indexed;
+use ba_kernel::Proved;
 use ba_kernel::laws::answers_are_records;
-use ba_model::{Context, Duplicate, Failure, Policy, Query, Shared};
+use ba_model::{Context, Duplicate, Failure, List, Policy, Query, Row, Shared};
 use ba_sql_query::{ReadQueryFault, read_query};
 use ba_tables::Tables;
+use ba_template::Shape;
+use ba_versions::pin;
 use std::alloc::{AllocError, Global};
+use std::sync::Wait;
 
-/// A request of a user: who asks, and what was answered so far.
+/// A request of a user: who asks, over which tables, and what was answered so far.
 #[derive(Drop)]
 pub struct Request {
     /// The values of the policy's parameters. No question changes them.
     pub context: Context,
+    /// The number of the tables' version that it sees, whatever is published later.
+    pub version: u32,
+    /// The tables of this version.
+    pub tables: Shared<Tables>,
     /// The answered questions with their rows, in the order in which they were asked.
     pub trace: Trace,
 }
 
+/// A question that no views cover, and what the look at its shape found.
+#[derive(Drop)]
+struct Looked {
+    query: Shared<Query>,
+    shard: u32,
+    found: Found,
+}
+
 impl Request {
-    /// A request that has asked nothing. It allocates nothing.
-    pub fn begin(alloc: Global, context: Context) -> Request
-        ensures { result ≡ record { context = context; trace = [] } }
+    /// A request that has asked nothing, over the last version of the tables, which it pins. It waits
+    /// for its turn, and costs one call of the allowance on the versions; a pin that is refused for want
+    /// of memory is told there as such, and there is no request.
+    ///
+    /// The context is one of the policy.
+    pub fn begin<R: Wait>(
+        rt: &R,
+        alloc: Global,
+        service: &Service,
+        passes: &mut Passes,
+        context: Context,
+    ) -> Result<Request, AllocError>
+        requires context { ContextFits (kinds_of service.now.policy.params) context }
+        requires of { AreOf service.now passes.old }
+        requires left { 0 < (known_by passes.old.versions).left }
+        ensures of { AreOf service.now passes.new }
+        ensures made { MakesCall (known_by passes.old.versions) (known_by passes.new.versions) (begun result) }
+        ensures others { LeavesShelves passes.old passes.new }
+        ensures begun { IfOk result (IsBegun context) }
+        ensures asker { IfOk result (IsAsker service.now.policy) }
     {
-        Request {
+        let (version, tables) = pin(rt, &service.versions, &mut passes.versions)?;
+        Ok(Request {
             context,
+            version,
+            tables,
             trace: Trace::new(alloc),
-        }
+        })
     }
 
-    /// What becomes of a question of the request, over these tables.
+    /// What becomes of a question of the request.
     ///
-    /// A question is answered where single views cover it, or else where due steps, at most as many
-    /// as the budget, prove that it is strongly compliant after the request's trace; its answer joins
-    /// the trace. Else it is blocked, with a reason that can be checked ([`crate::Why`]). A text that
-    /// is no query is told by its first fault. Want of memory is a reply of its own. Only an answer
-    /// changes the trace, and nothing changes the context.
+    /// A question is answered where single views cover it, or else by the first template that matches
+    /// of those that a look at its shape gives, or else where due steps, at most as many as the budget,
+    /// prove that it is strongly compliant after the request's trace: the template of such a proof is
+    /// admitted for others. Its answer joins the trace. Else it is blocked, with a reason that can be
+    /// checked ([`crate::Why`]). A text that is no query is told by its first fault. Want of memory is a
+    /// reply of its own, and of a proof's template it is told beside the answer. Only an answer changes
+    /// the trace, and nothing changes the rest of the request. It waits for its turns on the shelf of
+    /// the question's shard, for at most a look and an admit.
     ///
-    /// The policy and the tables are checked ones of one schema, and the budget is at most
-    /// [`ba_model::MAX_BUDGET`] steps. The request has a context of the policy, and was told nothing
-    /// but answers over these tables: so it stands after `begin`, and after each `ask`.
-    pub fn ask(
+    /// The policy and its schema are checked ones, and the budget is at most [`ba_model::MAX_BUDGET`]
+    /// steps. The request stands as `begin` and `ask` leave it, for a service of the same policy.
+    pub fn ask<R: Wait>(
         &mut self,
+        rt: &R,
         alloc: Global,
-        policy: &Shared<Policy>,
-        tables: &Tables,
+        service: &Service,
+        passes: &mut Passes,
         budget: u32,
         text: &str,
     ) -> Reply
-        requires policy { PolicyFits policy.now }
-        requires tables_are { AreTables policy.now.schema.tables }
-        requires rules { All (RuleFits policy.now.schema) policy.now.schema.rules }
-        requires schema { tables.now.schema ≡ policy.now.schema }
+        requires policy { IsChecked service.now.policy }
+        requires asker { IsAsker service.now.policy self.old }
         requires limit { budget ≤ MAX_BUDGET }
-        requires asker { IsAsker policy.now tables.now.rows self.old }
-        ensures replies { Replies policy.now tables.now.rows self.old budget text.now result }
-        ensures context { self.new.context ≡ self.old.context }
-        ensures trace { self.new.trace ≡ self.old.trace ++ answer_in result }
-        ensures asker { IsAsker policy.now tables.now.rows self.new }
-    {
-        match read(alloc, policy, text) {
-            Ok(query) => match self.reply_to(alloc, policy, tables.indexed(), budget, query) {
-                Ok(reply) => reply,
-                Err(_) => Reply::NoMemory,
-            },
-            Err(Failure::Fault(fault)) => Reply::Unread(fault),
-            Err(Failure::NoMemory) => Reply::NoMemory,
-        }
-    }
-
-    /// The reply to the query. Its answer joins the trace.
-    fn reply_to(
-        &mut self,
-        alloc: Global,
-        policy: &Shared<Policy>,
-        rows: &Indexed,
-        budget: u32,
-        query: Query,
-    ) -> Result<Reply, AllocError>
-        requires stands { Stands policy.now rows.now self.old }
-        requires limit { budget ≤ MAX_BUDGET }
-        requires asked { IsQuery policy.now.schema (kinds_of policy.now.params) [] query }
-        ensures decides { IfOk result (Decides policy.now rows.now self.old budget query) }
-        ensures context { self.new.context ≡ self.old.context }
-        ensures trace { IfOk result (λ reply. self.new.trace ≡ self.old.trace ++ answer_in reply) }
-        ensures error { OnErr result (self.new.trace ≡ self.old.trace) }
-    {
-        let query = Shared::new(alloc, query)?;
-        let reply = self.decide(alloc, policy, rows, budget, query)?;
-        self.record(alloc, &reply)?;
-        Ok(reply)
-    }
-
-    /// The reply to the query, before it is recorded.
-    fn decide(
-        &self,
-        alloc: Global,
-        policy: &Shared<Policy>,
-        rows: &Indexed,
-        budget: u32,
-        query: Shared<Query>,
-    ) -> Result<Reply, AllocError>
-        requires stands { Stands policy.now rows.now self.now }
-        requires limit { budget ≤ MAX_BUDGET }
-        requires asked { IsQuery policy.now.schema (kinds_of policy.now.params) [] query }
-        ensures { IfOk result (Decides policy.now rows.now self.now budget query) }
+        requires of { AreOf service.now passes.old }
+        requires room { HasRoom 2 passes.old }
+        ensures of { AreOf service.now passes.new }
+        ensures replies { (made : ShelfCalls)
+            × Replies service.now.policy self.old budget text.now made result
+            × Makes made passes.old passes.new }
+        ensures request { self.new ≡ record self.old { trace = self.old.trace ++ answer_in result } }
+        ensures asker { IsAsker service.now.policy self.new }
     {
         answers_are_records();
-        answer_everywhere();
-        let judgement = self.judge(alloc, policy, budget, &query)?;
-        match judgement {
-            Judgement::Allow(by) => {
-                let found = answer_indexed(alloc, rows, &self.context, &query)?;
-                let rows = Shared::new(alloc, found)?;
-                Ok(Reply::Answer { query, rows, by })
-            }
-            Judgement::Block(why) => Ok(Reply::Blocked { query, why }),
+        match read(alloc, &service.policy, text) {
+            Ok(query) => self.reply_to(rt, alloc, service, passes, budget, query),
+            Err(failure) => refusal(failure),
         }
     }
 
-    /// Adds the reply's rows to the trace, in common with the reply, if it is an answer.
-    fn record(&mut self, alloc: Global, reply: &Reply) -> Result<(), AllocError>
-        ensures context { self.new.context ≡ self.old.context }
-        ensures ok { OnOk result (self.new.trace ≡ self.old.trace ++ answer_in reply.now) }
-        ensures error { OnErr result (self.new.trace ≡ self.old.trace) }
+    /// What it was told.
+    pub fn end(self) -> Trace
+        ensures { result ≡ self.trace }
     {
-        match reply {
-            Reply::Answer { query, rows, .. } => {
-                let query = query.copy(alloc)?;
-                let rows = rows.copy(alloc)?;
-                self.trace.push(TraceEntry { query, rows })
-            }
-            Reply::Blocked { .. } | Reply::Unread(_) | Reply::NoMemory => Ok(()),
+        self.trace
+    }
+
+    /// The reply to the query: its answer where it is covered, else what a look at its shape leads to.
+    fn reply_to<R: Wait>(
+        &mut self,
+        rt: &R,
+        alloc: Global,
+        service: &Service,
+        passes: &mut Passes,
+        budget: u32,
+        query: Shared<Query>,
+    ) -> Reply
+        requires fits { QuestionFits service.now.policy self.old.context self.old.trace query }
+        requires asker { IsAsker service.now.policy self.old }
+        requires limit { budget ≤ MAX_BUDGET }
+        requires of { AreOf service.now passes.old }
+        requires room { HasRoom 2 passes.old }
+        ensures of { AreOf service.now passes.new }
+        ensures says { (made : ShelfCalls)
+            × Says service.now.policy self.old budget query made result
+            × Makes made passes.old passes.new }
+        ensures request { self.new ≡ record self.old { trace = self.old.trace ++ answer_in result } }
+    {
+        answer_everywhere();
+        match cover(alloc, &service.policy, &self.context, &query) {
+            Ok(Some(cover)) => self.answer(alloc, query, By::Cover(cover)),
+            Ok(None) => self.look(rt, alloc, service, passes, budget, query),
+            Err(_) => Reply::NoMemory,
         }
+    }
+
+    /// The reply to the query, which isn't covered: a look at its shape goes before it.
+    fn look<R: Wait>(
+        &mut self,
+        rt: &R,
+        alloc: Global,
+        service: &Service,
+        passes: &mut Passes,
+        budget: u32,
+        query: Shared<Query>,
+    ) -> Reply
+        requires fits { QuestionFits service.now.policy self.old.context self.old.trace query }
+        requires asker { IsAsker service.now.policy self.old }
+        requires limit { budget ≤ MAX_BUDGET }
+        requires uncovered { Uncovered service.now.policy self.old query }
+        requires of { AreOf service.now passes.old }
+        requires room { HasRoom 2 passes.old }
+        ensures of { AreOf service.now passes.new }
+        ensures says { (made : ShelfCalls)
+            × Says service.now.policy self.old budget query made result
+            × Makes made passes.old passes.new }
+        ensures request { self.new ≡ record self.old { trace = self.old.trace ++ answer_in result } }
+    {
+        let Ok(shape) = Shape::of(alloc, &[], &query) else {
+            return Reply::NoMemory;
+        };
+        match service.cache.look(rt, &mut passes.cache, &shape) {
+            Ok(found) => {
+                let shard = shape.shard();
+                let looked = Looked {
+                    query,
+                    shard,
+                    found,
+                };
+                self.decide(rt, alloc, service, passes, budget, looked)
+            }
+            Err(_) => Reply::NoMemory,
+        }
+    }
+
+    /// The reply to the query after the look: its answer by the first template that matches, or else by
+    /// a proof, or a block.
+    fn decide<R: Wait>(
+        &mut self,
+        rt: &R,
+        alloc: Global,
+        service: &Service,
+        passes: &mut Passes,
+        budget: u32,
+        looked: Looked,
+    ) -> Reply
+        requires fits { QuestionFits service.now.policy self.old.context self.old.trace looked.query }
+        requires asker { IsAsker service.now.policy self.old }
+        requires limit { budget ≤ MAX_BUDGET }
+        requires shard { looked.shard ≡ shard_of (shape_of [] looked.query) }
+        requires sound { All IsSound looked.found.templates }
+        requires of { AreOf service.now passes.old }
+        requires room { HasRoom 1 passes.old }
+        ensures of { AreOf service.now passes.new }
+        ensures decides { (calls : List ShelfCall)
+            × Decides service.now.policy self.old budget looked.query looked.found.templates calls result
+            × Makes (on_shelf looked.query calls) passes.old passes.new }
+        ensures request { self.new ≡ record self.old { trace = self.old.trace ++ answer_in result } }
+    {
+        answer_everywhere();
+        let Looked {
+            query,
+            shard,
+            found,
+        } = looked;
+        match self.judge(
+            alloc,
+            &service.policy,
+            budget,
+            found.templates.as_slice(),
+            &query,
+        ) {
+            Ok(Judgement::Serve(id, found)) => {
+                self.answer(alloc, query, By::Template { shard, id, found })
+            }
+            Ok(Judgement::Prove(proved)) => {
+                self.answer_by_proof(rt, alloc, service, passes, query, proved)
+            }
+            Ok(Judgement::Deny(why)) => Reply::Blocked { query, why },
+            Err(_) => Reply::NoMemory,
+        }
+    }
+
+    /// The query's answer by this proof, whose template is then made and admitted.
+    fn answer_by_proof<R: Wait>(
+        &mut self,
+        rt: &R,
+        alloc: Global,
+        service: &Service,
+        passes: &mut Passes,
+        query: Shared<Query>,
+        proved: Proved,
+    ) -> Reply
+        requires question { IsOfQuestion proved.problem }
+        requires goal { proved.problem.goal ≡ query }
+        requires of { AreOf service.now passes.old }
+        requires room { HasRoom 1 passes.old }
+        ensures of { AreOf service.now passes.new }
+        ensures answers { (calls : List ShelfCall)
+            × AnswersByProof self.old query proved calls result
+            × Makes (on_shelf query calls) passes.old passes.new }
+        ensures request { self.new ≡ record self.old { trace = self.old.trace ++ answer_in result } }
+    {
+        match self.record(alloc, &query) {
+            Ok(rows) => {
+                let keeping = keep(rt, alloc, service, passes, &proved);
+                let by = By::Proof(proved.into_steps(), keeping);
+                Reply::Answer { query, rows, by }
+            }
+            Err(_) => Reply::NoMemory,
+        }
+    }
+
+    /// The query's answer for this reason.
+    fn answer(&mut self, alloc: Global, query: Shared<Query>, by: By) -> Reply
+        ensures answers { Answers self.old query by result }
+        ensures request { self.new ≡ record self.old { trace = self.old.trace ++ answer_in result } }
+    {
+        match self.record(alloc, &query) {
+            Ok(rows) => Reply::Answer { query, rows, by },
+            Err(_) => Reply::NoMemory,
+        }
+    }
+
+    /// The query's rows, which join the trace, in common with it. After an error, which is want of
+    /// memory, the request is as before.
+    fn record(
+        &mut self,
+        alloc: Global,
+        query: &Shared<Query>,
+    ) -> Result<Shared<List<Row>>, AllocError>
+        ensures answer { IfOk result (IsAnswer query.now self.old.context self.old.tables.rows) }
+        ensures ok { IfOk result (λ rows. self.new
+            ≡ record self.old { trace = self.old.trace ++ record { query = query.now; rows = rows } ∷ [] }) }
+        ensures err { OnErr result (self.new ≡ self.old) }
+    {
+        let found = answer_indexed(alloc, self.tables.indexed(), &self.context, query)?;
+        let rows = Shared::new(alloc, found)?;
+        let entry = entry_of(alloc, query, &rows)?;
+        self.trace.push(entry)?;
+        Ok(rows)
+    }
+}
+
+fn entry_of(
+    alloc: Global,
+    query: &Shared<Query>,
+    rows: &Shared<List<Row>>,
+) -> Result<TraceEntry, AllocError>
+    ensures { IfOk result (λ it. it ≡ record { query = query.now; rows = rows.now }) }
+{
+    let query = query.copy(alloc)?;
+    let rows = rows.copy(alloc)?;
+    Ok(TraceEntry { query, rows })
+}
+
+/// The reply to a text that wasn't read.
+fn refusal(failure: Failure<ReadQueryFault>) -> Reply
+    ensures { result ≡ refusal_of failure }
+{
+    match failure {
+        Failure::Fault(fault) => Reply::Unread(fault),
+        Failure::NoMemory => Reply::NoMemory,
     }
 }
 
 /// The text's query.
-fn read(alloc: Global, policy: &Policy, text: &str) -> Result<Query, Failure<ReadQueryFault>>
+fn read(
+    alloc: Global,
+    policy: &Policy,
+    text: &str,
+) -> Result<Shared<Query>, Failure<ReadQueryFault>>
     ensures exact { Gives result (query_of policy.now.schema policy.now.params text.now) }
     ensures reads { IfOk result (Reads policy.now text.now) }
     ensures query { IfOk result (IsQuery policy.now.schema (kinds_of policy.now.params) []) }
 {
-    read_query(alloc, &policy.schema, &policy.params, text)
+    let query = read_query(alloc, &policy.schema, &policy.params, text)?;
+    Ok(Shared::new(alloc, query)?)
 }

@@ -1,14 +1,16 @@
 -- How the input is read, stage by stage.
-use Rattle.std.proofs.Common.{◌≡◌, ◌∙◌, ◌<◌, ◌≤◌, ◌+◌, [], ◌∷◌, ◌++◌, inr, refl, sym, ap, subst, ℕ, suc, List, Result, Ok, Err, length, drop, take, get_or, add-one, drop-cons}
+use Rattle.std.proofs.Common.{◌≡◌, ◌∙◌, ◌<◌, ◌≤◌, ◌+◌, [], ◌∷◌, ◌++◌, inr, refl, sym, ap, subst, ℕ, suc, List, Result, Ok, Err, length, drop, take, get_or, add-one, drop-cons, Option, Some, None, length-append, arith}
 use Rattle.std.proofs.lemmas.List.{take_more}
-use Rattle.std.proofs.lemmas.List.Elements.{All-nil}
+use Rattle.std.proofs.lemmas.List.Elements.{All-append, All-cons, All-nil}
 use Rattle.std.specs.List.{All, AllZip}
+use Rattle.std.specs.Option.{option_to_list}
+use Rattle.std.specs.Prelude.{IfSome}
 use Rattle.ba_kernel.specs.Courses.{RuleFits}
 use Rattle.ba_proof.specs.Checked.{IsPolicy}
 use Rattle.ba_proof.specs.declared.proof.Proof.{Proof}
 use Rattle.ba_model.specs.SchemaFaults.{AreTables}
 use Rattle.ba_model.specs.declared.schema.Rule.{Rule}
-use Rattle.ba_model.specs.Conform.{Conforms, RowFits}
+use Rattle.ba_model.specs.Conform.{RowFits}
 use Rattle.ba_model.specs.Fit.{PolicyFits}
 use Rattle.ba_model.specs.Readings.{widened}
 use Rattle.ba_model.specs.declared.policy.Policy.{Policy}
@@ -17,18 +19,24 @@ use Rattle.ba_model.specs.declared.schema.Table.{Table}
 use Rattle.ba_model.specs.declared.value.Value.{Value}
 use Rattle.ba_model.specs.declared.limits.TheConstants.{MAX_BUDGET, MAX_FILE_BYTES}
 use Rattle.ba_outside.specs.Seen.{FilesSeen}
-use Rattle.ba_plan.proofs.Plans.{found_ok, then_err, then_ok}
+use Rattle.ba_plan.proofs.Plans.{found_ok, memory_now, then_err, then_ok}
 use Rattle.ba_plan.specs.Follows.{Follows, Gives, Got}
 use Rattle.ba_plan.specs.Plan.{done, found}
 use Rattle.ba_plan.specs.declared.stop.Stop.{Stop}
+use Rattle.ba_plan.specs.declared.stop.Stop.TheVariants.{NoMemory}
 use Rattle.ba_policy.specs.Reading.{policy_of}
+use Rattle.ba_script.proofs.TrackingLemmas.{published-push}
+use Rattle.ba_script.specs.Reading.{published, published_by}
 use Rattle.ba_script.specs.Scripts.{IsScript}
 use Rattle.ba_script.specs.declared.entry.Script.{Script}
+use Rattle.ba_script.specs.declared.entry.ScriptEntry.{ScriptEntry}
+use Rattle.ba_script.specs.declared.entry.ScriptEntry.TheVariants as said
 use Rattle.ba_sql_ddl.specs.Reading.{schema_of}
 use Rattle.ba_tables.specs.Broken.{checked}
 use Rattle.ba_tables.specs.TableSet.{TableSet}
 use Rattle.ba_top.specs.Legal.{IsInput, RowsOfTables}
-use Rattle.ba_top.specs.Reading.{Names, ProofNames, check_plan, policy_and_proof_plan, policy_plan, proof_plan, proof_reading_of, reading_of, rest_plan, rows_plan, run_plan, script_plan, table_plan, tables_plan}
+use Rattle.ba_top.specs.Published.{IsSetOf}
+use Rattle.ba_top.specs.Reading.{Names, ProofNames, check_plan, policy_and_proof_plan, policy_plan, proof_plan, proof_reading_of, published_plan, reading_of, rest_plan, rows_plan, run_plan, script_plan, set_plan, sets_plan, table_plan, tables_plan}
 use Rattle.ba_top.specs.Refusals.{broken_refusal, ddl_refusal, policy_refusal}
 use Rattle.ba_top.specs.declared.report.Input.{Input}
 use Rattle.ba_top.specs.declared.report.Refusal.{Refusal}
@@ -38,13 +46,16 @@ no_rule : (s : Schema) (rules : List Rule) → rules ≡ [] → All (RuleFits s)
 no_rule s rules none = subst (All (RuleFits s)) (sym none) (All-nil (RuleFits s))
 
 -- what was read belongs together
-pub input_fits : (policy : Policy) (tables : TableSet) (script : Script) (budget : ℕ) → PolicyFits policy → tables.schema ≡ policy.schema → Conforms tables.schema tables.rows → IsScript policy.params script → budget ≤ MAX_BUDGET
-    → AreTables policy.schema.tables → policy.schema.rules ≡ [] → IsInput (record { policy = policy; tables = tables; script = script; budget = budget })
-input_fits policy tables script budget fits same conform is few tables_are none = record {
+pub input_fits : (policy : Policy) (tables : TableSet) (script : Script) (sets : List TableSet) (budget : ℕ) → PolicyFits policy → IsSetOf policy.schema tables → IsScript policy.params script
+    → All (IsSetOf policy.schema) sets → length sets ≡ published script.entries → budget ≤ MAX_BUDGET → AreTables policy.schema.tables → policy.schema.rules ≡ []
+    → IsInput (record { policy = policy; tables = tables; script = script; published = sets; budget = budget })
+input_fits policy tables script sets budget fits set is all count few tables_are none = record {
   policy = fits;
-  schema = same;
-  conform = subst (λ s. Conforms s tables.rows) same conform;
+  schema = set.schema_is;
+  conform = set.conform;
   script = is;
+  sets = all;
+  one_each = count;
   budget = few;
   tables_are = tables_are;
   rules = no_rule policy.schema policy.schema.rules none;
@@ -85,6 +96,77 @@ tables_ok set schema lists s t r rows is =
 pub tables_err : (set : List ℕ) (schema : Schema) (s t : FilesSeen) (e : Stop Refusal) → Follows (rows_plan set schema.tables []) s t (Err e) → Follows (tables_plan set schema) s t (Err e)
 tables_err set schema s t e rows =
     then_err (rows_plan set schema.tables []) (λ z. found (widened (broken_refusal set schema) (checked schema (record { tables = z })))) s t e rows
+
+-- ---- the table sets that a script publishes
+
+-- the line publishes a set
+pub set_ok : (name set : List ℕ) (number : ℕ) (schema : Schema) (entry : ScriptEntry) (tables : TableSet) (s t : FilesSeen) → entry ≡ said.Publish number set → name ≡ set → Follows (tables_plan name schema) s t (Ok tables)
+    → Follows (set_plan schema entry) s t (Ok (Some tables))
+set_ok name set number schema entry tables s t is same follows =
+    subst (λ z. Follows (set_plan schema z) s t (Ok (Some tables))) (sym is)
+    (then_ok (tables_plan set schema) (λ z. done (Some z)) s t t tables (Ok (Some tables)) (subst (λ z. Follows (tables_plan z schema) s t (Ok tables)) same follows) (refl, refl))
+
+pub set_err : (name set : List ℕ) (number : ℕ) (schema : Schema) (entry : ScriptEntry) (s t : FilesSeen) (e : Stop Refusal) → entry ≡ said.Publish number set → name ≡ set → Follows (tables_plan name schema) s t (Err e)
+    → Follows (set_plan schema entry) s t (Err e)
+set_err name set number schema entry s t e is same follows =
+    subst (λ z. Follows (set_plan schema z) s t (Err e)) (sym is)
+    (then_err (tables_plan set schema) (λ z. done (Some z)) s t e (subst (λ z. Follows (tables_plan z schema) s t (Err e)) same follows))
+
+-- the next line's, and then those behind it
+pub sets_step : (schema : Schema) (entries : List ScriptEntry) (sets more : List TableSet) (i : ℕ) (entry : ScriptEntry) (set : Option TableSet) (s m t : FilesSeen) (r : Result (List TableSet) (Stop Refusal)) → i < length entries → entry ≡ get_or entries i entry → Follows (set_plan schema entry) s m (Ok set)
+    → more ≡ sets ++ option_to_list set → Follows (sets_plan schema (drop (i + 1) entries) more) m t r → Follows (sets_plan schema (drop i entries) sets) s t r
+sets_step schema entries sets more i entry set s m t r below is one kept rest =
+    subst (λ z. Follows (sets_plan schema z sets) s t r) (sym (drop-cons entries i entry below ∙ ap (λ z. z ∷ drop (suc i) entries) (sym is)))
+    (then_ok (set_plan schema entry) (λ z. sets_plan schema (drop (suc i) entries) (sets ++ option_to_list z)) s m t set r one
+    (subst (λ z. Follows (sets_plan schema (drop z entries) (sets ++ option_to_list set)) m t r) (add-one i) (subst (λ z. Follows (sets_plan schema (drop (i + 1) entries) z) m t r) kept rest)))
+
+-- the next line's set can't be read
+pub sets_err : (schema : Schema) (entries : List ScriptEntry) (sets : List TableSet) (i : ℕ) (entry : ScriptEntry) (s t : FilesSeen) (e : Stop Refusal) → i < length entries → entry ≡ get_or entries i entry → Follows (set_plan schema entry) s t (Err e)
+    → Follows (sets_plan schema (drop i entries) sets) s t (Err e)
+sets_err schema entries sets i entry s t e below is one =
+    subst (λ z. Follows (sets_plan schema z sets) s t (Err e)) (sym (drop-cons entries i entry below ∙ ap (λ z. z ∷ drop (suc i) entries) (sym is)))
+    (then_err (set_plan schema entry) (λ z. sets_plan schema (drop (suc i) entries) (sets ++ option_to_list z)) s t e one)
+
+-- there is no memory to keep it
+pub sets_memory : (schema : Schema) (entries : List ScriptEntry) (sets : List TableSet) (i : ℕ) (entry : ScriptEntry) (set : Option TableSet) (s t : FilesSeen) → i < length entries → entry ≡ get_or entries i entry → Follows (set_plan schema entry) s t (Ok set)
+    → Follows (sets_plan schema (drop i entries) sets) s t (Err NoMemory)
+sets_memory schema entries sets i entry set s t below is one =
+    subst (λ z. Follows (sets_plan schema z sets) s t (Err NoMemory)) (sym (drop-cons entries i entry below ∙ ap (λ z. z ∷ drop (suc i) entries) (sym is)))
+    (then_ok (set_plan schema entry) (λ z. sets_plan schema (drop (suc i) entries) (sets ++ option_to_list z)) s t t set (Err NoMemory) one
+    (memory_now (sets_plan schema (drop (suc i) entries) (sets ++ option_to_list set)) t))
+
+found_fits : (schema : Schema) (set : Option TableSet) → IfSome set (IsSetOf schema) → All (IsSetOf schema) (option_to_list set)
+found_fits schema None h = All-nil (IsSetOf schema)
+found_fits schema (Some tables) h = All-cons (IsSetOf schema) tables [] h (All-nil (IsSetOf schema))
+
+pub sets_fit : (schema : Schema) (sets more : List TableSet) (set : Option TableSet) → All (IsSetOf schema) sets → IfSome set (IsSetOf schema) → more ≡ sets ++ option_to_list set → All (IsSetOf schema) more
+sets_fit schema sets more set all h kept = subst (All (IsSetOf schema)) (sym kept) (All-append (IsSetOf schema) sets (option_to_list set) all (found_fits schema set h))
+
+published_more : (n : ℕ) (entry : ScriptEntry) → published_by n entry ≡ n + published_by 0 entry
+published_more n (said.Begin request name context) = omega arith
+published_more n (said.Ask request name text) = omega arith
+published_more n (said.End request name) = omega arith
+published_more n (said.Publish number set) = omega arith
+
+pub sets_count : (entries : List ScriptEntry) (sets more : List TableSet) (i : ℕ) (entry : ScriptEntry) (set : Option TableSet) → i < length entries → entry ≡ get_or entries i entry → length sets ≡ published (take i entries)
+    → length (option_to_list set) ≡ published_by 0 entry → more ≡ sets ++ option_to_list set → length more ≡ published (take (i + 1) entries)
+sets_count entries sets more i entry set below is before one kept =
+    let front : take (i + 1) entries ≡ take i entries ++ entry ∷ [] = take_more entries i entry below ∙ ap (λ z. take i entries ++ z ∷ []) (sym is) in
+    let whole : published (take (i + 1) entries) ≡ published_by (published (take i entries)) entry = ap published front ∙ published-push (take i entries) entry in
+    omega (arith, ap length kept, length-append sets (option_to_list set), before, one, whole, published_more (published (take i entries)) entry)
+
+-- all sets, and then the input
+pub published_ok : (budget : ℕ) (policy : Policy) (tables : TableSet) (script : Script) (schema : Schema) (entries : List ScriptEntry) (sets : List TableSet) (s t : FilesSeen) → schema ≡ policy.schema → entries ≡ script.entries
+    → Follows (sets_plan schema entries []) s t (Ok sets) → Follows (published_plan budget policy tables script) s t (Ok (record { policy = policy; tables = tables; script = script; published = sets; budget = budget }))
+published_ok budget policy tables script schema entries sets s t same is follows =
+    then_ok (sets_plan policy.schema script.entries []) (λ z. done (record { policy = policy; tables = tables; script = script; published = z; budget = budget })) s t t sets _
+    (subst (λ z. Follows (sets_plan z script.entries []) s t (Ok sets)) same (subst (λ z. Follows (sets_plan schema z []) s t (Ok sets)) is follows)) (refl, refl)
+
+pub published_err : (budget : ℕ) (policy : Policy) (tables : TableSet) (script : Script) (schema : Schema) (entries : List ScriptEntry) (s t : FilesSeen) (e : Stop Refusal) → schema ≡ policy.schema → entries ≡ script.entries
+    → Follows (sets_plan schema entries []) s t (Err e) → Follows (published_plan budget policy tables script) s t (Err e)
+published_err budget policy tables script schema entries s t e same is follows =
+    then_err (sets_plan policy.schema script.entries []) (λ z. done (record { policy = policy; tables = tables; script = script; published = z; budget = budget })) s t e
+    (subst (λ z. Follows (sets_plan z script.entries []) s t (Err e)) same (subst (λ z. Follows (sets_plan schema z []) s t (Err e)) is follows))
 
 -- the schema, the policy, the tables, and then the rest
 pub named_ok : (names : Names) (bytes text : List ℕ) (schema : Schema) (policy : Policy) (tables : TableSet) (s m n o t : FilesSeen) (r : Result Input (Stop Refusal))

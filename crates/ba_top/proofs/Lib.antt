@@ -1,7 +1,10 @@
 pub mod ServeLemmas
+pub mod LaneLemmas
+pub mod HistoryLemmas
 pub mod SummaryLemmas
 pub mod PrintLemmas
 pub mod InputLemmas
+pub mod PublishedLemmas
 pub mod CheckLemmas
 pub mod Runs
 pub mod HeadlineLemmas

@@ -1,23 +1,30 @@
--- What follows for the requests and the entries of a run.
-use Rattle.std.proofs.Common.{◌≡◌, ◌≢◌, ◌∙◌, refl, sym, ap, ap₂, subst, ℕ, suc, zero, ◌+◌, ◌<◌, ◌≤◌, Bool, true, false, ◌==◌, List, [], ◌∷◌, ◌++◌, length, map, take, drop, get_or, length-append, append_assoc, append-nil, add-one, drop-cons, cond, arith}
+-- What follows for the requests and the lines of a run.
+use Rattle.std.proofs.Common.{◌≡◌, ◌≢◌, ◌∙◌, refl, sym, ap, ap₂, subst, ℕ, suc, zero, ◌+◌, ◌<◌, ◌≤◌, ◌⊎◌, inl, inr, Bool, true, false, ◌==◌, List, [], ◌∷◌, ◌++◌, length, map, take, drop, get_or, length-append, append_assoc, append-nil, add-one, drop-cons, cond, arith, Option, Some, None}
 use Rattle.std.proofs.lemmas.Bool.{eqb-false, eqb-true}
-use Rattle.std.proofs.lemmas.List.{drop_all, take_more, take-append-drop}
-use Rattle.std.proofs.lemmas.List.Elements.{All-append, All-cons, All-head, All-nil, All-tail}
+use Rattle.std.proofs.lemmas.List.{length-map, map_push, take_all, take_more, take-append-drop}
+use Rattle.std.proofs.lemmas.List.Elements.{Contains-append_left, Contains-push, Contains-push_cases}
 use Rattle.std.specs.List.{flat_map}
-use Rattle.std.specs.Prelude.{All, Some, slice_get, slice_set}
-use Rattle.ba_comply.specs.Comply.{Records}
+use Rattle.std.specs.Prelude.{Contains, Vec, slice_get, slice_set, vec_capacity}
 use Rattle.ba_model.specs.declared.policy.Context.{Context}
 use Rattle.ba_script.specs.Scripts.{BeginFits, NumberedFrom}
 use Rattle.ba_script.specs.declared.entry.ScriptEntry.{ScriptEntry}
 use Rattle.ba_script.specs.declared.entry.ScriptEntry.TheVariants as said
-use Rattle.ba_session.specs.Asking.{IsAsker, answer_in}
+use Rattle.ba_session.specs.Asking.{answer_in}
+use Rattle.ba_session.specs.Passing.{AreOf}
 use Rattle.ba_session.specs.declared.reply.Reply.{Reply}
 use Rattle.ba_session.specs.declared.request.Request.{Request}
-use Rattle.ba_top.specs.Legal.{AreEntries, HasContext, IsEntry, IsInput, answer_of, context_in, contexts_of, trace_of}
-use Rattle.ba_top.specs.Serving.{IsAsked, IsKnown, IsServed, Stand, begun_in}
+use Rattle.ba_session.specs.declared.service.Passes.{Passes}
+use Rattle.ba_session.specs.declared.service.Service.{Service}
+use Rattle.ba_tables.specs.TableSet.{TableSet}
+use Rattle.ba_top.proofs.LaneLemmas.{can_first, can_rest, makes_on, makes_start}
+use Rattle.ba_top.proofs.PublishedLemmas.{set_there}
+use Rattle.ba_top.specs.Legal.{AreServed, HasContext, IsInput, IsLost, IsServed, Legal, LineDone, answer_of, begins, context_in, contexts_of, trace_of}
+use Rattle.ba_top.specs.Serving.{AreAskers, Asks, Begins, CanServe, CanTake, Comes, Does, Ends, FindsLost, HasServed, IsStanding, MakesAll, Stand, StandsIn, Takes}
+use Rattle.ba_top.specs.declared.lane.Lane.{Lane}
 use Rattle.ba_top.specs.declared.report.Entry.{Entry}
-use Rattle.ba_top.specs.declared.report.Entry.TheVariants.{Ask}
+use Rattle.ba_top.specs.declared.report.Entry.TheVariants.{Begin, Unbegun, Ask, End, Publish, NoMemory}
 use Rattle.ba_top.specs.declared.report.Input.{Input}
+use Rattle.ba_top.specs.declared.report.Journal.{Journal}
 
 -- ---- lists
 
@@ -85,120 +92,228 @@ map_set f [] n x y e h = refl
 map_set f (z ∷ xs) zero x y e h = let is : z ≡ x = cc in ap (λ w. w ∷ map f xs) (h ∙ ap f (sym is))
 map_set f (z ∷ xs) (suc n) x y e h = ap (λ w. f z ∷ w) (map_set f xs n x y e h)
 
-map_length : {X Y : Type 0} (f : X → Y) (xs : List X) → length (map f xs) ≡ length xs
-map_length f [] = refl
-map_length f (x ∷ xs) = ap suc (map_length f xs)
-
-all_set : {X : Type 0} (P : X → Type 0) (xs : List X) (n : ℕ) (x : X) → All P xs → P x → All P (slice_set xs n x)
-all_set P [] n x all h = all
-all_set P (y ∷ xs) zero x all h = All-cons P x xs h (All-tail P y xs all)
-all_set P (y ∷ xs) (suc n) x all h = All-cons P y (slice_set xs n x) (All-head P y xs all) (all_set P xs n x (All-tail P y xs all) h)
-
-all_end : {X : Type 0} (P : X → Type 0) (xs : List X) (x : X) → All P xs → P x → All P (xs ++ x ∷ [])
-all_end P xs x all h = All-append P xs (x ∷ []) all (All-cons P x [] h (All-nil P))
-
 -- ---- traces
 
--- what one more entry adds
-trace_more : (number : ℕ) (earlier : List Entry) (entry : Entry) → trace_of number (earlier ++ entry ∷ []) ≡ trace_of number earlier ++ answer_of number entry
-trace_more number earlier entry = flat_end (answer_of number) earlier (entry ∷ []) ∙ ap (λ z. trace_of number earlier ++ z) (one_flat (answer_of number) entry)
+-- what one more line adds
+trace_more : (number : ℕ) (earlier : List LineDone) (it : LineDone) → trace_of number (earlier ++ it ∷ []) ≡ trace_of number earlier ++ answer_of number it.entry
+trace_more number earlier it =
+    flat_end (λ (z : LineDone). answer_of number z.entry) earlier (it ∷ []) ∙ ap (λ z. trace_of number earlier ++ z) (one_flat (λ (z : LineDone). answer_of number z.entry) it)
 
-answers_own : (r : ℕ) (reply : Reply) → answer_of r (Ask r 0 reply) ≡ answer_in reply
-answers_own r reply = by (r == r) refl
+-- a line without an answer adds nothing
+trace_same : (number : ℕ) (earlier : List LineDone) (it : LineDone) → answer_of number it.entry ≡ [] → trace_of number (earlier ++ it ∷ []) ≡ trace_of number earlier
+trace_same number earlier it quiet = trace_more number earlier it ∙ ap (λ z. trace_of number earlier ++ z) quiet ∙ append-nil (trace_of number earlier)
+
+answers_own : (r version : ℕ) (reply : Reply) → answer_of r (Ask r version reply) ≡ answer_in reply
+answers_own r version reply = by (r == r) refl
   where
     by : (t : Bool) → (r == r) ≡ t → cond t (answer_in reply) [] ≡ answer_in reply
     by true e = refl
     by false e = absurd (eqb-false r r e refl)
 
-answers_other : (r number : ℕ) (reply : Reply) → number ≢ r → answer_of number (Ask r 0 reply) ≡ []
-answers_other r number reply differ = by (r == number) refl
+answers_other : (r version number : ℕ) (reply : Reply) → number ≢ r → answer_of number (Ask r version reply) ≡ []
+answers_other r version number reply differ = by (r == number) refl
   where
     by : (t : Bool) → (r == number) ≡ t → cond t (answer_in reply) [] ≡ []
     by true e = absurd (differ (sym (eqb-true r number e)))
     by false e = refl
 
+-- ---- lines that begin no request, and requests that are lost
+
+-- the line begins no request with this number
+abbrev BeginsNot : LineDone → ℕ → Type 0
+BeginsNot it number = (version : ℕ) (tables : TableSet) → it ≢ begins number version tables
+
+lost_more : (earlier : List LineDone) (it : LineDone) (number : ℕ) → IsLost earlier number → BeginsNot it number → IsLost (earlier ++ it ∷ []) number
+lost_more earlier it number lost other version tables h = by (Contains-push_cases earlier it (begins number version tables) h)
+  where
+    by : Contains earlier (begins number version tables) ⊎ (it ≡ begins number version tables) → ⊥
+    by (inl there) = lost version tables there
+    by (inr same) = other version tables same
+
+entry_same : (a b : LineDone) → a ≡ b → a.entry ≡ b.entry
+entry_same a b e = ap (λ (z : LineDone). z.entry) e
+
+ask_begins_not : (it : LineDone) (r version : ℕ) (reply : Reply) (number : ℕ) → it.entry ≡ Ask r version reply → BeginsNot it number
+ask_begins_not it r version reply number is v tables same =
+    let e : Ask r version reply ≡ Begin number v = sym is ∙ entry_same it (begins number v tables) same in cc
+
+end_begins_not : (it : LineDone) (r number : ℕ) → it.entry ≡ End r → BeginsNot it number
+end_begins_not it r number is v tables same = let e : End r ≡ Begin number v = sym is ∙ entry_same it (begins number v tables) same in cc
+
+publish_begins_not : (it : LineDone) (n number : ℕ) → it.entry ≡ Publish n → BeginsNot it number
+publish_begins_not it n number is v tables same = let e : Publish n ≡ Begin number v = sym is ∙ entry_same it (begins number v tables) same in cc
+
+memory_begins_not : (it : LineDone) (number : ℕ) → it.entry ≡ NoMemory → BeginsNot it number
+memory_begins_not it number is v tables same = let e : NoMemory ≡ Begin number v = sym is ∙ entry_same it (begins number v tables) same in cc
+
+unbegun_begins_not : (it : LineDone) (r number : ℕ) → it.entry ≡ Unbegun r → BeginsNot it number
+unbegun_begins_not it r number is v tables same = let e : Unbegun r ≡ Begin number v = sym is ∙ entry_same it (begins number v tables) same in cc
+
+other_begins_not : (r version : ℕ) (tables : TableSet) (number : ℕ) → number ≢ r → BeginsNot (begins r version tables) number
+other_begins_not r version tables number differ v t same =
+    let e : Begin r version ≡ Begin number v = entry_same (begins r version tables) (begins number v t) same in
+    let n : r ≡ number = cc in
+    differ (sym n)
+
 -- ---- requests
 
-no_records : (context : Context) (input : Input) → Records [] context input.tables.rows
-no_records context input = record { entries = All-nil _ }
-
-pub stand_first : (input : Input) → Stand input [] [] []
+pub stand_first : (input : Input) → Stand input 0 [] []
 stand_first input = record {
-  contexts_are = refl;
-  askers = All-nil (IsAsker input.policy input.tables.rows);
-  told = λ number it there. absurd (cc);
+  many = refl;
+  places = λ number it there. absurd (cc);
   untold = λ number past. refl;
-}
-
--- a line begins a request, or none
-stand_begun : (input : Input) (contexts : List Context) (earlier : List Entry) (requests : List Request) (it : ScriptEntry) → BeginFits input.policy.params it → Stand input contexts earlier requests
-    → Stand input (contexts ++ context_in it) earlier (requests ++ begun_in it)
-stand_begun input contexts earlier requests (said.Begin r name c) fits stand = record {
-  contexts_are = map_end requests ∙ ap (λ z. z ++ c ∷ []) stand.contexts_are;
-  askers = all_end (IsAsker input.policy input.tables.rows) requests fresh stand.askers
-      (record { context = fits; queries = All-nil _; recorded = no_records c input });
-  told = λ number it there. told number it (at_end requests fresh number it there);
-  untold = λ number past. stand.untold number (omega (arith, past, length-append requests (fresh ∷ [])));
+  unbegun = λ number past version tables h. none version number tables h;
 }
   where
-    fresh : Request
-    fresh = record { context = c; trace = [] }
+    none : (version number : ℕ) (tables : TableSet) → Contains [] (begins number version tables) → ⊥
+    none version number tables h = let low = h.1 in omega (arith, low)
 
-    map_end : (xs : List Request) → map (λ (x : Request). x.context) (xs ++ fresh ∷ []) ≡ map (λ (x : Request). x.context) xs ++ c ∷ []
-    map_end [] = refl
-    map_end (x ∷ xs) = ap (λ z. x.context ∷ z) (map_end xs)
-
-    told : (number : ℕ) (it : Request) → IsAtEnd requests fresh number it → it.trace ≡ trace_of number earlier
-    told number it (in_front h) = stand.told number it h
-    told number it (is_last h k) = ap (λ (z : Request). z.trace) k ∙ sym (stand.untold number (omega (arith, h)))
-stand_begun input contexts earlier requests (said.Ask r name text) fits stand =
-    subst (λ z. Stand input z earlier (requests ++ [])) (sym (append-nil contexts)) (subst (Stand input contexts earlier) (sym (append-nil requests)) stand)
-stand_begun input contexts earlier requests (said.End r name) fits stand =
-    subst (λ z. Stand input z earlier (requests ++ [])) (sym (append-nil contexts)) (subst (Stand input contexts earlier) (sym (append-nil requests)) stand)
-
--- an entry without an answer changes no trace
-stand_quiet : (input : Input) (contexts : List Context) (earlier : List Entry) (requests : List Request) (entry : Entry) → ((number : ℕ) → answer_of number entry ≡ []) → Stand input contexts earlier requests
-    → Stand input contexts (earlier ++ entry ∷ []) requests
-stand_quiet input contexts earlier requests entry quiet stand = record {
-  contexts_are = stand.contexts_are;
-  askers = stand.askers;
-  told = λ number it there. stand.told number it there ∙ sym (kept number);
-  untold = λ number past. kept number ∙ stand.untold number past;
+-- a request stands where its trace and its version do
+stands_on : (input : Input) (earlier : List LineDone) (it : LineDone) (number : ℕ) (asker : Request) → answer_of number it.entry ≡ [] → IsStanding input earlier number asker → IsStanding input (earlier ++ it ∷ []) number asker
+stands_on input earlier it number asker quiet h = record {
+  asks = record {
+    begun = Contains-append_left earlier (it ∷ []) (begins number asker.version asker.tables) h.asks.begun;
+    context = h.asks.context;
+    trace = h.asks.trace ∙ sym (trace_same number earlier it quiet);
+  };
+  may = h.may;
 }
-  where
-    kept : (number : ℕ) → trace_of number (earlier ++ entry ∷ []) ≡ trace_of number earlier
-    kept number = trace_more number earlier entry ∙ ap (λ z. trace_of number earlier ++ z) (quiet number) ∙ append-nil (trace_of number earlier)
 
-stand_asked : (input : Input) (contexts : List Context) (earlier : List Entry) (requests later : List Request) (r : ℕ) (text : List ℕ) (reply : Reply) → IsAsked input requests r text reply later → Stand input contexts earlier requests
-    → Stand input contexts (earlier ++ Ask r 0 reply ∷ []) later
-stand_asked input contexts earlier requests later r text reply asked stand = subst (Stand input contexts (earlier ++ Ask r 0 reply ∷ [])) (sym asked.later_is) (record {
-  contexts_are = map_set (λ (x : Request). x.context) requests r asked.asker asked.next asked.is_there asked.context ∙ stand.contexts_are;
-  askers = all_set (IsAsker input.policy input.tables.rows) requests r asked.next stand.askers asked.asks_on;
-  told = λ number it there. told number it (in_set requests r asked.next number it there);
-  untold = λ number past. untold number (omega (arith, past, set_length requests r asked.next));
-})
-  where
-    told : (number : ℕ) (it : Request) → IsInSet requests r asked.next number it → it.trace ≡ trace_of number (earlier ++ Ask r 0 reply ∷ [])
-    told number it (is_changed h k) =
-        ap (λ (z : Request). z.trace) k ∙ asked.trace ∙ ap₂ (λ y z. y ++ z) (stand.told r asked.asker asked.is_there) (sym (answers_own r reply))
-        ∙ sym (trace_more r earlier (Ask r 0 reply)) ∙ ap (λ z. trace_of z (earlier ++ Ask r 0 reply ∷ [])) (sym h)
-    told number it (is_kept h k) =
-        stand.told number it k ∙ sym (append-nil (trace_of number earlier)) ∙ ap (λ z. trace_of number earlier ++ z) (sym (answers_other r number reply h))
-        ∙ sym (trace_more number earlier (Ask r 0 reply))
+place_on : (input : Input) (earlier : List LineDone) (it : LineDone) (number : ℕ) (place : Option Request) → answer_of number it.entry ≡ [] → BeginsNot it number → StandsIn input earlier number place → StandsIn input (earlier ++ it ∷ []) number place
+place_on input earlier it number (Some asker) quiet other h = stands_on input earlier it number asker quiet h
+place_on input earlier it number None quiet other h = lost_more earlier it number h other
 
-    untold : (number : ℕ) → length requests ≤ number → trace_of number (earlier ++ Ask r 0 reply ∷ []) ≡ []
-    untold number past =
-        let below = get_below requests r asked.asker asked.is_there in
-        trace_more number earlier (Ask r 0 reply) ∙ ap₂ (λ y z. y ++ z) (stand.untold number past) (answers_other r number reply (λ h. omega (arith, h, below, past)))
+module _ (input : Input) (n : ℕ) (earlier : List LineDone) (requests : List (Option Request)) (stand : Stand input n earlier requests) where
+  -- a line that answers nothing and begins no request
+  quiet_line : (it : LineDone) → ((number : ℕ) → answer_of number it.entry ≡ []) → ((number : ℕ) → BeginsNot it number) → Stand input n (earlier ++ it ∷ []) requests
+  quiet_line it quiet other = record {
+    many = stand.many;
+    places = λ number place there. place_on input earlier it number place (quiet number) (other number) (stand.places number place there);
+    untold = λ number past. trace_same number earlier it (quiet number) ∙ stand.untold number past;
+    unbegun = λ number past. lost_more earlier it number (stand.unbegun number past) (other number);
+  }
 
-pub stand_served : (input : Input) (contexts : List Context) (earlier : List Entry) (requests later : List Request) (it : ScriptEntry) (entry : Entry) → IsServed input requests it entry later → Stand input contexts earlier requests
-    → Stand input contexts (earlier ++ entry ∷ []) later
-stand_served input contexts earlier requests later (said.Begin r name c) entry (is, same) stand =
-    subst (Stand input contexts (earlier ++ entry ∷ [])) (sym same) (stand_quiet input contexts earlier requests entry (λ number. ap (answer_of number) is) stand)
-stand_served input contexts earlier requests later (said.Ask r name text) entry (reply, is, asked) stand =
-    subst (λ z. Stand input contexts (earlier ++ z ∷ []) later) (sym is) (stand_asked input contexts earlier requests later r text reply asked stand)
-stand_served input contexts earlier requests later (said.End r name) entry (is, same) stand =
-    subst (Stand input contexts (earlier ++ entry ∷ [])) (sym same) (stand_quiet input contexts earlier requests entry (λ number. ap (answer_of number) is) stand)
+  -- one place more, for the next request
+  next_place : (it : LineDone) (place : Option Request) (later : List (Option Request)) → ((number : ℕ) → answer_of number it.entry ≡ []) → ((number : ℕ) → number ≢ n → BeginsNot it number) →
+      StandsIn input (earlier ++ it ∷ []) n place → later ≡ requests ++ place ∷ [] → Stand input (n + 1) (earlier ++ it ∷ []) later
+  next_place it place later quiet other h is = subst (Stand input (n + 1) (earlier ++ it ∷ [])) (sym is) (record {
+    many = omega (arith, length-append requests (place ∷ []), stand.many);
+    places = λ number x there. at number x (at_end requests place number x there);
+    untold = λ number past. trace_same number earlier it (quiet number) ∙ stand.untold number (omega (arith, past));
+    unbegun = λ number past. lost_more earlier it number (stand.unbegun number (omega (arith, past))) (other number (λ same. omega (arith, same, past)));
+  })
+    where
+      at : (number : ℕ) (x : Option Request) → IsAtEnd requests place number x → StandsIn input (earlier ++ it ∷ []) number x
+      at number x (in_front there) =
+          let low = get_below requests number x there in
+          let many = stand.many in
+          place_on input earlier it number x (quiet number) (other number (λ same. omega (arith, same, low, many))) (stand.places number x there)
+      at number x (is_last e k) = subst (λ z. StandsIn input (earlier ++ it ∷ []) number z) (sym k) (subst (λ z. StandsIn input (earlier ++ it ∷ []) z place) (sym (e ∙ stand.many)) h)
+
+  begun_on : (request : ℕ) (context : Context) (it : LineDone) (later : List (Option Request)) → request ≡ n → HasContext input.script request context → Begins input requests request context it later →
+      Stand input (n + 1) (earlier ++ it ∷ []) later
+  begun_on request context it later same has h =
+      let asker = h.asker in
+      let line = begins request asker.version asker.tables in
+      subst (λ z. Stand input (n + 1) (earlier ++ z ∷ []) later) (sym h.is)
+      (next_place line (Some asker) later (λ number. refl) (λ number differ. other_begins_not request asker.version asker.tables number (λ e. differ (e ∙ same)))
+      (record {
+        asks = record {
+          begun = subst (λ z. Contains (earlier ++ line ∷ []) (begins z asker.version asker.tables)) same (Contains-push earlier line);
+          context = subst (λ z. HasContext input.script z asker.context) same (subst (HasContext input.script request) (sym h.begun.context_is) has);
+          trace = h.begun.trace_is ∙ sym (trace_same n earlier line refl ∙ stand.untold n (omega arith));
+        };
+        may = h.may;
+      })
+      h.later_is)
+
+  lost_on : (request : ℕ) (it : LineDone) (later : List (Option Request)) → it.entry ≡ Unbegun request → later ≡ requests ++ None ∷ [] → Stand input (n + 1) (earlier ++ it ∷ []) later
+  lost_on request it later is more =
+      next_place it None later (λ number. ap (answer_of number) is) (λ number differ. unbegun_begins_not it request number is)
+      (lost_more earlier it n (stand.unbegun n (omega arith)) (unbegun_begins_not it request n is)) more
+
+  asked_on : (request : ℕ) (text : List ℕ) (it : LineDone) (later : List (Option Request)) → Asks input requests request text it later → Stand input n (earlier ++ it ∷ []) later
+  asked_on request text it later h = subst (Stand input n (earlier ++ it ∷ [])) (sym h.later_is) (record {
+    many = set_length requests request (Some next) ∙ stand.many;
+    places = λ number place there. at number place (in_set requests request (Some next) number place there);
+    untold = λ number past. trace_same number earlier it (other number past) ∙ stand.untold number past;
+    unbegun = λ number past. lost_more earlier it number (stand.unbegun number past) (not_begin number);
+  })
+    where
+      next : Request
+      next = record h.asker { trace = h.asker.trace ++ answer_in h.reply }
+
+      is : it.entry ≡ Ask request h.asker.version h.reply
+      is = ap (λ (z : LineDone). z.entry) h.is
+
+      not_begin : (number : ℕ) → BeginsNot it number
+      not_begin number = ask_begins_not it request h.asker.version h.reply number is
+
+      other : (number : ℕ) → n ≤ number → answer_of number it.entry ≡ []
+      other number past =
+          let low = get_below requests request (Some h.asker) h.there in
+          let many = stand.many in
+          ap (answer_of number) is ∙ answers_other request h.asker.version number h.reply (λ same. omega (arith, same, low, many, past))
+
+      at : (number : ℕ) (place : Option Request) → IsInSet requests request (Some next) number place → StandsIn input (earlier ++ it ∷ []) number place
+      at number place (is_changed e k) =
+          let before : IsStanding input earlier request h.asker = stand.places request (Some h.asker) h.there in
+          let here : IsStanding input (earlier ++ it ∷ []) request next = record {
+            asks = record {
+              begun = Contains-append_left earlier (it ∷ []) (begins request h.asker.version h.asker.tables) before.asks.begun;
+              context = before.asks.context;
+              trace = ap₂ (λ y z. y ++ z) before.asks.trace (sym (ap (answer_of request) is ∙ answers_own request h.asker.version h.reply)) ∙ sym (trace_more request earlier it);
+            };
+            may = h.may;
+          } in
+          subst (StandsIn input (earlier ++ it ∷ []) number) (sym k) (subst (λ z. StandsIn input (earlier ++ it ∷ []) z (Some next)) (sym e) here)
+      at number place (is_kept e k) =
+          place_on input earlier it number place (ap (answer_of number) is ∙ answers_other request h.asker.version number h.reply e) (not_begin number) (stand.places number place k)
+
+  -- the requests after a line
+  pub stand_on : (line : ScriptEntry) (it : LineDone) (later : List (Option Request)) → Comes input n line → Does input requests line it later → Stand input (n + length (context_in line)) (earlier ++ it ∷ []) later
+  stand_on (said.Begin request name context) it later comes (inl h) = begun_on request context it later comes.0 comes.2 h
+  stand_on (said.Begin request name context) it later comes (inr h) = lost_on request it later h.0.0 h.1
+  stand_on (said.Ask request name text) it later comes (inl h) = subst (λ z. Stand input z (earlier ++ it ∷ []) later) (omega arith) (asked_on request text it later h)
+  stand_on (said.Ask request name text) it later comes (inr h) = unserved it later (ap (λ (z : LineDone). z.entry) h.0.1) h.1
+    where
+      unserved : (it : LineDone) (later : List (Option Request)) → it.entry ≡ NoMemory → later ≡ requests → Stand input (n + 0) (earlier ++ it ∷ []) later
+      unserved it later is same =
+          subst (λ z. Stand input z (earlier ++ it ∷ []) later) (omega arith) (subst (Stand input n (earlier ++ it ∷ [])) (sym same)
+          (quiet_line it (λ number. ap (answer_of number) is) (λ number. memory_begins_not it number is)))
+  stand_on (said.End request name) it later comes (h, same) =
+      subst (λ z. Stand input z (earlier ++ it ∷ []) later) (omega arith) (subst (Stand input n (earlier ++ it ∷ [])) (sym same) (by h))
+    where
+      by : Ends requests request it ⊎ FindsLost requests request it → Stand input n (earlier ++ it ∷ []) requests
+      by (inl e) = let is = ap (λ (z : LineDone). z.entry) e.is in quiet_line it (λ number. ap (answer_of number) is) (λ number. end_begins_not it request number is)
+      by (inr e) = let is = ap (λ (z : LineDone). z.entry) e.1 in quiet_line it (λ number. ap (answer_of number) is) (λ number. memory_begins_not it number is)
+  stand_on (said.Publish number set) it later comes (inl h, same) =
+      let is = ap (λ (z : LineDone). z.entry) h.is in
+      subst (λ z. Stand input z (earlier ++ it ∷ []) later) (omega arith) (subst (Stand input n (earlier ++ it ∷ [])) (sym same)
+      (quiet_line it (λ number. ap (answer_of number) is) (λ number. publish_begins_not it h.version number is)))
+  stand_on (said.Publish number set) it later comes (inr h, same) =
+      let is = ap (λ (z : LineDone). z.entry) h in
+      subst (λ z. Stand input z (earlier ++ it ∷ []) later) (omega arith) (subst (Stand input n (earlier ++ it ∷ [])) (sym same)
+      (quiet_line it (λ number. ap (answer_of number) is) (λ number. memory_begins_not it number is)))
+
+  -- what is done for a line is what becomes of it
+  pub served_is : (line : ScriptEntry) (it : LineDone) (later : List (Option Request)) → Does input requests line it later → IsServed input earlier line it
+  served_is (said.Begin request name context) it later (inl h) = inl (record { version = h.asker.version; tables = h.asker.tables; is = h.is })
+  served_is (said.Begin request name context) it later (inr h) = inr h.0
+  served_is (said.Ask request name text) it later (inl h) =
+      let standing : IsStanding input earlier request h.asker = stand.places request (Some h.asker) h.there in
+      inl (record { asker = h.asker; asks = standing.asks; reply = h.reply; calls = h.calls; replies = h.replies; is = h.is })
+  served_is (said.Ask request name text) it later (inr h) = inr (stand.places request None h.0.0, h.0.1)
+  served_is (said.End request name) it later (inl h, same) =
+      let standing : IsStanding input earlier request h.asker = stand.places request (Some h.asker) h.there in
+      inl (record { version = h.asker.version; tables = h.asker.tables; begun = standing.asks.begun; is = h.is })
+  served_is (said.End request name) it later (inr h, same) = inr (stand.places request None h.0, h.1)
+  served_is (said.Publish number set) it later (h, same) = h
+
+  pub askers_of : AreAskers input requests
+  askers_of = record { each = λ number asker there. let standing : IsStanding input earlier number asker = stand.places number (Some asker) there in standing.may }
+
+-- ---- lines at their places
 
 -- how many requests begin among the first entries
 numbered_front : (n : ℕ) (before : List ScriptEntry) (it : ScriptEntry) (after : List ScriptEntry) → NumberedFrom n (before ++ it ∷ after) → NumberedFrom (n + length (contexts_of before)) (it ∷ after)
@@ -207,6 +322,7 @@ numbered_front n (said.Begin r name c ∷ before) it after h =
     subst (λ z. NumberedFrom z (it ∷ after)) (omega arith) (numbered_front (n + 1) before it after h.1)
 numbered_front n (said.Ask r name text ∷ before) it after h = numbered_front n before it after h.1
 numbered_front n (said.End r name ∷ before) it after h = numbered_front n before it after h.1
+numbered_front n (said.Publish number set ∷ before) it after h = numbered_front n before it after h
 
 -- the lines before, one line, and those behind it
 split_at : (its : List ScriptEntry) (i : ℕ) (it : ScriptEntry) → i < length its → it ≡ get_or its i it → its ≡ take i its ++ it ∷ drop (i + 1) its
@@ -225,104 +341,155 @@ context_is input i r c there =
     ∙ ap (λ z. slice_get z r) (flat_end context_in (take i its) (drop i its))
     ∙ get_front (contexts_of (take i its)) (contexts_of (drop i its)) r c there
 
--- the requests that have begun once the next line's has
-stand_next : (input : Input) (i : ℕ) (it : ScriptEntry) (earlier : List Entry) (requests kept : List Request) → IsInput input → i < length input.script.entries → it ≡ get_or input.script.entries i it
-    → Stand input (contexts_of (take i input.script.entries)) earlier requests → kept ≡ requests ++ begun_in it → Stand input (contexts_of (take (i + 1) input.script.entries)) earlier kept
-stand_next input i it earlier requests kept is below at stand more =
+-- what a line comes after
+pub comes_at : (input : Input) (i : ℕ) (it : ScriptEntry) → IsInput input → i < length input.script.entries → it ≡ get_or input.script.entries i it → Comes input (length (contexts_of (take i input.script.entries))) it
+comes_at input i (said.Begin r name c) is below at =
     let its = input.script.entries in
-    let fits : BeginFits input.policy.params it = subst (BeginFits input.policy.params) (sym at) (is.script.contexts i it below) in
-    subst (λ z. Stand input z earlier kept) (kept_more its i it (contexts_of (take i its)) (contexts_of (take i its) ++ context_in it) below at refl refl)
-    (subst (Stand input (contexts_of (take i its) ++ context_in it) earlier) (sym more) (stand_begun input (contexts_of (take i its)) earlier requests it fits stand))
-
--- a request that asks has begun
-known : (input : Input) (i : ℕ) (it : ScriptEntry) (earlier : List Entry) (requests kept : List Request) → IsInput input → i < length input.script.entries → it ≡ get_or input.script.entries i it
-    → Stand input (contexts_of (take i input.script.entries)) earlier requests → kept ≡ requests ++ begun_in it → IsKnown kept it
-known input i (said.Begin r name c) earlier requests kept is below at stand more = tt
-known input i (said.Ask r name text) earlier requests kept is below at stand more =
+    let parts = split_at its i (said.Begin r name c) below at in
+    let numbered = numbered_front 0 (take i its) (said.Begin r name c) (drop (i + 1) its) (subst (NumberedFrom 0) parts is.script.numbered) in
+    let fits : BeginFits input.policy.params (said.Begin r name c) = subst (BeginFits input.policy.params) (sym at) (is.script.contexts i (said.Begin r name c) below) in
+    let after : contexts_of (take (i + 1) its) ≡ contexts_of (take i its) ++ c ∷ [] = sym (kept_more its i (said.Begin r name c) (contexts_of (take i its)) (contexts_of (take i its) ++ c ∷ []) below at refl refl) in
+    let number : r ≡ length (contexts_of (take i its)) = omega (arith, numbered.0) in (
+      number,
+      fits,
+      context_is input (i + 1) r c (ap (λ z. slice_get z r) after ∙ ap (slice_get (contexts_of (take i its) ++ c ∷ [])) number ∙ get_last (contexts_of (take i its)) c),
+    )
+  where
+    get_last : {X : Type 0} (xs : List X) (x : X) → slice_get (xs ++ x ∷ []) (length xs) ≡ Some x
+    get_last [] x = refl
+    get_last (y ∷ xs) x = get_last xs x
+comes_at input i (said.Ask r name text) is below at =
     let its = input.script.entries in
     let parts = split_at its i (said.Ask r name text) below at in
-    let numbered = numbered_front 0 (take i its) (said.Ask r name text) (drop (i + 1) its) (subst (NumberedFrom 0) parts is.script.numbered) in
-    let as_many : length requests ≡ length (contexts_of (take i its)) = sym (map_length (λ (x : Request). x.context) requests) ∙ ap length stand.contexts_are in
-    let kept_are : length kept ≡ length requests = ap length (more ∙ append-nil requests) in
-    omega (arith, numbered.0, as_many, kept_are)
-known input i (said.End r name) earlier requests kept is below at stand more = tt
-
--- ---- entries
-
--- what a line was served is its entry
-entry_is : (input : Input) (i : ℕ) (earlier : List Entry) (requests later : List Request) (it : ScriptEntry) (entry : Entry) → Stand input (contexts_of (take i input.script.entries)) earlier requests → IsServed input requests it entry later
-    → IsEntry input earlier it entry
-entry_is input i earlier requests later (said.Begin r name c) entry stand served = served.0
-entry_is input i earlier requests later (said.Ask r name text) entry stand (reply, is, asked) =
-    let there = subst (λ z. slice_get z r ≡ Some asked.asker.context) stand.contexts_are (get_map (λ (x : Request). x.context) requests r asked.asker asked.is_there) in
-    record {
-      asker = asked.asker;
-      asks = record { context = context_is input i r asked.asker.context there; trace = stand.told r asked.asker asked.is_there };
-      reply = reply;
-      is = is;
-      replies = asked.replies;
-    }
-entry_is input i earlier requests later (said.End r name) entry stand served = served.0
-
--- one more line with its entry
-pub legal_step : (input : Input) (i : ℕ) (it : ScriptEntry) (entry : Entry) (earlier more : List Entry) → i < length input.script.entries → it ≡ get_or input.script.entries i it → IsEntry input earlier it entry
-    → ((rest : List Entry) → AreEntries input earlier (drop i input.script.entries) rest → AreEntries input [] input.script.entries (earlier ++ rest))
-    → AreEntries input (earlier ++ entry ∷ []) (drop (i + 1) input.script.entries) more → AreEntries input [] input.script.entries ((earlier ++ entry ∷ []) ++ more)
-legal_step input i it entry earlier more below at is so_far rest =
+    let low = (numbered_front 0 (take i its) (said.Ask r name text) (drop (i + 1) its) (subst (NumberedFrom 0) parts is.script.numbered)).0 in
+    omega (arith, low)
+comes_at input i (said.End r name) is below at =
     let its = input.script.entries in
-    subst (AreEntries input [] its) (sym (append_assoc earlier (entry ∷ []) more))
-    (so_far (entry ∷ more)
-    (subst (λ z. AreEntries input earlier z (entry ∷ more)) (sym (drop-cons its i it below ∙ ap (λ z. z ∷ drop (suc i) its) (sym at)))
-    (is, subst (λ z. AreEntries input (earlier ++ entry ∷ []) (drop z its) more) (add-one i) rest)))
+    let parts = split_at its i (said.End r name) below at in
+    let low = (numbered_front 0 (take i its) (said.End r name) (drop (i + 1) its) (subst (NumberedFrom 0) parts is.script.numbered)).0 in
+    omega (arith, low)
+comes_at input i (said.Publish number set) is below at =
+    let its = input.script.entries in
+    (set_there input (take i its) number set (drop (i + 1) its) is (split_at its i (said.Publish number set) below at)).1
 
--- no line is left
-pub legal_end : (input : Input) (entries : List Entry) (i : ℕ) → length input.script.entries ≤ i → ((rest : List Entry) → AreEntries input entries (drop i input.script.entries) rest → AreEntries input [] input.script.entries (entries ++ rest)) → AreEntries input [] input.script.entries entries
-legal_end input entries i past so_far =
-    subst (AreEntries input [] input.script.entries) (append-nil entries) (so_far [] (subst (λ z. AreEntries input entries z []) (sym (drop_all i input.script.entries past)) tt))
+-- one more line
+pub served_more : (input : Input) (earlier : List LineDone) (lines : List ScriptEntry) (its : List LineDone) (line : ScriptEntry) (it : LineDone) → AreServed input earlier lines its → IsServed input (earlier ++ its) line it →
+    AreServed input earlier (lines ++ line ∷ []) (its ++ it ∷ [])
+served_more input earlier [] [] line it h is = (subst (λ z. IsServed input z line it) (append-nil earlier) is, tt)
+served_more input earlier [] (x ∷ xs) line it h is = absurd h
+served_more input earlier (l ∷ ls) [] line it h is = absurd h
+served_more input earlier (l ∷ ls) (x ∷ xs) line it (h, rest) is =
+    (h, served_more input (earlier ++ x ∷ []) ls xs line it rest (subst (λ z. IsServed input z line it) (sym (append_assoc earlier (x ∷ []) xs)) is))
 
--- a journal has an entry for each line
-pub same_length : (input : Input) (earlier : List Entry) (its : List ScriptEntry) (entries : List Entry) → AreEntries input earlier its entries → length entries ≡ length its
+-- a run has an entry for each line
+pub same_length : (input : Input) (earlier : List LineDone) (lines : List ScriptEntry) (its : List LineDone) → AreServed input earlier lines its → length its ≡ length lines
 same_length input earlier [] [] h = refl
 same_length input earlier [] (x ∷ xs) h = absurd h
-same_length input earlier (it ∷ its) [] h = absurd h
-same_length input earlier (it ∷ its) (x ∷ xs) h = ap suc (same_length input (earlier ++ x ∷ []) its xs h.1)
+same_length input earlier (l ∷ ls) [] h = absurd h
+same_length input earlier (l ∷ ls) (x ∷ xs) h = ap suc (same_length input (earlier ++ x ∷ []) ls xs h.1)
 
--- ---- the same, of a list that is the script's
+pub as_many : (input : Input) (journal : Journal) → Legal input journal → length journal.entries ≡ length input.script.entries
+as_many input journal legal =
+    ap length legal.entries ∙ map_length (λ (it : LineDone). it.entry) legal.served ∙ same_length input [] input.script.entries legal.served legal.lines
+  where
+    map_length : {X Y : Type 0} (f : X → Y) (xs : List X) → length (map f xs) ≡ length xs
+    map_length f xs = length-map xs f
 
-pub next_in : (input : Input) (items : List ScriptEntry) (i : ℕ) (it : ScriptEntry) (earlier : List Entry) (requests kept : List Request) → items ≡ input.script.entries → IsInput input → i < length items → it ≡ get_or items i it
-    → Stand input (contexts_of (take i items)) earlier requests → kept ≡ requests ++ begun_in it → Stand input (contexts_of (take (i + 1) items)) earlier kept
-next_in input items i it earlier requests kept same is =
-    subst
-    (λ z. i < length z → it ≡ get_or z i it → Stand input (contexts_of (take i z)) earlier requests → kept ≡ requests ++ begun_in it
-    → Stand input (contexts_of (take (i + 1) z)) earlier kept)
-    (sym same) (stand_next input i it earlier requests kept is)
+-- ---- a script, line by line
 
-pub known_in : (input : Input) (items : List ScriptEntry) (i : ℕ) (it : ScriptEntry) (earlier : List Entry) (requests kept : List Request) → items ≡ input.script.entries → IsInput input → i < length items → it ≡ get_or items i it
-    → Stand input (contexts_of (take i items)) earlier requests → kept ≡ requests ++ begun_in it → IsKnown kept it
-known_in input items i it earlier requests kept same is =
-    subst
-    (λ z. i < length z → it ≡ get_or z i it → Stand input (contexts_of (take i z)) earlier requests → kept ≡ requests ++ begun_in it → IsKnown kept it)
-    (sym same) (known input i it earlier requests kept is)
+-- what a lane has done after the first i lines
+pub record After (input : Input) (service : Service) (first : Passes) (items : List ScriptEntry) (i : ℕ) (lane : Lane) : Type 0 where
+  pub has : HasServed input service first (take i items) lane
+  pub can : CanServe (drop i items) lane.passes
+  pub requests_room : length lane.requests.items + length (drop i items) ≤ vec_capacity lane.requests
+  pub entries_room : length lane.entries.items + length (drop i items) ≤ vec_capacity lane.entries
 
-pub entry_in : (input : Input) (items : List ScriptEntry) (i : ℕ) (earlier : List Entry) (requests later : List Request) (it : ScriptEntry) (entry : Entry) → items ≡ input.script.entries
-    → Stand input (contexts_of (take (i + 1) items)) earlier requests → IsServed input requests it entry later → IsEntry input earlier it entry
-entry_in input items i earlier requests later it entry same =
-    subst (λ z. Stand input (contexts_of (take (i + 1) z)) earlier requests → IsServed input requests it entry later → IsEntry input earlier it entry) (sym same)
-    (entry_is input (i + 1) earlier requests later it entry)
+pub after_none : (input : Input) (service : Service) (lane : Lane) (items : List ScriptEntry) → AreOf service lane.passes → CanServe items lane.passes → lane.requests.items ≡ [] → length items ≤ vec_capacity lane.requests →
+    lane.entries.items ≡ [] → length items ≤ vec_capacity lane.entries → After input service lane.passes items 0 lane
+after_none input service lane items of can no_requests requests_room no_entries entries_room = record {
+  has = record {
+    served = [];
+    entries = no_entries;
+    lines_are = tt;
+    makes = makes_start lane.passes;
+    of = of;
+    stand = subst (Stand input 0 []) (sym no_requests) (stand_first input);
+  };
+  can = can;
+  requests_room = omega (arith, ap length no_requests, requests_room);
+  entries_room = omega (arith, ap length no_entries, entries_room);
+}
 
-pub step_in : (input : Input) (items : List ScriptEntry) (i : ℕ) (it : ScriptEntry) (entry : Entry) (earlier more : List Entry) → items ≡ input.script.entries
-    → i < length items → it ≡ get_or items i it → IsEntry input earlier it entry
-    → ((rest : List Entry) → AreEntries input earlier (drop i items) rest → AreEntries input [] input.script.entries (earlier ++ rest))
-    → AreEntries input (earlier ++ entry ∷ []) (drop (i + 1) items) more → AreEntries input [] input.script.entries ((earlier ++ entry ∷ []) ++ more)
-step_in input items i it entry earlier more same =
-    subst
-    (λ z. i < length z → it ≡ get_or z i it → IsEntry input earlier it entry
-    → ((rest : List Entry) → AreEntries input earlier (drop i z) rest → AreEntries input [] input.script.entries (earlier ++ rest))
-    → AreEntries input (earlier ++ entry ∷ []) (drop (i + 1) z) more → AreEntries input [] input.script.entries ((earlier ++ entry ∷ []) ++ more))
-    (sym same) (legal_step input i it entry earlier more)
+-- how many requests a line begins
+begins_most : (line : ScriptEntry) → length (context_in line) ≤ 1
+begins_most (said.Begin r name c) = omega arith
+begins_most (said.Ask r name text) = omega arith
+begins_most (said.End r name) = omega arith
+begins_most (said.Publish n set) = omega arith
 
-pub end_in : (input : Input) (items : List ScriptEntry) (entries : List Entry) (i : ℕ) → items ≡ input.script.entries → length items ≤ i
-    → ((rest : List Entry) → AreEntries input entries (drop i items) rest → AreEntries input [] input.script.entries (entries ++ rest)) → AreEntries input [] input.script.entries entries
-end_in input items entries i same =
-    subst (λ z. length z ≤ i → ((rest : List Entry) → AreEntries input entries (drop i z) rest → AreEntries input [] input.script.entries (entries ++ rest)) → AreEntries input [] input.script.entries entries) (sym same)
-    (legal_end input entries i)
+module _ (input : Input) (service : Service) (first : Passes) (items : List ScriptEntry) (is_items : items ≡ input.script.entries) (is : IsInput input) (i : ℕ) (line : ScriptEntry) (below : i < length items)
+    (at : line ≡ get_or items i line) (lane : Lane) (after : After input service first items i lane) where
+  rest_is : drop i items ≡ line ∷ drop (i + 1) items
+  rest_is = drop-cons items i line below ∙ ap (λ z. z ∷ drop (suc i) items) (sym at) ∙ ap (λ z. line ∷ drop z items) (sym (add-one i))
+
+  front_is : take (i + 1) items ≡ take i items ++ line ∷ []
+  front_is = take_more items i line below ∙ ap (λ z. take i items ++ z ∷ []) (sym at)
+
+  left_is : length (drop i items) ≡ length (drop (i + 1) items) + 1
+  left_is = omega (arith, ap length rest_is)
+
+  begun_is : length (contexts_of (take (i + 1) items)) ≡ length (contexts_of (take i items)) + length (context_in line)
+  begun_is =
+      ap (λ z. length (contexts_of z)) front_is ∙ ap length (flat_end context_in (take i items) (line ∷ []) ∙ ap (λ z. contexts_of (take i items) ++ z) (one_flat context_in line))
+      ∙ length-append (contexts_of (take i items)) (context_in line)
+
+  comes : Comes input (length (contexts_of (take i items))) line
+  comes = subst (λ z. i < length z → line ≡ get_or z i line → Comes input (length (contexts_of (take i z))) line) (sym is_items) (comes_at input i line is) below at
+
+  pub can_take : CanTake input service line lane
+  can_take = record {
+    comes = subst (λ z. Comes input z line) (sym after.has.stand.many) comes;
+    askers = askers_of input (length (contexts_of (take i items))) after.has.served lane.requests.items after.has.stand;
+    of = after.has.of;
+    can = can_first line (drop (i + 1) items) lane.passes (subst (λ z. CanServe z lane.passes) rest_is after.can);
+    room = let room = after.requests_room in omega (arith, room, begins_most line, left_is);
+  }
+
+  pub entry_room : length lane.entries.items < vec_capacity lane.entries
+  entry_room = let room = after.entries_room in omega (arith, room, left_is)
+
+  pub after_more : (entry : Entry) (between new : Lane) → Takes input service line entry lane between → new.passes ≡ between.passes → new.requests ≡ between.requests → new.entries.items ≡ between.entries.items ++ entry ∷ [] →
+      vec_capacity new.entries ≡ vec_capacity between.entries → After input service first items (i + 1) new
+  after_more entry between new takes passes requests entries capacity =
+      let it : LineDone = record { entry = entry; made = takes.made } in
+      let n = length (contexts_of (take i items)) in
+      let served = after.has.served in
+      let stand : Stand input (n + length (context_in line)) (served ++ it ∷ []) between.requests.items =
+      stand_on input n served lane.requests.items after.has.stand line it between.requests.items comes takes.does in
+      let items_same : new.requests.items ≡ between.requests.items = ap (λ (v : Vec _ _). v.items) requests in
+      record {
+        has = record {
+          served = served ++ it ∷ [];
+          entries = entries ∙ ap (λ z. z ++ entry ∷ []) (ap (λ (v : Vec _ _). v.items) takes.entries ∙ after.has.entries) ∙ sym (map_push (λ (z : LineDone). z.entry) served it);
+          lines_are = subst (λ z. AreServed input [] z (served ++ it ∷ [])) (sym front_is)
+              (served_more input [] (take i items) served line it after.has.lines_are (served_is input n served lane.requests.items after.has.stand line it between.requests.items takes.does));
+          makes = subst (MakesAll (served ++ it ∷ []) first) (sym passes) (makes_on served (it ∷ []) first lane.passes between.passes after.has.makes takes.makes);
+          of = subst (AreOf service) (sym passes) takes.of;
+          stand = subst (λ z. Stand input z (served ++ it ∷ []) new.requests.items) (sym begun_is) (subst (Stand input (n + length (context_in line)) (served ++ it ∷ [])) (sym items_same) stand);
+        };
+        can = subst (CanServe (drop (i + 1) items)) (sym passes)
+            (can_rest input lane.requests.items line (drop (i + 1) items) it between.requests.items lane.passes between.passes takes.does (subst (λ z. CanServe z lane.passes) rest_is after.can) takes.makes);
+        requests_room =
+            let room = after.requests_room in
+            let many = after.has.stand.many in
+            let now : length between.requests.items ≡ n + length (context_in line) = stand.many in
+            omega (arith, room, many, now, begins_most line, left_is, ap length items_same, takes.room, ap vec_capacity requests);
+        entries_room =
+            let room = after.entries_room in
+            let before : length between.entries.items ≡ length lane.entries.items = ap (λ (v : Vec _ _). length v.items) takes.entries in
+            omega (arith, room, left_is, ap length entries, length-append between.entries.items (entry ∷ []), before, capacity, ap vec_capacity takes.entries);
+      }
+
+pub has_all : (input : Input) (service : Service) (first : Passes) (items : List ScriptEntry) → items ≡ input.script.entries → (i : ℕ) → length items ≤ i → (lane : Lane) → After input service first items i lane →
+    HasServed input service first input.script.entries lane
+has_all input service first items is i past lane after = subst (λ z. HasServed input service first z lane) (take_all i items past ∙ is) after.has

@@ -1,6 +1,9 @@
 -- What a run does with its input.
-use Rattle.std.specs.Prelude.{◌≡◌, ◌≤◌, ◌==◌, ℕ, List, [], ◌∷◌, ◌++◌, ⊤, Bool, true, false, if◌then◌else◌, All, Some, slice_get}
+use Rattle.std.specs.Prelude.{◌≡◌, ◌⊎◌, ◌≤◌, ◌<◌, ◌==◌, ℕ, List, [], ◌∷◌, ◌++◌, ⊤, Bool, true, false, if◌then◌else◌, All, Contains, Some, length, map, slice_get, slice_index_or}
 use Rattle.std.specs.List.{AllZip, flat_map, list_any}
+use Rattle.ba_cache.specs.Passes.{ClosedShelf}
+use Rattle.ba_cache.specs.Reads as shelf
+use Rattle.ba_cache.specs.Rows as shelves
 use Rattle.ba_comply.specs.declared.trace.TraceEntry.{TraceEntry}
 use Rattle.ba_kernel.specs.Courses.{RuleFits}
 use Rattle.ba_model.specs.Conform.{Conforms, RowFits}
@@ -10,18 +13,27 @@ use Rattle.ba_model.specs.declared.limits.TheConstants.{MAX_BUDGET}
 use Rattle.ba_model.specs.declared.policy.Context.{Context}
 use Rattle.ba_model.specs.declared.schema.Table.{Table}
 use Rattle.ba_model.specs.declared.value.Value.{Value}
+use Rattle.ba_script.specs.Reading.{published}
 use Rattle.ba_script.specs.Scripts.{IsScript}
 use Rattle.ba_script.specs.declared.entry.Script.{Script}
 use Rattle.ba_script.specs.declared.entry.ScriptEntry.{ScriptEntry}
 use Rattle.ba_script.specs.declared.entry.ScriptEntry.TheVariants as said
 use Rattle.ba_session.specs.Asking.{Replies, answer_in}
+use Rattle.ba_session.specs.Passing.{ShelfCalls, calls_on}
 use Rattle.ba_session.specs.declared.reply.Reply.{Reply}
-use Rattle.ba_session.specs.declared.reply.Reply.TheVariants.{Answer, Blocked, Unread, NoMemory}
+use Rattle.ba_session.specs.declared.reply.Reply.TheVariants as reply
 use Rattle.ba_session.specs.declared.request.Request.{Request}
+use Rattle.ba_session.specs.declared.service.Closed.{Closed}
+use Rattle.ba_tables.specs.TableSet.{TableSet}
+use Rattle.ba_top.specs.Published.{IsSetOf}
 use Rattle.ba_top.specs.declared.report.Entry.{Entry}
-use Rattle.ba_top.specs.declared.report.Entry.TheVariants.{Begin, Ask, End}
+use Rattle.ba_top.specs.declared.report.Entry.TheVariants.{Begin, Unbegun, Ask, End, Publish, NoMemory}
 use Rattle.ba_top.specs.declared.report.Input.{Input}
 use Rattle.ba_top.specs.declared.report.Journal.{Journal}
+use Rattle.ba_versions.specs.Calls as versions
+use Rattle.ba_versions.specs.Reads.{calls_of, published as publication, versions_of}
+use Rattle.ba_versions.specs.declared.call.VersionCall.{VersionCall}
+use Rattle.ba_versions.specs.declared.call.VersionCall.TheVariants.{Pin, Refused}
 
 -- the rows fit their tables, list by list
 abbrev pub RowsOfTables : List Table → List (List (List Value)) → Type 0
@@ -33,6 +45,7 @@ abbrev pub context_in : ScriptEntry → List Context
 context_in (said.Begin request name context) = context ∷ []
 context_in (said.Ask request name text) = []
 context_in (said.End request name) = []
+context_in (said.Publish number set) = []
 
 -- the contexts of the requests, in the order of their begin lines
 abbrev pub contexts_of : List ScriptEntry → List Context
@@ -45,69 +58,173 @@ HasContext script number context = slice_get (contexts_of script.entries) number
 -- ---- the input
 
 -- The input belongs together: the policy fits its schema, which is well formed, the tables are of that schema and conform to it, the
--- script is one for the policy's parameters, and the budget is within its limit.
+-- script is one for the policy's parameters, there is a table set for each of its publish lines, of that schema too, and the budget is
+-- within its limit.
 pub record IsInput (input : Input) : Type 0 where
   pub policy : PolicyFits input.policy
   pub schema : input.tables.schema ≡ input.policy.schema
   pub conform : Conforms input.policy.schema input.tables.rows
   pub script : IsScript input.policy.params input.script
+  pub sets : All (IsSetOf input.policy.schema) input.published
+  pub one_each : length input.published ≡ published input.script.entries
   pub budget : input.budget ≤ MAX_BUDGET
   pub tables_are : AreTables input.policy.schema.tables
   pub rules : All (RuleFits input.policy.schema) input.policy.schema.rules
 
--- ---- requests after some entries
+-- ---- lines
+
+-- the calls that a line makes: on the versions, and on the shelf of a shard
+pub record LineCalls : Type 0 where
+  pub versions : List VersionCall
+  pub shelves : ShelfCalls
+
+abbrev pub on_versions : List VersionCall → LineCalls
+on_versions calls = record { versions = calls; shelves = record { shard = 0; calls = [] } }
+
+abbrev pub on_shelves : ShelfCalls → LineCalls
+on_shelves calls = record { versions = []; shelves = calls }
+
+-- a line that makes no call
+abbrev pub no_calls : LineCalls
+no_calls = on_versions []
+
+-- the call by which a request begins over a version
+abbrev pub pin_of : ℕ → TableSet → VersionCall
+pin_of version tables = Pin version (record { marker = record {}; value = tables })
+
+-- what became of a line: its entry, and the calls that it made
+pub record LineDone : Type 0 where
+  pub entry : Entry
+  pub made : LineCalls
+
+-- ---- requests after some lines
 
 -- the answer that the entry gives this request, if it gives one
 abbrev pub answer_of : ℕ → Entry → List TraceEntry
 answer_of number (Begin request version) = []
-answer_of number (Ask request version reply) = if request == number then answer_in reply else []
+answer_of number (Unbegun request) = []
+answer_of number (Ask request version it) = if request == number then answer_in it else []
 answer_of number (End request) = []
+answer_of number (Publish version) = []
+answer_of number NoMemory = []
 
 -- the trace of a request: the answers that entries give it, in order
-abbrev pub trace_of : ℕ → List Entry → List TraceEntry
-trace_of number entries = flat_map (answer_of number) entries
+abbrev pub trace_in : ℕ → List Entry → List TraceEntry
+trace_in number entries = flat_map (answer_of number) entries
 
--- the request with this number as it stands after earlier entries: it has the context of its begin line, and was told what they answer it
-pub record IsRequest (input : Input) (earlier : List Entry) (number : ℕ) (asker : Request) : Type 0 where
+abbrev pub trace_of : ℕ → List LineDone → List TraceEntry
+trace_of number earlier = flat_map (λ it. answer_of number it.entry) earlier
+
+-- the line begins the request over this version of the tables, which it pins
+abbrev pub begins : ℕ → ℕ → TableSet → LineDone
+begins number version tables = record { entry = Begin number version; made = on_versions (pin_of version tables ∷ []) }
+
+-- the request with this number as it stands after earlier lines: it began over its version of the tables, has the context of its begin line, and was told what they
+-- answer it
+pub record IsRequest (input : Input) (earlier : List LineDone) (number : ℕ) (asker : Request) : Type 0 where
+  pub begun : Contains earlier (begins number asker.version asker.tables)
   pub context : HasContext input.script number asker.context
   pub trace : asker.trace ≡ trace_of number earlier
 
+-- the request found no memory when it began
+abbrev pub IsLost : List LineDone → ℕ → Type 0
+IsLost earlier number = (version : ℕ) (tables : TableSet) → ¬ (Contains earlier (begins number version tables))
+
 -- ---- entries
 
--- the entry is of a question of the request over version 0 of the tables, with the reply that it has after earlier entries
-pub record IsAsk (input : Input) (earlier : List Entry) (request : ℕ) (text : List ℕ) (entry : Entry) : Type 0 where
+-- the request begins over a version, which it pins
+pub record IsBegun (request : ℕ) (it : LineDone) : Type 0 where
+  pub version : ℕ
+  pub tables : TableSet
+  pub is : it ≡ begins request version tables
+
+-- the line finds no memory, before its call on the versions or in it
+abbrev pub IsUnbegun : ℕ → LineDone → Type 0
+IsUnbegun request it = (it.entry ≡ Unbegun request) × ((it.made ≡ no_calls) ⊎ (it.made ≡ on_versions (Refused ∷ [])))
+
+-- the line finds no memory, and makes no call
+abbrev pub IsUnserved : LineDone → Type 0
+IsUnserved it = it ≡ record { entry = NoMemory; made = no_calls }
+
+-- a question of the request, with the reply that it has after earlier lines
+pub record IsAsk (input : Input) (earlier : List LineDone) (request : ℕ) (text : List ℕ) (it : LineDone) : Type 0 where
   pub asker : Request
   pub asks : IsRequest input earlier request asker
   pub reply : Reply
-  pub is : entry ≡ Ask request 0 reply
-  pub replies : Replies input.policy input.tables.rows asker input.budget text reply
+  pub calls : ShelfCalls
+  pub replies : Replies input.policy asker input.budget text calls reply
+  pub is : it ≡ record { entry = Ask request asker.version reply; made = on_shelves calls }
 
--- what a line's entry is, after earlier entries
-abbrev pub IsEntry : Input → List Entry → ScriptEntry → Entry → Type 0
-IsEntry input earlier (said.Begin request name context) entry = entry ≡ Begin request 0
-IsEntry input earlier (said.Ask request name text) entry = IsAsk input earlier request text entry
-IsEntry input earlier (said.End request name) entry = entry ≡ End request
+-- the request, which had begun, ends
+pub record IsEnd (earlier : List LineDone) (request : ℕ) (it : LineDone) : Type 0 where
+  pub version : ℕ
+  pub tables : TableSet
+  pub begun : Contains earlier (begins request version tables)
+  pub is : it ≡ record { entry = End request; made = no_calls }
 
--- the lines and their entries, one by one, after earlier entries
-abbrev pub AreEntries : Input → List Entry → List ScriptEntry → List Entry → Type 0
-AreEntries input earlier [] [] = ⊤
-AreEntries input earlier [] (entry ∷ entries) = ⊥
-AreEntries input earlier (line ∷ lines) [] = ⊥
-AreEntries input earlier (line ∷ lines) (entry ∷ entries) = IsEntry input earlier line entry × AreEntries input (earlier ++ entry ∷ []) lines entries
+-- the table set of the publish line with this number becomes a version
+pub record IsPublish (input : Input) (number : ℕ) (it : LineDone) : Type 0 where
+  pub tables : TableSet
+  pub there : slice_get input.published number ≡ Some tables
+  pub version : ℕ
+  pub is : it ≡ record { entry = Publish version; made = on_versions (publication tables version ∷ []) }
 
--- One entry for each line of the script, in order. A request has an empty trace at its begin line, and each of its questions has the
--- reply of the request as it then stands, under the input's budget.
+-- what becomes of a line, after earlier lines
+abbrev pub IsServed : Input → List LineDone → ScriptEntry → LineDone → Type 0
+IsServed input earlier (said.Begin request name context) it = IsBegun request it ⊎ IsUnbegun request it
+IsServed input earlier (said.Ask request name text) it = IsAsk input earlier request text it ⊎ (IsLost earlier request × IsUnserved it)
+IsServed input earlier (said.End request name) it = IsEnd earlier request it ⊎ (IsLost earlier request × IsUnserved it)
+IsServed input earlier (said.Publish number set) it = IsPublish input number it ⊎ IsUnserved it
+
+-- the lines and what becomes of them, one by one, after earlier lines
+abbrev pub AreServed : Input → List LineDone → List ScriptEntry → List LineDone → Type 0
+AreServed input earlier [] [] = ⊤
+AreServed input earlier [] (it ∷ its) = ⊥
+AreServed input earlier (line ∷ lines) [] = ⊥
+AreServed input earlier (line ∷ lines) (it ∷ its) = IsServed input earlier line it × AreServed input (earlier ++ it ∷ []) lines its
+
+-- ---- histories
+
+-- all calls are those of the one worker
+abbrev pub AreOfWorker : List ℕ → Type 0
+AreOfWorker numbers = All (λ n. n ≡ 1) numbers
+
+-- the versions' calls are those of the lines, in order, and legal from the input's tables on
+pub record HasVersions (input : Input) (served : List LineDone) (histories : Closed) : Type 0 where
+  pub calls : calls_of histories.versions ≡ flat_map (λ it. it.made.versions) served
+  pub numbers : AreOfWorker histories.numbers.items
+  pub legal : ∥ versions.Legal input.tables (calls_of histories.versions) (versions_of histories.versions) ∥₁
+
+-- the calls of the shelf k are those of the lines, in order, and legal from an empty shelf on
+pub record HasShelf (served : List LineDone) (k : ℕ) (it : ClosedShelf) : Type 0 where
+  pub calls : shelf.calls_of it.0 ≡ flat_map (λ line. calls_on k line.made.shelves) served
+  pub numbers : AreOfWorker it.1.items
+  pub legal : ∥ shelves.Legal (shelf.calls_of it.0) (shelf.rows_of it.0) ∥₁
+
+pub record HasShelves (served : List LineDone) (histories : Closed) : Type 0 where
+  pub eight : length histories.shelves.items ≡ 8
+  pub each : (k : ℕ) (d : ClosedShelf) → k < 8 → HasShelf served k (slice_index_or histories.shelves.items k d)
+
+-- One entry for each line of the script, in order, and the calls of these lines are the histories of the versions and of the shelves. A request begins over the version
+-- that was the last one, with an empty trace, and each of its questions has the reply of the request as it then stands, under the input's budget.
 pub record Legal (input : Input) (journal : Journal) : Type 0 where
   pub input_fits : IsInput input
-  pub entries : AreEntries input [] input.script.entries journal.entries
+  pub served : List LineDone
+  pub entries : journal.entries ≡ map (λ it. it.entry) served
+  pub lines : AreServed input [] input.script.entries served
+  pub versions : HasVersions input served journal.histories
+  pub shelves : HasShelves served journal.histories
 
 unfoldable pub is_memory : Entry → Bool
 is_memory (Begin request version) = false
-is_memory (Ask request version (Answer query rows by)) = false
-is_memory (Ask request version (Blocked query why)) = false
-is_memory (Ask request version (Unread fault)) = false
-is_memory (Ask request version NoMemory) = true
+is_memory (Unbegun request) = true
+is_memory (Ask request version (reply.Answer query rows by)) = false
+is_memory (Ask request version (reply.Blocked query why)) = false
+is_memory (Ask request version (reply.Unread fault)) = false
+is_memory (Ask request version reply.NoMemory) = true
 is_memory (End request) = false
+is_memory (Publish version) = false
+is_memory NoMemory = true
 
 -- whether some line answered want of memory
 abbrev pub lacks_memory : Journal → Bool

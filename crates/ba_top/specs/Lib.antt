@@ -1,6 +1,7 @@
 pub mod Path
 pub mod Refusals
 pub mod Reading
+pub mod Published
 pub mod Legal
 pub mod Checking
 pub mod Serving

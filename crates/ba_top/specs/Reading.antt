@@ -1,5 +1,6 @@
 -- How what the words name is read.
-use Rattle.std.specs.Prelude.{ℕ, List, [], ◌∷◌, ◌++◌, Result, Ok, Err}
+use Rattle.std.specs.Prelude.{ℕ, List, [], ◌∷◌, ◌++◌, Option, Some, None, Result, Ok, Err}
+use Rattle.std.specs.Option.{option_to_list}
 use Rattle.ba_command.specs.Words.{command_of}
 use Rattle.ba_command.specs.declared.command.Command.{Command}
 use Rattle.ba_command.specs.declared.command.Command.TheVariants.{Run, Check}
@@ -16,6 +17,9 @@ use Rattle.ba_policy.specs.Reading.{policy_of}
 use Rattle.ba_proof.specs.Reading.{proof_of}
 use Rattle.ba_proof.specs.declared.proof.Proof.{Proof}
 use Rattle.ba_script.specs.Reading.{script_of}
+use Rattle.ba_script.specs.declared.entry.Script.{Script}
+use Rattle.ba_script.specs.declared.entry.ScriptEntry.{ScriptEntry}
+use Rattle.ba_script.specs.declared.entry.ScriptEntry.TheVariants as said
 use Rattle.ba_sql_ddl.specs.Reading.{schema_of}
 use Rattle.ba_tables.specs.Broken.{checked}
 use Rattle.ba_tables.specs.TableFile.{rows_of_file}
@@ -59,11 +63,32 @@ tables_plan set schema = do
   lists ← rows_plan set schema.tables []
   found (widened (broken_refusal set schema) (checked schema (record { tables = lists })))
 
+-- the table set that a line publishes, if it does
+abbrev pub set_plan : Schema → ScriptEntry → Plan Refusal (Option TableSet)
+set_plan schema (said.Begin request name context) = done None
+set_plan schema (said.Ask request name text) = done None
+set_plan schema (said.End request name) = done None
+set_plan schema (said.Publish number set) = do
+  tables ← tables_plan set schema
+  done (Some tables)
+
+-- the table sets that the lines publish, behind those that were read before
+abbrev pub sets_plan : Schema → List ScriptEntry → List TableSet → Plan Refusal (List TableSet)
+sets_plan schema [] sets = done sets
+sets_plan schema (entry ∷ entries) sets = do
+  set ← set_plan schema entry
+  sets_plan schema entries (sets ++ option_to_list set)
+
+abbrev pub published_plan : ℕ → Policy → TableSet → Script → Plan Refusal Input
+published_plan budget policy tables script = do
+  published ← sets_plan policy.schema script.entries []
+  done (record { policy = policy; tables = tables; script = script; published = published; budget = budget })
+
 abbrev pub script_plan : List ℕ → ℕ → Policy → TableSet → Plan Refusal Input
 script_plan name budget policy tables = do
   bytes ← file_of name
   script ← found (widened (script_refusal name) (script_of policy.params bytes))
-  done (record { policy = policy; tables = tables; script = script; budget = budget })
+  published_plan budget policy tables script
 
 abbrev pub rest_plan : Names → Schema → Policy → Plan Refusal Input
 rest_plan names schema policy = do
@@ -76,7 +101,8 @@ policy_plan names schema = do
   policy ← found (widened (policy_refusal names.policy) (policy_of schema bytes))
   rest_plan names schema policy
 
--- first the schema, then the policy, then the tables in the schema's order with their keys and links, then the script
+-- first the schema, then the policy, then the tables in the schema's order with their keys and links, then the script, and then the table
+-- sets that its lines publish, in their order, each as the first
 abbrev pub reading_of : Names → Plan Refusal Input
 reading_of names = do
   bytes ← file_of names.schema

@@ -1,52 +1,149 @@
 -- What is known between the lines of a script.
-use Rattle.std.specs.Prelude.{◌≡◌, ℕ, ◌<◌, ◌≤◌, List, [], ◌∷◌, ◌++◌, ⊤, All, Some, length, map, slice_get, slice_set}
+use Rattle.std.specs.Prelude.{◌≡◌, ◌⊎◌, ℕ, ◌+◌, ◌*◌, ◌<◌, ◌≤◌, List, [], ◌∷◌, ◌++◌, Bool, true, false, Option, Some, None, count_by, length, map, slice_get, slice_set, vec_capacity}
+use Rattle.std.specs.List.{flat_map}
+use Rattle.ba_cache.specs.Passes.{known_on}
+use Rattle.ba_model.specs.Fit.{ContextFits, kinds_of}
 use Rattle.ba_model.specs.declared.policy.Context.{Context}
 use Rattle.ba_script.specs.declared.entry.ScriptEntry.{ScriptEntry}
 use Rattle.ba_script.specs.declared.entry.ScriptEntry.TheVariants as said
-use Rattle.ba_session.specs.Asking.{IsAsker, Replies, answer_in}
+use Rattle.ba_session.specs.Asking.{IsAsker, IsBegun, Replies, answer_in}
+use Rattle.ba_session.specs.Passing.{AreOf, HasRoom, MakesCalls, ShelfCalls, calls_on}
 use Rattle.ba_session.specs.declared.reply.Reply.{Reply}
 use Rattle.ba_session.specs.declared.request.Request.{Request}
-use Rattle.ba_top.specs.Legal.{trace_of}
+use Rattle.ba_session.specs.declared.service.Passes.{Passes}
+use Rattle.ba_session.specs.declared.service.Service.{Service}
+use Rattle.ba_top.specs.Legal.{AreServed, HasContext, IsLost, IsPublish, IsRequest, IsUnbegun, IsUnserved, LineCalls, LineDone, begins, context_in, contexts_of, no_calls, on_shelves, trace_of}
+use Rattle.ba_top.specs.declared.lane.Lane.{Lane}
 use Rattle.ba_top.specs.declared.report.Entry.{Entry}
-use Rattle.ba_top.specs.declared.report.Entry.TheVariants.{Begin, Ask, End}
+use Rattle.ba_top.specs.declared.report.Entry.TheVariants.{Ask, End}
 use Rattle.ba_top.specs.declared.report.Input.{Input}
+use Rattle.ba_turn.specs.Passes.{known_by}
 
--- the request that a line begins
-abbrev pub begun_in : ScriptEntry → List Request
-begun_in (said.Begin request name context) = record { context = context; trace = [] } ∷ []
-begun_in (said.Ask request name text) = []
-begun_in (said.End request name) = []
+-- ---- how many calls lines may make
 
--- the request that asks has begun
-abbrev pub IsKnown : List Request → ScriptEntry → Type 0
-IsKnown requests (said.Begin request name context) = ⊤
-IsKnown requests (said.Ask request name text) = request < length requests
-IsKnown requests (said.End request name) = ⊤
+-- the line makes a call on the versions
+unfoldable pub calls_versions : ScriptEntry → Bool
+calls_versions (said.Begin request name context) = true
+calls_versions (said.Ask request name text) = false
+calls_versions (said.End request name) = false
+calls_versions (said.Publish number set) = true
 
--- each may ask
-abbrev pub AreAskers : Input → List Request → Type 0
-AreAskers input requests = All (IsAsker input.policy input.tables.rows) requests
+unfoldable pub is_ask : ScriptEntry → Bool
+is_ask (said.Begin request name context) = false
+is_ask (said.Ask request name text) = true
+is_ask (said.End request name) = false
+is_ask (said.Publish number set) = false
+
+-- on the versions, and on a shelf: a look and an admit for each question
+abbrev pub version_calls : List ScriptEntry → ℕ
+version_calls lines = count_by calls_versions lines
+
+abbrev pub shelf_calls : List ScriptEntry → ℕ
+shelf_calls lines = 2 * count_by is_ask lines
+
+-- the passes have what these lines may take
+pub record CanServe (lines : List ScriptEntry) (p : Passes) : Type 0 where
+  pub versions : version_calls lines ≤ (known_by p.versions).left
+  pub shelves : HasRoom (shelf_calls lines) p
+
+-- the calls of lines take the passes from old to new
+pub record MakesAll (served : List LineDone) (old new : Passes) : Type 0 where
+  pub versions : MakesCalls (known_by old.versions) (known_by new.versions) (flat_map (λ it. it.made.versions) served)
+  pub shelves : (k : ℕ) → k < 8 → MakesCalls (known_on old.cache k) (known_on new.cache k) (flat_map (λ it. calls_on k it.made.shelves) served)
+
+-- ---- requests
+
+-- the request as it stands after earlier lines, which may ask
+pub record IsStanding (input : Input) (earlier : List LineDone) (number : ℕ) (asker : Request) : Type 0 where
+  pub asks : IsRequest input earlier number asker
+  pub may : IsAsker input.policy asker
+
+-- a place of the requests, by their numbers, after earlier lines: the request, or that it is lost
+abbrev pub StandsIn : Input → List LineDone → ℕ → Option Request → Type 0
+StandsIn input earlier number (Some asker) = IsStanding input earlier number asker
+StandsIn input earlier number None = IsLost earlier number
+
+-- The requests that have begun, so many, as they stand after earlier lines; those lines are of no other request.
+pub record Stand (input : Input) (begun : ℕ) (earlier : List LineDone) (requests : List (Option Request)) : Type 0 where
+  pub many : length requests ≡ begun
+  pub places : (number : ℕ) (it : Option Request) → slice_get requests number ≡ Some it → StandsIn input earlier number it
+  pub untold : (number : ℕ) → begun ≤ number → trace_of number earlier ≡ []
+  pub unbegun : (number : ℕ) → begun ≤ number → IsLost earlier number
+
+-- each request may ask
+pub record AreAskers (input : Input) (requests : List (Option Request)) : Type 0 where
+  pub each : (number : ℕ) (asker : Request) → slice_get requests number ≡ Some (Some asker) → IsAsker input.policy asker
+
+-- the next request begins, over a version that it pins
+pub record Begins (input : Input) (requests : List (Option Request)) (request : ℕ) (context : Context) (it : LineDone) (later : List (Option Request)) : Type 0 where
+  pub asker : Request
+  pub is : it ≡ begins request asker.version asker.tables
+  pub begun : IsBegun context asker
+  pub may : IsAsker input.policy asker
+  pub later_is : later ≡ requests ++ Some asker ∷ []
 
 -- a question gets a reply, and its request alone changes, by the answer
-pub record IsAsked (input : Input) (requests : List Request) (number : ℕ) (text : List ℕ) (reply : Reply) (later : List Request) : Type 0 where
+pub record Asks (input : Input) (requests : List (Option Request)) (request : ℕ) (text : List ℕ) (it : LineDone) (later : List (Option Request)) : Type 0 where
   pub asker : Request
-  pub is_there : slice_get requests number ≡ Some asker
-  pub replies : Replies input.policy input.tables.rows asker input.budget text reply
-  pub next : Request
-  pub context : next.context ≡ asker.context
-  pub trace : next.trace ≡ asker.trace ++ answer_in reply
-  pub asks_on : IsAsker input.policy input.tables.rows next
-  pub later_is : later ≡ slice_set requests number next
+  pub there : slice_get requests request ≡ Some (Some asker)
+  pub reply : Reply
+  pub calls : ShelfCalls
+  pub replies : Replies input.policy asker input.budget text calls reply
+  pub is : it ≡ record { entry = Ask request asker.version reply; made = on_shelves calls }
+  pub may : IsAsker input.policy (record asker { trace = asker.trace ++ answer_in reply })
+  pub later_is : later ≡ slice_set requests request (Some (record asker { trace = asker.trace ++ answer_in reply }))
 
--- what a line's entry is, and what becomes of the requests
-abbrev pub IsServed : Input → List Request → ScriptEntry → Entry → List Request → Type 0
-IsServed input requests (said.Begin request name context) entry later = (entry ≡ Begin request 0) × (later ≡ requests)
-IsServed input requests (said.Ask request name text) entry later = (reply : Reply) × (entry ≡ Ask request 0 reply) × IsAsked input requests request text reply later
-IsServed input requests (said.End request name) entry later = (entry ≡ End request) × (later ≡ requests)
+-- the request, which has begun, ends
+pub record Ends (requests : List (Option Request)) (request : ℕ) (it : LineDone) : Type 0 where
+  pub asker : Request
+  pub there : slice_get requests request ≡ Some (Some asker)
+  pub is : it ≡ record { entry = End request; made = no_calls }
 
--- The requests that have begun, as they stand after earlier entries: these contexts, and what they were told.
-pub record Stand (input : Input) (contexts : List Context) (earlier : List Entry) (requests : List Request) : Type 0 where
-  pub contexts_are : map (λ (it : Request). it.context) requests ≡ contexts
-  pub askers : AreAskers input requests
-  pub told : (number : ℕ) (it : Request) → slice_get requests number ≡ Some it → it.trace ≡ trace_of number earlier
-  pub untold : (number : ℕ) → length requests ≤ number → trace_of number earlier ≡ []
+-- the request is lost, and the line makes no call
+abbrev pub FindsLost : List (Option Request) → ℕ → LineDone → Type 0
+FindsLost requests request it = (slice_get requests request ≡ Some None) × IsUnserved it
+
+abbrev pub EndsOrLost : List (Option Request) → ℕ → LineDone → Type 0
+EndsOrLost requests request it = Ends requests request it ⊎ FindsLost requests request it
+
+-- what becomes of a line, and of the requests
+abbrev pub Does : Input → List (Option Request) → ScriptEntry → LineDone → List (Option Request) → Type 0
+Does input requests (said.Begin request name context) it later = Begins input requests request context it later ⊎ (IsUnbegun request it × (later ≡ requests ++ None ∷ []))
+Does input requests (said.Ask request name text) it later = Asks input requests request text it later ⊎ (FindsLost requests request it × (later ≡ requests))
+Does input requests (said.End request name) it later = EndsOrLost requests request it × (later ≡ requests)
+Does input requests (said.Publish number set) it later = (IsPublish input number it ⊎ IsUnserved it) × (later ≡ requests)
+
+-- The line comes after so many begin lines: it begins the next request, or is of one that has begun; or its table set is there.
+abbrev pub Comes : Input → ℕ → ScriptEntry → Type 0
+Comes input begun (said.Begin request name context) = (request ≡ begun) × ContextFits (kinds_of input.policy.params) context × HasContext input.script request context
+Comes input begun (said.Ask request name text) = request < begun
+Comes input begun (said.End request name) = request < begun
+Comes input begun (said.Publish number set) = number < length input.published
+
+-- ---- a lane
+
+-- a lane with these requests can serve the line
+pub record CanTake (input : Input) (service : Service) (line : ScriptEntry) (lane : Lane) : Type 0 where
+  pub comes : Comes input (length lane.requests.items) line
+  pub askers : AreAskers input lane.requests.items
+  pub of : AreOf service lane.passes
+  pub can : CanServe (line ∷ []) lane.passes
+  pub room : length lane.requests.items + length (context_in line) ≤ vec_capacity lane.requests
+
+-- what a lane does with a line
+pub record Takes (input : Input) (service : Service) (line : ScriptEntry) (entry : Entry) (old new : Lane) : Type 0 where
+  pub made : LineCalls
+  pub does : Does input old.requests.items line (record { entry = entry; made = made }) new.requests.items
+  pub makes : MakesAll (record { entry = entry; made = made } ∷ []) old.passes new.passes
+  pub of : AreOf service new.passes
+  pub entries : new.entries ≡ old.entries
+  pub room : vec_capacity new.requests ≡ vec_capacity old.requests
+
+-- What a lane has done after the first lines of the script: they are served, its passes made their calls, and its requests stand.
+pub record HasServed (input : Input) (service : Service) (first : Passes) (lines : List ScriptEntry) (lane : Lane) : Type 0 where
+  pub served : List LineDone
+  pub entries : lane.entries.items ≡ map (λ it. it.entry) served
+  pub lines_are : AreServed input [] lines served
+  pub makes : MakesAll served first lane.passes
+  pub of : AreOf service lane.passes
+  pub stand : Stand input (length (contexts_of lines)) served lane.requests.items

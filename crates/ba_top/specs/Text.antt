@@ -4,16 +4,16 @@ use Rattle.ba_script.specs.declared.entry.Script.{Script}
 use Rattle.ba_script.specs.declared.entry.ScriptEntry.{ScriptEntry}
 use Rattle.ba_script.specs.declared.entry.ScriptEntry.TheVariants as said
 use Rattle.ba_session.specs.declared.reply.By.{By}
-use Rattle.ba_session.specs.declared.reply.By.TheVariants.{Cover, Proof}
+use Rattle.ba_session.specs.declared.reply.By.TheVariants.{Cover, Template, Proof}
 use Rattle.ba_session.specs.declared.reply.Reply.{Reply}
 use Rattle.ba_session.specs.declared.reply.Reply.TheVariants.{Answer, Blocked, Unread, NoMemory}
 use Rattle.ba_session.specs.declared.reply.Why.{Why}
 use Rattle.ba_session.specs.declared.reply.Why.TheVariants.{Refuted, Spent, Stuck}
 use Rattle.ba_top.specs.Legal.{is_memory}
 use Rattle.ba_top.specs.declared.report.Entry.{Entry}
-use Rattle.ba_top.specs.declared.report.Entry.TheVariants.{Begin, Ask, End}
+use Rattle.ba_top.specs.declared.report.Entry.TheVariants.{Begin, Unbegun, Ask, End, Publish, NoMemory as Unserved}
 use Rattle.ba_top.specs.declared.report.Journal.{Journal}
-use Rattle.ba_wire.specs.Printed.{Printed, begin, end, answer, block, unread, memory, line_bytes, summary_bytes}
+use Rattle.ba_wire.specs.Printed.{Printed, begin, end, publish, answer, block, unread, memory, line_bytes, summary_bytes}
 use Rattle.ba_wire.specs.declared.line.By.{By as PrintedBy}
 use Rattle.ba_wire.specs.declared.line.By.TheVariants as by
 use Rattle.ba_wire.specs.declared.line.Block.{Block}
@@ -23,7 +23,8 @@ use Rattle.ba_wire.specs.declared.summary.Summary.{Summary}
 -- what a line says of the ground of an answer
 abbrev pub printed_by : By → PrintedBy
 printed_by (Cover cover) = by.Cover
-printed_by (Proof steps) = by.Proof
+printed_by (Template shard id found) = by.Template
+printed_by (Proof steps keeping) = by.Proof
 
 -- what a line says of the reason of a block
 abbrev pub printed_block : Why → Block
@@ -38,17 +39,21 @@ reply_line name line version (Blocked query why) = block (printed_block why) lin
 reply_line name line version (Unread fault) = unread line name fault version
 reply_line name line version NoMemory = memory line
 
--- what the line of an entry says, whose request has this name; lines are numbered from 1
+-- what the line of an entry says, whose request or table set has this name; lines are numbered from 1
 abbrev pub entry_line : List ℕ → ℕ → Entry → Printed
 entry_line name line (Begin request version) = begin name line version
+entry_line name line (Unbegun request) = memory line
 entry_line name line (Ask request version reply) = reply_line name line version reply
 entry_line name line (End request) = end name line
+entry_line name line (Publish version) = publish line name version
+entry_line name line Unserved = memory line
 
--- the name of the request that a line is of
+-- the name of the request that a line is of, or of the table set that it publishes
 abbrev pub name_in : ScriptEntry → List ℕ
 name_in (said.Begin request name context) = name
 name_in (said.Ask request name text) = name
 name_in (said.End request name) = name
+name_in (said.Publish number set) = set
 
 -- the bytes of the line of an entry, for a line of the script
 unfoldable pub entry_bytes : ScriptEntry → ℕ → Entry → List ℕ
@@ -64,6 +69,9 @@ unfoldable pub is_begin : Entry → Bool
 is_begin (Begin request version) = true
 is_begin (Ask request version reply) = false
 is_begin (End request) = false
+is_begin (Unbegun request) = true
+is_begin (Publish version) = false
+is_begin Unserved = false
 
 unfoldable pub is_answer : Entry → Bool
 is_answer (Begin request version) = false
@@ -72,6 +80,9 @@ is_answer (Ask request version (Blocked query why)) = false
 is_answer (Ask request version (Unread fault)) = false
 is_answer (Ask request version NoMemory) = false
 is_answer (End request) = false
+is_answer (Unbegun request) = false
+is_answer (Publish version) = false
+is_answer Unserved = false
 
 unfoldable pub is_block : Entry → Bool
 is_block (Begin request version) = false
@@ -80,6 +91,9 @@ is_block (Ask request version (Blocked query why)) = true
 is_block (Ask request version (Unread fault)) = false
 is_block (Ask request version NoMemory) = false
 is_block (End request) = false
+is_block (Unbegun request) = false
+is_block (Publish version) = false
+is_block Unserved = false
 
 unfoldable pub is_unread : Entry → Bool
 is_unread (Begin request version) = false
@@ -88,6 +102,9 @@ is_unread (Ask request version (Blocked query why)) = false
 is_unread (Ask request version (Unread fault)) = true
 is_unread (Ask request version NoMemory) = false
 is_unread (End request) = false
+is_unread (Unbegun request) = false
+is_unread (Publish version) = false
+is_unread Unserved = false
 
 -- how many rows the entry's answer has
 unfoldable pub row_count : Entry → ℕ
@@ -97,6 +114,9 @@ row_count (Ask request version (Blocked query why)) = 0
 row_count (Ask request version (Unread fault)) = 0
 row_count (Ask request version NoMemory) = 0
 row_count (End request) = 0
+row_count (Unbegun request) = 0
+row_count (Publish version) = 0
+row_count Unserved = 0
 
 abbrev pub summary_of : List Entry → Summary
 summary_of entries = record {

@@ -1,5 +1,6 @@
 //! Reads what the words name.
-ghost use Rattle.std.specs.Prelude.{◌≡◌, ◌≤◌, [], All, IfOk, map, string_bytes, Err};
+ghost use Rattle.std.specs.Prelude.{◌≡◌, ◌≤◌, ◌++◌, [], All, IfOk, IfSome, length, map, string_bytes, Err};
+ghost use Rattle.std.specs.Option.{option_to_list};
 ghost use Rattle.ba_command.specs.Words.{budget_of};
 ghost use Rattle.ba_model.specs.Conform.{RowFits};
 ghost use Rattle.ba_model.specs.Fit.{PolicyFits};
@@ -8,14 +9,15 @@ ghost use Rattle.ba_model.specs.SchemaFaults.{AreTables};
 ghost use Rattle.ba_model.specs.declared.limits.TheConstants.{MAX_BUDGET as most_budget};
 ghost use Rattle.ba_plan.specs.Follows.{Follows, Gives};
 ghost use Rattle.ba_policy.specs.Reading.{policy_of};
-ghost use Rattle.ba_script.specs.Reading.{script_of};
+ghost use Rattle.ba_script.specs.Reading.{published, published_by, script_of};
 ghost use Rattle.ba_script.specs.Scripts.{IsScript};
 ghost use Rattle.ba_sql_ddl.specs.Reading.{schema_of};
 ghost use Rattle.ba_tables.specs.Broken.{checked};
 ghost use Rattle.ba_tables.specs.TableFile.{rows_of_file};
 ghost use Rattle.ba_top.specs.Checking.{IsTask};
 ghost use Rattle.ba_top.specs.Legal.{IsInput, RowsOfTables};
-ghost use Rattle.ba_top.specs.Reading.{command_plan, plan_of, reading_of, rows_plan, run_plan, script_plan, table_plan, tables_plan};
+ghost use Rattle.ba_top.specs.Published.{IsSetOf};
+ghost use Rattle.ba_top.specs.Reading.{command_plan, plan_of, published_plan, reading_of, rows_plan, run_plan, script_plan, set_plan, sets_plan, table_plan, tables_plan};
 ghost use Rattle.ba_top.specs.Refusals.{broken_refusal, ddl_refusal, policy_refusal, script_refusal, table_refusal};
 
 use crate::proof_input::{NamedProof, read_check};
@@ -30,10 +32,10 @@ use ba_model::{
 use ba_outside::Files;
 use ba_plan::{Stop, read_file};
 use ba_policy::read_policy;
-use ba_script::{Script, read_script};
+use ba_script::{Script, ScriptEntry, read_script};
 use ba_sql_ddl::read_schema;
 use ba_tables::{Tables, rows_of_file};
-use std::alloc::Global;
+use std::alloc::{AllocError, Global};
 
 /// The names of the files and of the table set, and the budget of a search.
 #[derive(Clone, Copy, Debug)]
@@ -133,13 +135,15 @@ fn checked_at(
     set: &str,
     schema: &Shared<Schema>,
     rows: RowSet,
-) -> Result<Tables, Stop<Refusal>>
+) -> Result<Shared<Tables>, Stop<Refusal>>
     requires fit { RowsOfTables schema.now.tables rows.tables }
     requires rules { schema.now.rules ≡ [] }
-    ensures { Gives result (widened (broken_refusal set.now schema.now) (checked schema.now rows)) }
+    ensures reads { Gives result
+        (widened (broken_refusal set.now schema.now) (checked schema.now rows)) }
+    ensures set { IfOk result (IsSetOf schema.now) }
 {
     match Tables::check(alloc, schema, rows) {
-        Ok(tables) => Ok(tables),
+        Ok(tables) => Ok(Shared::new(alloc, tables)?),
         Err(Failure::Fault(fault)) => {
             let refusal = broken_refusal(alloc, set, schema, fault)?;
             Err(Stop::Refused(refusal))
@@ -188,28 +192,111 @@ fn read_tables<F: Files>(
     files: &mut F,
     set: &str,
     schema: &Shared<Schema>,
-) -> Result<Tables, Stop<Refusal>>
+) -> Result<Shared<Tables>, Stop<Refusal>>
     requires rules { schema.now.rules ≡ [] }
     ensures follows { Follows (tables_plan set.now schema.now)
         (F.seen files.old) (F.seen files.new) result }
-    ensures schema { IfOk result (λ tables. tables.schema ≡ schema.now) }
+    ensures set { IfOk result (IsSetOf schema.now) }
 {
     let lists = read_rows(alloc, files, set, schema.tables.as_slice())?;
     let rows = RowSet { tables: lists };
     checked_at(alloc, set, schema, rows)
 }
 
-// The last file, and all of the input.
+// The table set that a line publishes, if it does.
+fn read_set<F: Files>(
+    alloc: Global,
+    files: &mut F,
+    schema: &Shared<Schema>,
+    entry: &ScriptEntry,
+) -> Result<Option<Shared<Tables>>, Stop<Refusal>>
+    requires rules { schema.now.rules ≡ [] }
+    ensures follows { Follows (set_plan schema.now entry.now)
+        (F.seen files.old) (F.seen files.new) result }
+    ensures set { IfOk result (λ found. IfSome found (IsSetOf schema.now)) }
+    ensures count { IfOk result (λ found.
+        length (option_to_list found) ≡ published_by 0 entry.now) }
+{
+    let ScriptEntry::Publish { set, .. } = entry else {
+        return Ok(None);
+    };
+    let tables = read_tables(alloc, files, set.as_str(), schema)?;
+    Ok(Some(tables))
+}
+
+fn keep_found(
+    sets: &mut List<Shared<Tables>>,
+    found: Option<Shared<Tables>>,
+) -> Result<(), AllocError>
+    ensures { IfOk result (λ _. sets.new ≡ sets.old ++ option_to_list found) }
+{
+    match found {
+        Some(tables) => sets.push(tables),
+        None => Ok(()),
+    }
+}
+
+// The table sets of the publish lines, in their order. A set that two lines name is read twice.
+fn read_sets<F: Files>(
+    alloc: Global,
+    files: &mut F,
+    schema: &Shared<Schema>,
+    entries: &[ScriptEntry],
+) -> Result<List<Shared<Tables>>, Stop<Refusal>>
+    requires rules { schema.now.rules ≡ [] }
+    ensures follows { Follows (sets_plan schema.now entries.now [])
+        (F.seen files.old) (F.seen files.new) result }
+    ensures sets { IfOk result (All (IsSetOf schema.now)) }
+    ensures count { IfOk result (λ sets. length sets ≡ published entries.now) }
+{
+    let mut sets = List::new(alloc);
+    for entry in entries {
+        let found = read_set(alloc, files, schema, entry)?;
+        keep_found(&mut sets, found)?;
+    }
+    Ok(sets)
+}
+
+// The table sets of the publish lines, and all of the input.
+fn read_published<F: Files>(
+    alloc: Global,
+    files: &mut F,
+    budget: u32,
+    policy: Shared<Policy>,
+    tables: Shared<Tables>,
+    script: Script,
+) -> Result<Input, Stop<Refusal>>
+    requires policy { PolicyFits policy }
+    requires tables { IsSetOf policy.schema tables }
+    requires script { IsScript policy.params script }
+    requires tables_are { AreTables policy.schema.tables }
+    requires rules { policy.schema.rules ≡ [] }
+    requires budget { budget ≤ most_budget }
+    ensures follows { Follows (published_plan budget policy tables script)
+        (F.seen files.old) (F.seen files.new) result }
+    ensures input { IfOk result IsInput }
+{
+    let published = read_sets(alloc, files, &policy.schema, script.entries.as_slice())?;
+    Ok(Input {
+        policy,
+        tables,
+        script,
+        published,
+        budget,
+    })
+}
+
+// The script, and all that it leads to.
 fn read_rest<F: Files>(
     alloc: Global,
     files: &mut F,
     name: &str,
     budget: u32,
     policy: Shared<Policy>,
-    tables: Tables,
+    tables: Shared<Tables>,
 ) -> Result<Input, Stop<Refusal>>
     requires policy { PolicyFits policy }
-    requires schema { tables.schema ≡ policy.schema }
+    requires tables { IsSetOf policy.schema tables }
     requires tables_are { AreTables policy.schema.tables }
     requires rules { policy.schema.rules ≡ [] }
     requires budget { budget ≤ most_budget }
@@ -219,12 +306,7 @@ fn read_rest<F: Files>(
 {
     let bytes = read_file(alloc, files, name, MAX_FILE_BYTES)?;
     let script = script_at(alloc, name, &policy.params, &bytes)?;
-    Ok(Input {
-        policy,
-        tables,
-        script,
-        budget,
-    })
+    read_published(alloc, files, budget, policy, tables, script)
 }
 
 fn read_named<F: Files>(
@@ -314,7 +396,7 @@ fn read_command<F: Files>(
     }
 }
 
-/// Reads what the words name: each file once, in order, up to the first fault.
+/// Reads what the words name, and the table sets that a script publishes: file by file, in order, up to the first fault.
 pub(crate) fn read_task<F: Files>(
     alloc: Global,
     words: &[String],

@@ -4,6 +4,7 @@
 
 mod checking;
 mod input;
+mod lane;
 mod print;
 mod proof_input;
 mod refusal;

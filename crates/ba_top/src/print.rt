@@ -19,7 +19,8 @@ fn printed_by(by: &By) -> PrintedBy
 {
     match by {
         By::Cover(_) => PrintedBy::Cover,
-        By::Proof(_) => PrintedBy::Proof,
+        By::Template { .. } => PrintedBy::Template,
+        By::Proof(..) => PrintedBy::Proof,
     }
 }
 
@@ -73,6 +74,12 @@ fn entry_line<'a>(name: &'a Str, line: u64, entry: &'a Entry) -> Line<'a>
         },
         Entry::Ask { version, reply, .. } => reply_line(name, line, *version, reply),
         Entry::End { .. } => Line::End { end: name, line },
+        Entry::Publish { version } => Line::Publish {
+            line,
+            publish: name,
+            version: *version,
+        },
+        Entry::Unbegun { .. } | Entry::NoMemory => Line::Memory { line },
     }
 }
 
@@ -83,6 +90,7 @@ fn name_in(said: &ScriptEntry) -> &Str
         ScriptEntry::Begin { name, .. } => name,
         ScriptEntry::Ask { name, .. } => name,
         ScriptEntry::End { name, .. } => name,
+        ScriptEntry::Publish { set, .. } => set,
     }
 }
 

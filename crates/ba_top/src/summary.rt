@@ -13,8 +13,8 @@ fn is_begin(entry: &Entry) -> bool
     ensures { result ≡ is_begin entry.now }
 {
     match entry {
-        Entry::Begin { .. } => true,
-        Entry::Ask { .. } | Entry::End { .. } => false,
+        Entry::Begin { .. } | Entry::Unbegun { .. } => true,
+        Entry::Ask { .. } | Entry::End { .. } | Entry::Publish { .. } | Entry::NoMemory => false,
     }
 }
 
@@ -23,7 +23,11 @@ fn is_answer(entry: &Entry) -> bool
     ensures { result ≡ is_answer entry.now }
 {
     match entry {
-        Entry::Begin { .. } | Entry::End { .. } => false,
+        Entry::Begin { .. }
+        | Entry::Unbegun { .. }
+        | Entry::End { .. }
+        | Entry::Publish { .. }
+        | Entry::NoMemory => false,
         Entry::Ask { reply, .. } => match reply {
             Reply::Answer { .. } => true,
             Reply::Blocked { .. } | Reply::Unread(_) | Reply::NoMemory => false,
@@ -36,7 +40,11 @@ fn is_block(entry: &Entry) -> bool
     ensures { result ≡ is_block entry.now }
 {
     match entry {
-        Entry::Begin { .. } | Entry::End { .. } => false,
+        Entry::Begin { .. }
+        | Entry::Unbegun { .. }
+        | Entry::End { .. }
+        | Entry::Publish { .. }
+        | Entry::NoMemory => false,
         Entry::Ask { reply, .. } => match reply {
             Reply::Blocked { .. } => true,
             Reply::Answer { .. } | Reply::Unread(_) | Reply::NoMemory => false,
@@ -49,7 +57,11 @@ fn is_unread(entry: &Entry) -> bool
     ensures { result ≡ is_unread entry.now }
 {
     match entry {
-        Entry::Begin { .. } | Entry::End { .. } => false,
+        Entry::Begin { .. }
+        | Entry::Unbegun { .. }
+        | Entry::End { .. }
+        | Entry::Publish { .. }
+        | Entry::NoMemory => false,
         Entry::Ask { reply, .. } => match reply {
             Reply::Unread(_) => true,
             Reply::Answer { .. } | Reply::Blocked { .. } | Reply::NoMemory => false,
@@ -62,7 +74,8 @@ fn is_memory(entry: &Entry) -> bool
     ensures { result ≡ is_memory entry.now }
 {
     match entry {
-        Entry::Begin { .. } | Entry::End { .. } => false,
+        Entry::Begin { .. } | Entry::End { .. } | Entry::Publish { .. } => false,
+        Entry::Unbegun { .. } | Entry::NoMemory => true,
         Entry::Ask { reply, .. } => match reply {
             Reply::NoMemory => true,
             Reply::Answer { .. } | Reply::Blocked { .. } | Reply::Unread(_) => false,
@@ -75,7 +88,11 @@ fn row_count(entry: &Entry) -> usize
     ensures { result ≡ row_count entry.now }
 {
     match entry {
-        Entry::Begin { .. } | Entry::End { .. } => 0,
+        Entry::Begin { .. }
+        | Entry::Unbegun { .. }
+        | Entry::End { .. }
+        | Entry::Publish { .. }
+        | Entry::NoMemory => 0,
         Entry::Ask { reply, .. } => match reply {
             Reply::Answer { rows, .. } => rows.len(),
             Reply::Blocked { .. } | Reply::Unread(_) | Reply::NoMemory => 0,

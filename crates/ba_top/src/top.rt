@@ -22,6 +22,7 @@ use ba_outside::{Files, Gate, Sink, WriteFail};
 use ba_plan::Stop;
 use ba_wire::Fault;
 use std::alloc::Global;
+use std::sync::Wait;
 
 fn status(detail: &Detail) -> u8
     ensures { result ≡ status_of detail.now }
@@ -99,7 +100,8 @@ fn end_stop<S: Sink>(alloc: Global, stop: Stop<Refusal>, sink: &mut S) -> Detail
 }
 
 // Serves the script, and writes its lines.
-fn run_input<S: Sink, G: Gate>(
+fn run_input<R: Wait, S: Sink, G: Gate>(
+    rt: &R,
     alloc: Global,
     input: &Input,
     sink: &mut S,
@@ -108,14 +110,15 @@ fn run_input<S: Sink, G: Gate>(
     requires { IsInput input.now }
     ensures { RanInput input.now (S.seen sink.old) (S.seen sink.new) result.0 result.1 }
 {
-    match serve(alloc, input, gate) {
+    match serve(rt, alloc, input, gate) {
         Ok(journal) => (end_run(alloc, input, &journal, sink), Some(journal)),
         Err(_) => (Detail::Memory, None),
     }
 }
 
 // Does what is to be done with what was read.
-fn end_task<S: Sink, G: Gate>(
+fn end_task<R: Wait, S: Sink, G: Gate>(
+    rt: &R,
     alloc: Global,
     task: Task,
     sink: &mut S,
@@ -125,12 +128,13 @@ fn end_task<S: Sink, G: Gate>(
     ensures { RanTask task (S.seen sink.old) (S.seen sink.new) result.0 result.1 }
 {
     match task {
-        Task::Run(input) => run_input(alloc, &input, sink, gate),
+        Task::Run(input) => run_input(rt, alloc, &input, sink, gate),
         Task::Check(proof) => (end_check(alloc, proof, sink), None),
     }
 }
 
-fn run<F: Files, S: Sink, G: Gate>(
+fn run<R: Wait, F: Files, S: Sink, G: Gate>(
+    rt: &R,
     alloc: Global,
     words: &[String],
     files: &mut F,
@@ -141,7 +145,7 @@ fn run<F: Files, S: Sink, G: Gate>(
         (S.seen sink.old) (S.seen sink.new) result.0 result.1 }
 {
     match read_task(alloc, words, files) {
-        Ok(task) => end_task(alloc, task, sink, gate),
+        Ok(task) => end_task(rt, alloc, task, sink, gate),
         Err(stop) => (end_stop(alloc, stop, sink), None),
     }
 }
@@ -162,7 +166,8 @@ fn run<F: Files, S: Sink, G: Gate>(
 /// The first fault ends a command with one fault line: words of another form (status 2), a file that has no reading, or rows that break
 /// a key or a link (3), a file that can't be read (4), a count above its limit (7). A write that fails ends it with status 5, want
 /// of memory with 6.
-pub fn blockaid<F: Files, S: Sink, G: Gate + Sync>(
+pub fn blockaid<R: Wait, F: Files, S: Sink, G: Gate + Sync>(
+    rt: &R,
     alloc: Global,
     words: &[String],
     files: &mut F,
@@ -216,7 +221,7 @@ pub fn blockaid<F: Files, S: Sink, G: Gate + Sync>(
         → (result.detail ≡ Detail.Memory)
         ⊎ ComesTo (outcome_of contents (plan_of (map string_bytes words.now))) result.detail) }
 {
-    let (detail, journal) = run(alloc, words, files, sink, gate);
+    let (detail, journal) = run(rt, alloc, words, files, sink, gate);
     Outcome {
         status: status(&detail),
         detail,

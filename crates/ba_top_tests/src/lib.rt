@@ -10,17 +10,18 @@ ghost use Rattle.ba_top.specs.Reading.{plan_of};
 use ba_outside::{FreeGate, Held, SureFiles, SureSink};
 use ba_top::{Detail, Outcome, blockaid};
 use std::alloc::Global;
+use std::sync::Wait;
 
 /// Over files and a sink that never fail, a command comes to what its words and files come to, or memory runs out.
 ///
 /// A name that isn't held reads as an empty file.
-pub fn sure_run(alloc: Global, words: &[String], held: Vec<Held>) -> Outcome
+pub fn sure_run<R: Wait>(rt: &R, alloc: Global, words: &[String], held: Vec<Held>) -> Outcome
     ensures { (result.detail ≡ Detail.Memory)
         ⊎ ComesTo (outcome_of (held_or_empty held.items) (plan_of (map string_bytes words.now))) result.detail }
 {
     let mut files = SureFiles::new(alloc, held);
     let mut sink = SureSink::new(alloc);
-    blockaid(alloc, words, &mut files, &mut sink, &FreeGate)
+    blockaid(rt, alloc, words, &mut files, &mut sink, &FreeGate)
 }
 
 #[cfg(test)]

@@ -1,10 +1,12 @@
 // Runs that no case of files can show: reads and writes that fail, want of memory, huge files, the sure forms.
 mod checks;
+mod shard;
 
 use crate::sure_run;
 use ba_outside::{Files, FreeGate, Held, MemFiles, MemSink, Sink, WriteFail};
 use ba_top::{Detail, blockaid};
 use std::alloc::{AllocError, Global};
+use std::sync::Wait;
 use std::test::Fail;
 
 const WORDS: [&str; 9] = [
@@ -54,20 +56,26 @@ fn add_files(alloc: Global, files: &mut Vec<Held>) -> Result<(), AllocError> {
 }
 
 // The status of a run.
-fn status<F: Files, S: Sink>(alloc: Global, files: &mut F, sink: &mut S) -> Result<u8, AllocError> {
+fn status<R: Wait, F: Files, S: Sink>(
+    rt: &R,
+    alloc: Global,
+    files: &mut F,
+    sink: &mut S,
+) -> Result<u8, AllocError> {
     let words = words(alloc)?;
-    Ok(blockaid(alloc, &words, files, sink, &FreeGate).status)
+    Ok(blockaid(rt, alloc, &words, files, sink, &FreeGate).status)
 }
 
 // Whether a run over these files ends with the status and writes exactly the line.
-fn comes_to(
+fn comes_to<R: Wait>(
+    rt: &R,
     alloc: Global,
     files: &mut MemFiles,
     wanted: u8,
     line: &str,
 ) -> Result<bool, AllocError> {
     let mut sink = MemSink::new(alloc, Vec::new(alloc), Vec::new(alloc));
-    let status = status(alloc, files, &mut sink)?;
+    let status = status(rt, alloc, files, &mut sink)?;
     Ok(status == wanted && sink.bytes() == line.as_bytes())
 }
 
@@ -85,15 +93,18 @@ fn each_read_fails_in_turn(rt: HostRuntime) -> Result<(), Fail> {
     for (number, (name, _)) in FILES.iter().enumerate() {
         let mut files = failing_files(alloc, number)?;
         let line = format!(in alloc; "{{\"fault\":\"read\",\"file\":\"{name}\",\"status\":4}}\n")?;
-        assert!(rt; comes_to(alloc, &mut files, 4, line.as_str())?, "{name}");
+        assert!(rt;
+            comes_to(&rt, alloc, &mut files, 4, line.as_str())?,
+            "{name}"
+        );
     }
     Ok(())
 }
 
 // The status of a run over the files above.
-fn written<S: Sink>(alloc: Global, sink: &mut S) -> Result<u8, AllocError> {
+fn written<R: Wait, S: Sink>(rt: &R, alloc: Global, sink: &mut S) -> Result<u8, AllocError> {
     let mut files = failing_files(alloc, FILES.len())?;
-    status(alloc, &mut files, sink)
+    status(rt, alloc, &mut files, sink)
 }
 
 // A sink whose calls take so many bytes, as far as that list goes, and of which the call of that number fails.
@@ -106,7 +117,7 @@ fn failing_sink(alloc: Global, number: usize, takes: Vec<usize>) -> Result<MemSi
 fn sink_fails_in_mid_line(rt: HostRuntime) -> Result<(), Fail> {
     let alloc = rt.alloc();
     let mut sink = failing_sink(alloc, 1, vec![in alloc; 10]?)?;
-    assert_eq!(rt; written(alloc, &mut sink)?, 5);
+    assert_eq!(rt; written(&rt, alloc, &mut sink)?, 5);
     assert_eq!(rt; sink.bytes(), b"{\"begin\":\"".as_slice());
     Ok(())
 }
@@ -118,7 +129,7 @@ fn each_write_fails_in_turn(rt: HostRuntime) -> Result<(), Fail> {
     for number in 0..=text.len() {
         let mut sink = failing_sink(alloc, number, vec![in alloc; 1usize; text.len()]?)?;
         let wanted = if number < text.len() { 5 } else { 0 };
-        assert_eq!(rt; written(alloc, &mut sink)?, wanted);
+        assert_eq!(rt; written(&rt, alloc, &mut sink)?, wanted);
         assert_eq!(rt; sink.bytes(), &text[..number]);
     }
     Ok(())
@@ -143,7 +154,7 @@ impl Sink for NoRoom {
 
 #[test]
 fn want_of_memory(rt: HostRuntime) -> Result<(), Fail> {
-    assert_eq!(rt; written(rt.alloc(), &mut NoRoom)?, 6);
+    assert_eq!(rt; written(&rt, rt.alloc(), &mut NoRoom)?, 6);
     Ok(())
 }
 
@@ -215,7 +226,7 @@ fn limits_of_huge_files(rt: HostRuntime) -> Result<(), Fail> {
             "{{\"fault\":\"limit\",\"limit\":{limit},\"status\":7,\"what\":\"{what}\"}}\n"
         )?;
         assert!(rt;
-            comes_to(alloc, &mut files, 7, line.as_str())?,
+            comes_to(&rt, alloc, &mut files, 7, line.as_str())?,
             "{name} {what}"
         );
     }
@@ -235,6 +246,6 @@ fn sure_forms(rt: HostRuntime) -> Result<(), Fail> {
     let mut files = Vec::new(alloc);
     add_files(alloc, &mut files)?;
     let words = words(alloc)?;
-    assert!(rt; is_done(&sure_run(alloc, &words, files).detail));
+    assert!(rt; is_done(&sure_run(&rt, alloc, &words, files).detail));
     Ok(())
 }

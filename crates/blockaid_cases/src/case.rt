@@ -4,6 +4,7 @@ use ba_outside::{FreeGate, MemSink};
 use ba_top::blockaid;
 use std::alloc::{AllocError, Global};
 use std::rt::Files;
+use std::sync::Wait;
 use std::{fs, io};
 
 /// The end of a run: its status, and what it wrote.
@@ -53,12 +54,12 @@ impl Case {
     /// The end of the case's run over the files of that folder.
     pub fn run<R>(&self, rt: &R, folder: &str) -> io::Result<End>
     where
-        R: Files + AllocGlobal + Clone + Drop,
+        R: Files + AllocGlobal + Wait + Clone + Drop,
     {
         let alloc = rt.alloc();
         let mut files = FolderFiles::new(rt.clone()?, alloc, folder);
         let mut sink = MemSink::new(alloc, Vec::new(alloc), Vec::new(alloc));
-        let outcome = blockaid(alloc, &self.words, &mut files, &mut sink, &FreeGate);
+        let outcome = blockaid(rt, alloc, &self.words, &mut files, &mut sink, &FreeGate);
         Ok(End {
             status: outcome.status,
             text: sink.bytes().to_vec(alloc)?,

@@ -29,8 +29,11 @@ fn main(rt: HostRuntime) -> ExitCode {
     let Ok(words) = read else {
         return ExitCode::from(MEMORY);
     };
+    let Ok(other) = rt.clone() else {
+        return ExitCode::from(MEMORY);
+    };
     let mut sink = StdSink::new(rt.stdout());
-    let mut files = DiskFiles::new(rt, alloc);
-    let outcome = blockaid(alloc, &words, &mut files, &mut sink, &FreeGate);
+    let mut files = DiskFiles::new(other, alloc);
+    let outcome = blockaid(&rt, alloc, &words, &mut files, &mut sink, &FreeGate);
     ExitCode::from(outcome.status)
 }

@@ -3,6 +3,7 @@ use super::{NoRoom, held};
 use ba_outside::{Files, FreeGate, Held, MemFiles, MemSink, Sink};
 use ba_top::blockaid;
 use std::alloc::{AllocError, Global};
+use std::sync::Wait;
 use std::test::Fail;
 
 const WORDS: [&str; 7] = ["check", "--schema", "S", "--policy", "P", "--proof", "F"];
@@ -38,23 +39,29 @@ fn check_files(alloc: Global, failing: Vec<u64>) -> Result<MemFiles, AllocError>
 }
 
 // The status of a check.
-fn status<F: Files, S: Sink>(alloc: Global, files: &mut F, sink: &mut S) -> Result<u8, AllocError> {
+fn status<R: Wait, F: Files, S: Sink>(
+    rt: &R,
+    alloc: Global,
+    files: &mut F,
+    sink: &mut S,
+) -> Result<u8, AllocError> {
     let mut words = Vec::new(alloc);
     for word in WORDS {
         words.push(String::from_str(alloc, word)?)?;
     }
-    Ok(blockaid(alloc, &words, files, sink, &FreeGate).status)
+    Ok(blockaid(rt, alloc, &words, files, sink, &FreeGate).status)
 }
 
 // Whether a check of these files ends with the status and writes exactly the line.
-fn comes_to(
+fn comes_to<R: Wait>(
+    rt: &R,
     alloc: Global,
     files: &mut MemFiles,
     wanted: u8,
     line: &str,
 ) -> Result<bool, AllocError> {
     let mut sink = MemSink::new(alloc, Vec::new(alloc), Vec::new(alloc));
-    let status = status(alloc, files, &mut sink)?;
+    let status = status(rt, alloc, files, &mut sink)?;
     Ok(status == wanted && sink.bytes() == line.as_bytes())
 }
 
@@ -64,7 +71,10 @@ fn each_read_of_a_check_fails_in_turn(rt: HostRuntime) -> Result<(), Fail> {
     for (number, (name, _)) in FILES.iter().enumerate() {
         let mut files = check_files(alloc, vec![in alloc; number as u64]?)?;
         let line = format!(in alloc; "{{\"fault\":\"read\",\"file\":\"{name}\",\"status\":4}}\n")?;
-        assert!(rt; comes_to(alloc, &mut files, 4, line.as_str())?, "{name}");
+        assert!(rt;
+            comes_to(&rt, alloc, &mut files, 4, line.as_str())?,
+            "{name}"
+        );
     }
     Ok(())
 }
@@ -78,7 +88,7 @@ fn each_write_of_a_check_fails_in_turn(rt: HostRuntime) -> Result<(), Fail> {
         let failing = vec![in alloc; number as u64]?;
         let mut sink = MemSink::new(alloc, failing, vec![in alloc; 1usize; text.len()]?);
         let wanted = if number < text.len() { 5 } else { 0 };
-        assert_eq!(rt; status(alloc, &mut files, &mut sink)?, wanted);
+        assert_eq!(rt; status(&rt, alloc, &mut files, &mut sink)?, wanted);
         assert_eq!(rt; sink.bytes(), &text[..number]);
     }
     Ok(())
@@ -88,7 +98,7 @@ fn each_write_of_a_check_fails_in_turn(rt: HostRuntime) -> Result<(), Fail> {
 fn want_of_memory_in_a_check(rt: HostRuntime) -> Result<(), Fail> {
     let alloc = rt.alloc();
     let mut files = check_files(alloc, Vec::new(alloc))?;
-    assert_eq!(rt; status(alloc, &mut files, &mut NoRoom)?, 6);
+    assert_eq!(rt; status(&rt, alloc, &mut files, &mut NoRoom)?, 6);
     Ok(())
 }
 
@@ -118,9 +128,9 @@ fn steps_of_a_proof_at_the_limit(rt: HostRuntime) -> Result<(), Fail> {
     let alloc = rt.alloc();
     let mut files = long_files(alloc, 99_999)?;
     let line = "{\"accepted\":false,\"fault\":\"absurd\",\"step\":0}\n";
-    assert!(rt; comes_to(alloc, &mut files, 1, line)?);
+    assert!(rt; comes_to(&rt, alloc, &mut files, 1, line)?);
     let mut more = long_files(alloc, 100_000)?;
     let limit = "{\"fault\":\"limit\",\"limit\":100000,\"status\":7,\"what\":\"steps\"}\n";
-    assert!(rt; comes_to(alloc, &mut more, 7, limit)?);
+    assert!(rt; comes_to(&rt, alloc, &mut more, 7, limit)?);
     Ok(())
 }

@@ -18,4 +18,4 @@ pub returns-clause-follows : goal.returns-clause-follows
 returns-clause-follows g c =
     let seen = g.F.Files.seen in
     tables_ok c.args.set.now c.args.schema.now c.in_ok-lists.lists (seen c.args.files.now) (seen c.read_rows.new.files) c.checked_at.result
-    (subst (λ z. Follows (rows_plan c.args.set.now z []) (seen c.args.files.now) (seen c.read_rows.new.files) (Ok c.in_ok-lists.lists)) (c.as_slice.ensures ∙ ap (λ (s : Schema). s.tables) c.deref.ensures) c.in_ok-lists.ensures.follows) c.checked_at.ensures
+    (subst (λ z. Follows (rows_plan c.args.set.now z []) (seen c.args.files.now) (seen c.read_rows.new.files) (Ok c.in_ok-lists.lists)) (c.as_slice.ensures ∙ ap (λ (s : Schema). s.tables) c.deref.ensures) c.in_ok-lists.ensures.follows) c.checked_at.ensures.reads

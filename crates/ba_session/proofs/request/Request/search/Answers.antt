@@ -1,3 +1,5 @@
+use Rattle.std.proofs.Common.{subst}
+use Rattle.ba_kernel.specs.Problems.{StrongAll}
 use Rattle.ba_session.proofs.JudgeLemmas.{left_at, proved_at}
 use Rattle.ba_session.proofs.request.Request.search.Goals as goal
 
@@ -9,5 +11,5 @@ reason_of-requires-clause-left c =
 pub returns-in-Proved : goal.returns-in-Proved
 returns-in-Proved c =
     proved_at c.args.policy.now c.args.self.now c.args.budget c.args.query.now c.in_ok-problem.problem c.in_ok-problem.ensures.is c.in_ok-settled.settled
-    c.in_ok-settled.ensures c.in-Proved.proved c.in-Proved.is c.requires.uncovered c.problem_is_question.ensures c.requires.fits c.into_steps.result
-    c.into_steps.ensures.is c.into_steps.ensures.strong
+    c.in_ok-settled.ensures c.in-Proved.proved c.in-Proved.is c.problem_is_question.ensures c.requires.fits
+    (subst StrongAll c.problem-strong.ensures.is c.problem-strong.ensures.strong)
