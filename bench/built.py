@@ -9,10 +9,11 @@ HOME = pathlib.Path(__file__).resolve().parent.parent
 
 
 def build(
-    root: pathlib.Path, name: str, uses: str, crates: list[str], words: list[str], proofs: dict[str, str] | None = None
+    root: pathlib.Path, name: str, uses: str, crates: list[str], words: list[str], proofs: dict[str, str] | None = None,
+    handles: str = "none",
 ) -> pathlib.Path:
     """Copies the crates and the program bench/NAME.txt below root, runs it once with `rt run`, and gives its path.
-    `proofs` gives for each proof file of the program the text in bench/ that it is."""
+    `proofs` gives for each further file of the program the text in bench/ that it is."""
     for crate in crates:
         shutil.copytree(HOME / "crates" / crate, root / "crates" / crate, symlinks=True)
     home = root / "crates" / name
@@ -24,7 +25,7 @@ def build(
     lines = (HOME / "crates.txt").read_text().splitlines()
     kept = [line for line in lines if line.split(":")[0] in crates]
     (root / "crates.txt").write_text("\n".join(kept) + f"\n{name}: {uses}\n")
-    (root / "HANDLES").write_text("Handles allowed: none.\n")
+    (root / "HANDLES").write_text(f"Handles allowed: {handles}.\n")
     subprocess.run(["git", "init", "-q", str(root)], check=True)
     subprocess.run(["rt", "run", "--", *words], cwd=home, check=True)
     return home / "out" / name
