@@ -10,19 +10,23 @@ HOME = pathlib.Path(__file__).resolve().parent.parent
 
 def build(
     root: pathlib.Path, name: str, uses: str, crates: list[str], words: list[str], proofs: dict[str, str] | None = None,
-    handles: str = "none",
+    handles: str = "none", clone: pathlib.Path = HOME, instead: dict[str, str] | None = None,
 ) -> pathlib.Path:
-    """Copies the crates and the program bench/NAME.txt below root, runs it once with `rt run`, and gives its path.
-    `proofs` gives for each further file of the program the text in bench/ that it is."""
+    """Copies the clone's crates and the program bench/NAME.txt below root, runs it once with `rt run`, and gives its path.
+    `proofs` gives for each further file of the program the text in bench/ that it is, and `instead` what is to stand for
+    some texts in the program, where the crates of another clone have other names."""
     for crate in crates:
-        shutil.copytree(HOME / "crates" / crate, root / "crates" / crate, symlinks=True)
+        shutil.copytree(clone / "crates" / crate, root / "crates" / crate, symlinks=True)
     home = root / "crates" / name
     (home / "src").mkdir(parents=True)
-    shutil.copy(HOME / "bench" / f"{name}.txt", home / "src" / "main.rt")
+    program = (HOME / "bench" / f"{name}.txt").read_text()
+    for found, wanted in (instead or {}).items():
+        program = program.replace(found, wanted)
+    (home / "src" / "main.rt").write_text(program)
     for path, text in (proofs or {}).items():
         (home / path).parent.mkdir(parents=True, exist_ok=True)
         shutil.copy(HOME / "bench" / text, home / path)
-    lines = (HOME / "crates.txt").read_text().splitlines()
+    lines = (clone / "crates.txt").read_text().splitlines()
     kept = [line for line in lines if line.split(":")[0] in crates]
     (root / "crates.txt").write_text("\n".join(kept) + f"\n{name}: {uses}\n")
     (root / "HANDLES").write_text(f"Handles allowed: {handles}.\n")

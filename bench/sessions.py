@@ -1,11 +1,12 @@
 #!/usr/bin/env python3
-"""Measures requests that share templates: one question covered, one by a template of an earlier request, one blocked.
+"""Measures requests that share templates: one question covered, one by a template of an earlier request, one blocked; and
+how several workers serve them.
 
     bench/sessions.py [--program FILE] [--requests N] [--runs N]
 
 Each of N requests (8192) is of one of 64 users, who asks for one of four attendances of hers, for the title of that event, and for the title
-of another one. Prints tables in Markdown: what each kind of line costs, as the difference of two scripts, and the greatest memory. Times are
-processor time, the least of the runs (7). Without --program it has the repository's own `blockaid` proved and built first.
+of another one. Prints tables in Markdown: what each kind of line costs, as the difference of two scripts, and the greatest memory; times are
+processor time, the least of the runs (7). Then the elapsed time of the whole script with 1, 2, 4 and 16 workers, the least of the runs. Without --program it has the repository's own `blockaid` proved and built first.
 """
 import argparse
 import datetime
@@ -13,6 +14,7 @@ import json
 import os
 import subprocess
 import tempfile
+import time
 
 from bench import built, processors
 
@@ -60,14 +62,35 @@ def lines_of(number, asks):
     return [{"begin": name, "context": {"MyUId": user}}, *({"ask": name, "query": text} for text in texts[:asks]), {"end": name}]
 
 
-def run(program, folder, script):
-    """Processor seconds, greatest memory in MiB, and the text of one run."""
-    words = [program, "run", "--schema", "S", "--policy", "P", "--tables", "t0", "--script", script]
+def run(program, folder, script, workers=1):
+    """Processor seconds, elapsed seconds, greatest memory in MiB, and the text of one run."""
+    words = [program, "run", "--schema", "S", "--policy", "P", "--tables", "t0", "--script", script, "--workers", str(workers)]
+    begun = time.monotonic()
     process = subprocess.Popen(words, cwd=folder, stdout=subprocess.PIPE)
     text = process.stdout.read()
     _, status, used = os.wait4(process.pid, 0)
     assert status == 0, status
-    return used.ru_utime + used.ru_stime, used.ru_maxrss / 1024, text
+    return used.ru_utime + used.ru_stime, time.monotonic() - begun, used.ru_maxrss / 1024, text
+
+
+def answered_by(text):
+    """How many questions were answered by each ground."""
+    counts = {kind: text.count(f'"by":"{kind}"'.encode()) for kind in ("cover", "template", "proof")}
+    return ", ".join(f"{kind} {count:,}" for kind, count in counts.items() if count)
+
+
+def print_workers(said, program, folder, script):
+    """A line for each number of workers: the elapsed time of all that the command does, of serving alone, and questions by the second."""
+    print("\n| workers | seconds | of them for the questions | questions a second | times one worker's | MiB | answered by |\n|---|---|---|---|---|---|---|")
+    empty = min(run(program, folder, "F0")[1] for _ in range(said.runs))
+    first = None
+    for workers in (1, 2, 4, 16):
+        runs = [run(program, folder, script, workers) for _ in range(said.runs)]
+        elapsed = min(it[1] for it in runs)
+        memory = max(it[2] for it in runs)
+        serving = elapsed - empty
+        first = first or serving
+        print(f"| {workers} | {elapsed:.3f} | {serving:.3f} | {3 * said.requests / serving:,.0f} | {first / serving:.2f} | {memory:.0f} | {answered_by(runs[-1][3])} |", flush=True)
 
 
 def main():
@@ -90,12 +113,12 @@ def main():
                 for number in range(said.requests):
                     it.writelines(json.dumps(line, separators=(",", ":")) + "\n" for line in lines_of(number, asks))
             runs = [run(program, folder, f"F{asks}") for _ in range(said.runs)]
-            seconds, memory, text = min(runs)
-            counts = {kind: text.count(f'"by":"{kind}"'.encode()) for kind in ("cover", "template", "proof")}
-            by = ", ".join(f"{kind} {count:,}" for kind, count in counts.items() if count)
+            seconds, _, memory, text = min(runs)
+            by = answered_by(text)
             more = "" if before is None else f"{(seconds - before) / said.requests * 1e6:.1f}"
             print(f"| {what} | {seconds:.2f} | {memory:.0f} | {more} | {by} |", flush=True)
             before = seconds
+        print_workers(said, program, folder, "F3")
 
 
 main()

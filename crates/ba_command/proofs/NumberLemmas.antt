@@ -25,30 +25,31 @@ told [] h = tt
 told (c ∷ cs) h = let p = halves _ _ h in (let l : nat_lt (digit_value c) 10 ≡ true = p.0 in grind (arith, nat_tests), told cs p.1)
 
 -- a number that is read, and within
-pub read_number : {E : Type 0} (most other n : ℕ) (text : List ℕ) (r : Result ℕ E) → ParsesUnsigned 32 10 text r → r ≡ Ok n → n ≤ most → n ≡ number_or most other (Some text)
-read_number most other n text (Ok x) h e within =
+pub read_number : {E : Type 0} (least most other n : ℕ) (text : List ℕ) (r : Result ℕ E) → ParsesUnsigned 32 10 text r → r ≡ Ok n → least ≤ n → n ≤ most → n ≡ number_or least most other (Some text)
+read_number least most other n text (Ok x) h e some within =
     let ds = without_leading_plus text in
     let same : n ≡ digits_value 10 ds = sym (cc e) ∙ h.1 in
-    let passes : (is_numeral ds && nat_le (digits_value 10 ds) most) ≡ true =
-    both _ _ (both _ _ (let l : 0 < length ds = h.0.0.0 in grind (arith, nat_tests)) (tested ds h.0.0.1))
-    (let l : digits_value 10 ds ≤ most = subst (λ z. z ≤ most) same within in grind (arith, nat_tests)) in
+    let passes : (is_numeral ds && (nat_le least (digits_value 10 ds) && nat_le (digits_value 10 ds) most)) ≡ true =
+    both (is_numeral ds) (nat_le least (digits_value 10 ds) && nat_le (digits_value 10 ds) most) (both _ _ (let l : 0 < length ds = h.0.0.0 in grind (arith, nat_tests)) (tested ds h.0.0.1))
+    (both (nat_le least (digits_value 10 ds)) (nat_le (digits_value 10 ds) most) (let l : least ≤ digits_value 10 ds = subst (λ z. least ≤ z) same some in grind (arith, nat_tests))
+    (let l : digits_value 10 ds ≤ most = subst (λ z. z ≤ most) same within in grind (arith, nat_tests))) in
     rw passes same
-read_number most other n text (Err x) h e within = cc e
+read_number least most other n text (Err x) h e some within = cc e
 
 -- a text that is refused
-pub other_number : {E : Type 0} (most other : ℕ) (text : List ℕ) (r : Result ℕ E) (x : E) → most < 2 ^ 32 → ParsesUnsigned 32 10 text r → r ≡ Err x
-    → other ≡ number_or most other (Some text)
-other_number most other text (Ok y) x small h e = cc e
-other_number most other text (Err y) x small h e = by (is_numeral (without_leading_plus text) && nat_le (digits_value 10 (without_leading_plus text)) most) refl
+pub other_number : {E : Type 0} (least most other : ℕ) (text : List ℕ) (r : Result ℕ E) (x : E) → most < 2 ^ 32 → ParsesUnsigned 32 10 text r → r ≡ Err x
+    → other ≡ number_or least most other (Some text)
+other_number least most other text (Ok y) x small h e = cc e
+other_number least most other text (Err y) x small h e = by (is_numeral (without_leading_plus text) && (nat_le least (digits_value 10 (without_leading_plus text)) && nat_le (digits_value 10 (without_leading_plus text)) most)) refl
   where
-    by : (b : Bool) → (is_numeral (without_leading_plus text) && nat_le (digits_value 10 (without_leading_plus text)) most) ≡ b
+    by : (b : Bool) → (is_numeral (without_leading_plus text) && (nat_le least (digits_value 10 (without_leading_plus text)) && nat_le (digits_value 10 (without_leading_plus text)) most)) ≡ b
         → other ≡ cond b (digits_value 10 (without_leading_plus text)) other
     by true t =
         let p = halves _ _ t in
         let q = halves _ _ p.0 in
         let some : 0 < length (without_leading_plus text) = let l : nat_lt 0 (length (without_leading_plus text)) ≡ true = q.0 in grind (arith, nat_tests) in
         let within : digits_value 10 (without_leading_plus text) ≤ most =
-        let l : nat_le (digits_value 10 (without_leading_plus text)) most ≡ true = p.1 in grind (arith, nat_tests) in
+        let l : nat_le (digits_value 10 (without_leading_plus text)) most ≡ true = (halves _ _ p.1).1 in grind (arith, nat_tests) in
         let fits : digits_value 10 (without_leading_plus text) < 2 ^ 32 = omega (arith, within, small) in
         absurd (h ((some, told _ q.1), fits))
     by false t = refl

@@ -1,5 +1,5 @@
 -- The command that words ask for, over what `clap` says of a simple command.
-use Rattle.std.specs.Prelude.{ℕ, ◌&&◌, List, [], ◌∷◌, true, nat_le, codes, Option, Some, None, Result, Ok, Err, if◌then◌else◌}
+use Rattle.std.specs.Prelude.{ℕ, ◌≤◌, ◌&&◌, List, [], ◌∷◌, true, nat_le, codes, Option, Some, None, Result, Ok, Err, if◌then◌else◌}
 use Rattle.std.specs.Str.{bytes_eq}
 use Rattle.std.specs.Str.Parse.{digits_value, without_leading_plus}
 use Rattle.clap.specs.Faults.{fault_of}
@@ -48,12 +48,12 @@ check_app = with_rule (with_rule (with_rule (bare (codes "check"))
     (needed (option_rule (codes "policy"))))
     (needed (option_rule (codes "proof")))
 
--- the number up to a greatest that a text spells, or another
-abbrev pub number_or : ℕ → ℕ → Option Text → ℕ
-number_or most other None = other
-number_or most other (Some text) =
+-- the number between two that a text spells, or another
+abbrev pub number_or : ℕ → ℕ → ℕ → Option Text → ℕ
+number_or least most other None = other
+number_or least most other (Some text) =
     let n = digits_value 10 (without_leading_plus text) in
-    if is_numeral (without_leading_plus text) && nat_le n most then n else other
+    if is_numeral (without_leading_plus text) && (nat_le least n && nat_le n most) then n else other
 
 abbrev pub with_texts : Option Text → Option Text → Option Text → Option Text → ℕ → ℕ → Result Command WordsFault
 with_texts (Some schema) (Some policy) (Some tables) (Some script) workers budget = Ok (Run schema policy tables script workers budget)
@@ -65,7 +65,7 @@ with_texts (Some schema) (Some policy) (Some tables) None workers budget = Err N
 -- the command that the values of the options are
 abbrev pub command_from : (Text → Option Text) → Result Command WordsFault
 command_from given = with_texts (given (codes "schema")) (given (codes "policy")) (given (codes "tables")) (given (codes "script"))
-    (number_or MAX_WORKERS WORKERS (given (codes "workers"))) (number_or MAX_BUDGET BUDGET (given (codes "budget")))
+    (number_or MIN_WORKERS MAX_WORKERS WORKERS (given (codes "workers"))) (number_or MIN_BUDGET MAX_BUDGET BUDGET (given (codes "budget")))
 
 abbrev pub with_files : Option Text → Option Text → Option Text → Result Command WordsFault
 with_files (Some schema) (Some policy) (Some proof) = Ok (Check schema policy proof)
@@ -86,6 +86,15 @@ unless_fault (kind ∷ kinds) found = Err NoForm
 abbrev pub budget_of : Command → ℕ
 budget_of (Run schema policy tables script workers budget) = budget
 budget_of (Check schema policy proof) = 0
+
+-- how many workers serve a script; a check has none
+abbrev pub workers_of : Command → Option ℕ
+workers_of (Run schema policy tables script workers budget) = Some workers
+workers_of (Check schema policy proof) = None
+
+-- at least one, and at most as many as may be
+abbrev pub AreWorkers : ℕ → Type 0
+AreWorkers n = (MIN_WORKERS ≤ n) × (n ≤ MAX_WORKERS)
 
 -- what the words behind `run` ask for
 unfoldable pub run_of : List Text → Result Command WordsFault

@@ -1,9 +1,9 @@
 //! The options of the command `check`, read by `clap`.
-ghost use Rattle.std.specs.Prelude.{◌≡◌, ◌≤◌, map, string_bytes, IfOk};
+ghost use Rattle.std.specs.Prelude.{◌≡◌, ◌≤◌, map, string_bytes, IfOk, IfSome};
 ghost use Rattle.clap.specs.Words.{app_of, first_value, found_of};
 ghost use Rattle.ba_model.specs.Readings.{Gives};
 ghost use Rattle.ba_model.specs.declared.limits.TheConstants.{MAX_BUDGET};
-ghost use Rattle.ba_command.specs.Words.{budget_of, check_app, check_from, check_of};
+ghost use Rattle.ba_command.specs.Words.{AreWorkers, budget_of, check_app, check_from, check_of, workers_of};
 
 use crate::command::{Command, WordsFault};
 use crate::form::{bare, needed, refusal, text_of};
@@ -23,6 +23,7 @@ fn check_form<'a>(alloc: Global) -> Result<Form<'a>, AllocError>
 fn command_of(alloc: Global, matches: &ArgMatches<'_>) -> Result<Command, Failure<WordsFault>>
     ensures reads { Gives result (check_from (first_value (found_of matches.now))) }
     ensures budget { IfOk result (λ command. budget_of command ≤ MAX_BUDGET) }
+    ensures workers { IfOk result (λ command. IfSome (workers_of command) AreWorkers) }
 {
     let schema = text_of(alloc, matches, "schema")?;
     let policy = text_of(alloc, matches, "policy")?;
@@ -41,6 +42,7 @@ fn command_of(alloc: Global, matches: &ArgMatches<'_>) -> Result<Command, Failur
 pub(crate) fn read_check(alloc: Global, words: &[String]) -> Result<Command, Failure<WordsFault>>
     ensures reads { Gives result (check_of (map string_bytes words.now)) }
     ensures budget { IfOk result (λ command. budget_of command ≤ MAX_BUDGET) }
+    ensures workers { IfOk result (λ command. IfSome (workers_of command) AreWorkers) }
 {
     let form = check_form(alloc)?;
     match form.try_get_matches_from(words) {

@@ -1,8 +1,8 @@
 //! Reads the words of a command line.
-ghost use Rattle.std.specs.Prelude.{◌≡◌, ◌≤◌, IfOk, map, string_bytes};
+ghost use Rattle.std.specs.Prelude.{◌≡◌, ◌≤◌, IfOk, IfSome, map, string_bytes};
 ghost use Rattle.ba_model.specs.Readings.{Gives};
 ghost use Rattle.ba_model.specs.declared.limits.TheConstants.{MAX_BUDGET};
-ghost use Rattle.ba_command.specs.Words.{budget_of, command_of};
+ghost use Rattle.ba_command.specs.Words.{AreWorkers, budget_of, command_of, workers_of};
 
 use crate::check::read_check;
 use crate::command::{Command, WordsFault};
@@ -17,6 +17,7 @@ use std::alloc::Global;
 pub fn read_words(alloc: Global, words: &[String]) -> Result<Command, Failure<WordsFault>>
     ensures exact { Gives result (command_of (map string_bytes words.now)) }
     ensures budget { IfOk result (λ command. budget_of command ≤ MAX_BUDGET) }
+    ensures workers { IfOk result (λ command. IfSome (workers_of command) AreWorkers) }
 {
     let [name, rest @ ..] = words else {
         return Err(Failure::Fault(WordsFault::NoForm));

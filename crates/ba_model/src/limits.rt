@@ -62,11 +62,14 @@ pub const MAX_NAME_BYTES: usize = 64;
 /// The fewest workers.
 pub const MIN_WORKERS: u64 = 1;
 
-/// The most workers so far.
-pub const MAX_WORKERS: u64 = 1;
+/// The most workers.
+pub const MAX_WORKERS: u64 = 16;
 
 /// The workers where the words don't say.
 pub const WORKERS: u32 = 1;
+
+/// The greatest seed of a generated script.
+pub const MAX_SEED: u64 = 9_223_372_036_854_775_807;
 
 /// The least budget of steps for a decision.
 pub const MIN_BUDGET: u64 = 16;

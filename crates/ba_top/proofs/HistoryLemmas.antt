@@ -1,192 +1,174 @@
--- The history that one worker's pass leaves, once it was split off and joined.
-use Rattle.std.proofs.Common.{◌≡◌, ◌∙◌, refl, sym, ap, subst, ℕ, suc, zero, ◌+◌, ◌<◌, ◌==◌, ◌⊎◌, inl, inr, List, [], ◌∷◌, ◌++◌, length, map, filter, cond, get_or, arith}
-use Rattle.std.proofs.lemmas.List.Elements.{All-cons, All-head, All-nil, All-tail}
-use Rattle.std.specs.List.{flat_map}
-use Rattle.std.specs.Prelude.{All, Contains, slice_index_or}
+-- The histories that the passes of all lanes leave, once they were split off and joined.
+use Rattle.std.proofs.Common.{◌≡◌, ◌∙◌, refl, sym, ap, subst, ℕ, suc, ◌+◌, ◌*◌, ◌<◌, ◌≤◌, ◌^◌, List, [], ◌++◌, length, map, add-one, arith}
+use Rattle.std.specs.Prelude.{count_by, slice_index_or}
 use Rattle.ba_cache.specs.Passes as cache
 use Rattle.ba_cache.specs.Passes.{ClosedShelf, known_on}
-use Rattle.ba_cache.specs.declared.call.ShelfCall.{ShelfCall}
+use Rattle.ba_cache.specs.Reads as shelf
 use Rattle.ba_script.specs.declared.entry.ScriptEntry.{ScriptEntry}
-use Rattle.ba_session.specs.Passing.{AreClosed, AreJoined, AreOf, AreOpening, AreSplit, AreWhole, CanSplit, IsOpened, MakesCalls, calls_on}
+use Rattle.ba_session.specs.Passing.{AreClosed, AreJoined, AreOf, AreOpening, AreSplit, AreWhole, CanBeSplit, CanSplit, IsOpened, MakesCalls}
 use Rattle.ba_session.specs.declared.service.Closed.{Closed}
 use Rattle.ba_session.specs.declared.service.Passes.{Passes}
 use Rattle.ba_session.specs.declared.service.Service.{Service}
-use Rattle.ba_top.specs.Legal.{HasShelf, HasShelves, HasVersions, LineDone}
-use Rattle.ba_top.specs.Serving.{CanServe, MakesAll, shelf_calls, version_calls}
+use Rattle.ba_top.proofs.JoinLemmas.{joined_calls, joined_more, joined_none, joined_whole, of_lanes_same, split_first, split_more}
+use Rattle.ba_top.proofs.LineLemmas.{counts_sum, total_front, total_twice}
+use Rattle.ba_top.specs.Lanes.{AreOfLanes, HasJoined, HasSplit, total}
+use Rattle.ba_top.specs.Legal.{HasShelf, HasShelves, HasVersions, IsInput, LineDone, done_in, lane_of, made_on, versions_made}
+use Rattle.ba_top.specs.Serving.{AreUnused, CanServe, HasDone, HasLeft, HasMade, HasServed, HaveJoined, HaveSplit, IsDone, IsShare, IsUnused, MakesAll, SumUp, calls_versions, is_ask, lines_in, shelf_calls, version_calls}
 use Rattle.ba_top.specs.declared.report.Input.{Input}
-use Rattle.ba_turn.specs.History.{HasCalls, calls_by, entry_of, number_of}
-use Rattle.ba_turn.specs.Knowing.{HasAllCalls, SumsToAllowance, after_join, after_split, numbers_of, opening_known, split_known}
+use Rattle.ba_turn.specs.Knowing.{SumsToAllowance, after_join, after_split, opening_known, split_known}
 use Rattle.ba_turn.specs.Passes.{known_by, start_of}
 use Rattle.ba_turn.specs.declared.known.Known.{Known}
 use Rattle.ba_versions.specs.Calls as versions
 use Rattle.ba_versions.specs.Reads.{calls_of, opening_of, versions_of}
-use Rattle.ba_versions.specs.declared.call.VersionCall.{VersionCall}
 
-abbrev pub IsOne : ℕ → Type 0
-IsOne n = n ≡ 1
+-- ---- splits
 
--- the number of one of two passes
-one_of_two : (n : ℕ) → Contains (0 ∷ 1 ∷ []) n → (n ≡ 0) ⊎ (n ≡ 1)
-one_of_two n h = at h.0 h.1 h.2
-  where
-    at : (k : ℕ) → k < 2 → get_or (0 ∷ 1 ∷ []) k n ≡ n → (n ≡ 0) ⊎ (n ≡ 1)
-    at zero low e = inl (sym e)
-    at (suc zero) low e = inr (sym e)
-    at (suc (suc k)) low e = absurd (omega (arith, low))
+abbrev left_of : {S E : Type 0} → Known S E → ℕ
+left_of v = v.left
 
-module _ {E : Type 0} where
-  -- no call is one of pass 0, so all are of pass 1
-  all_one : (seen : List (ℕ × E)) → calls_by 0 seen ≡ [] → All (Contains (0 ∷ 1 ∷ [])) (map number_of seen) → All IsOne (map number_of seen)
-  all_one [] none all = All-nil IsOne
-  all_one (c ∷ seen) none all =
-      by (λ less. all_one seen less (All-tail (Contains (0 ∷ 1 ∷ [])) c.0 (map number_of seen) all)) (one_of_two c.0 (All-head (Contains (0 ∷ 1 ∷ [])) c.0 (map number_of seen) all))
-    where
-      rest : (n : ℕ) → n ≡ 1 → n ≡ c.0 → calls_by 0 seen ≡ []
-      rest n is same = subst (λ z. map entry_of (cond (z == 0) (c ∷ filter (λ x. number_of x == 0) seen) (filter (λ x. number_of x == 0) seen)) ≡ []) (sym same ∙ is) none
+pub have_split_none : (calls looks : ℕ) (p : Passes) → IsOpened calls looks p → HaveSplit 0 p
+have_split_none calls looks p h = record {
+  versions = split_first h.start calls (known_by p.versions) h.versions;
+  shelves = λ i low. split_first (h.shelves.each i low).start looks (known_on p.cache i) (h.shelves.each i low).known;
+}
 
-      by : (calls_by 0 seen ≡ [] → All IsOne (map number_of seen)) → (c.0 ≡ 0) ⊎ (c.0 ≡ 1) → All IsOne (map number_of (c ∷ seen))
-      by further (inl e) =
-          let some : c.1 ∷ calls_by 0 seen ≡ [] = subst (λ z. map entry_of (cond (z == 0) (c ∷ filter (λ x. number_of x == 0) seen) (filter (λ x. number_of x == 0) seen)) ≡ []) e none in
-          absurd (cc)
-      by further (inr e) = All-cons IsOne c.0 (map number_of seen) e (further (rest c.0 e refl))
+pub has_left_all : (input : Input) (calls looks : ℕ) (p : Passes) → IsOpened calls looks p → calls ≡ version_calls input.script.entries → looks ≡ shelf_calls input.script.entries → HasLeft input 0 p
+has_left_all input calls looks p h calls_are looks_are = record {
+  versions = let left = ap left_of h.versions in omega (arith, left, calls_are);
+  shelves = λ i low. let left = ap left_of (h.shelves.each i low).known in omega (arith, left, looks_are);
+}
 
-  -- then its calls are all
-  calls_of_one : (seen : List (ℕ × E)) → All IsOne (map number_of seen) → calls_by 1 seen ≡ map entry_of seen
-  calls_of_one [] all = refl
-  calls_of_one (c ∷ seen) all =
-      let is : c.0 ≡ 1 = All-head IsOne c.0 (map number_of seen) all in
-      ap (λ z. map entry_of (cond (z == 1) (c ∷ filter (λ x. number_of x == 1) seen) (filter (λ x. number_of x == 1) seen))) is
-      ∙ ap (λ z. c.1 ∷ z) (calls_of_one seen (All-tail IsOne c.0 (map number_of seen) all))
+module _ (input : Input) (low : (line : ScriptEntry) → lane_of input.workers line < input.workers) (n : ℕ) (below : n < input.workers) (few : input.workers ≤ 16) where
+  abbrev own_lines : List ScriptEntry
+  own_lines = lines_in input n input.script.entries
 
-module _ {S E : Type 0} (start : S) (allowance : ℕ) (calls : List E) (opened split own done joined : Known S E) (opened_is : opened ≡ opening_known start allowance) (split_is : split ≡ after_split allowance opened)
-    (own_is : own ≡ split_known allowance opened) (makes : MakesCalls own done calls) (joined_is : joined ≡ after_join split done) where
-  number_done : done.number ≡ 1
-  number_done = makes.number ∙ ap (λ (v : Known S E). v.number) own_is ∙ ap (λ (v : Known S E). v.splits + 1) opened_is
+  versions_sum : total (λ k. version_calls (lines_in input k input.script.entries)) n + version_calls own_lines ≤ version_calls input.script.entries
+  versions_sum =
+      let front = total_front (λ k. version_calls (lines_in input k input.script.entries)) n input.workers below in
+      let all = counts_sum (lane_of input.workers) calls_versions input.workers input.script.entries low in
+      omega (arith, front, all)
 
-  made_done : done.made ≡ calls
-  made_done = makes.made ∙ ap (λ (v : Known S E). v.made ++ calls) own_is
+  shelves_sum : total (λ k. shelf_calls (lines_in input k input.script.entries)) n + shelf_calls own_lines ≤ shelf_calls input.script.entries
+  shelves_sum =
+      let front = total_front (λ k. shelf_calls (lines_in input k input.script.entries)) n input.workers below in
+      let twice = total_twice (λ k. count_by is_ask (lines_in input k input.script.entries)) input.workers in
+      let all = counts_sum (lane_of input.workers) is_ask input.workers input.script.entries low in
+      omega (arith, front, twice, all)
 
-  pub number_joined : joined.number ≡ 0
-  number_joined = ap (λ (v : Known S E). v.number) joined_is ∙ ap (λ (v : Known S E). v.number) split_is ∙ ap (λ (v : Known S E). v.number) opened_is
+  can_be_split : {S E : Type 0} (v : Known S E) (a : ℕ) → HasSplit n v → a ≤ v.left → CanBeSplit a v
+  can_be_split v a h left = record { opening = h.number; splits = let s = h.splits_are in omega (arith, s, below, few); left = left }
 
-  splits_joined : joined.splits ≡ 1
-  splits_joined = ap (λ (v : Known S E). v.splits) joined_is ∙ ap (λ (v : Known S E). v.splits) split_is ∙ ap (λ (v : Known S E). v.splits + 1) opened_is
+  module _ (calls looks : ℕ) (calls_are : calls ≡ version_calls own_lines) (looks_are : looks ≡ shelf_calls own_lines) (old : Passes) (left : HasLeft input n old) where
+    versions_left : calls ≤ (known_by old.versions).left
+    versions_left = let l = left.versions in omega (arith, l, calls_are, versions_sum)
 
-  joined_joined : joined.joined ≡ (1, calls) ∷ []
-  joined_joined =
-      ap (λ (v : Known S E). v.joined) joined_is ∙ ap (λ (v : Known S E). (done.number, done.made) ∷ v.joined) (split_is ∙ ap (after_split allowance) opened_is)
-      ∙ (λ i. (number_done i, made_done i) ∷ [])
+    shelves_left : (i : ℕ) → i < 8 → looks ≤ (known_on old.cache i).left
+    shelves_left i inside = let l = left.shelves i inside in omega (arith, l, looks_are, shelves_sum)
 
-  made_joined : joined.made ≡ []
-  made_joined = ap (λ (v : Known S E). v.made) joined_is ∙ ap (λ (v : Known S E). v.made) split_is ∙ ap (λ (v : Known S E). v.made) opened_is
+    pub can_split : HaveSplit n old → CanSplit calls looks old
+    can_split h = record {
+      versions = can_be_split (known_by old.versions) calls h.versions versions_left;
+      shelves = record {
+        each = λ i inside.
+            let c = can_be_split (known_on old.cache i) looks (h.shelves i inside) (shelves_left i inside) in
+            record { opening = c.opening; splits = c.splits; left = c.left };
+      };
+    }
 
-  one_each : joined.splits ≡ length joined.joined
-  one_each = splits_joined ∙ sym (ap length joined_joined)
+    module _ (new own : Passes) (split : AreSplit calls looks old new own) where
+      pub have_split_more : HaveSplit n old → HaveSplit (n + 1) new
+      have_split_more h = record {
+        versions = split_more n calls (known_by old.versions) (known_by new.versions) h.versions split.versions;
+        shelves = λ i inside. split_more n looks (known_on old.cache i) (known_on new.cache i) (h.shelves i inside) (split.shelves.each i inside).known;
+      }
 
-  -- all of the allowance was spent, or has come back
-  pub is_whole : SumsToAllowance joined → joined.left + length joined.seen ≡ joined.allowance
-  is_whole sums = sums number_joined one_each
+      pub has_left_more : HasLeft input (n + 1) new
+      has_left_more = record {
+        versions =
+            let l = left.versions in
+            let cut = ap left_of split.versions in
+            let sum = ap (total (λ k. version_calls (lines_in input k input.script.entries))) (add-one n) in
+            omega (arith, l, cut, sum, calls_are, versions_left);
+        shelves = λ i inside.
+            let l = left.shelves i inside in
+            let cut = ap left_of (split.shelves.each i inside).known in
+            let sum = ap (total (λ k. shelf_calls (lines_in input k input.script.entries))) (add-one n) in
+            let most = shelves_left i inside in
+            omega (arith, l, cut, sum, looks_are, most);
+      }
 
-  module _ (own_calls : calls_by joined.number joined.seen ≡ joined.made) (has : HasCalls joined.seen joined.joined) (whole : HasAllCalls joined) where
-    numbers_are : numbers_of joined ≡ 0 ∷ 1 ∷ []
-    numbers_are = λ i. number_joined i ∷ map number_of (joined_joined i)
+      pub are_unused : HaveSplit n old → AreUnused n own
+      are_unused h = record {
+        versions = record { number = ap (λ (v : Known _ _). v.number) split.split_off ∙ ap (λ k. k + 1) h.versions.splits_are; made = ap (λ (v : Known _ _). v.made) split.split_off };
+        shelves = λ i inside. record {
+          number = ap (λ (v : Known _ _). v.number) (split.shelves.each i inside).other_known ∙ ap (λ k. k + 1) (h.shelves i inside).splits_are;
+          made = ap (λ (v : Known _ _). v.made) (split.shelves.each i inside).other_known;
+        };
+      }
 
-    pub of_worker : All IsOne (map number_of joined.seen)
-    of_worker = all_one joined.seen (ap (λ z. calls_by z joined.seen) (sym number_joined) ∙ own_calls ∙ made_joined)
-        (subst (λ z. All (Contains z) (map number_of joined.seen)) numbers_are (whole.each number_joined one_each))
+      pub own_can : CanServe own_lines own
+      own_can = record {
+        versions = let l = ap left_of split.split_off in omega (arith, l, calls_are);
+        shelves = record { each = λ i inside. let l = ap left_of (split.shelves.each i inside).other_known in omega (arith, l, looks_are) };
+      }
 
-    pub calls_are : map entry_of joined.seen ≡ calls
-    calls_are =
-        let has_one : HasCalls joined.seen ((1, calls) ∷ []) = subst (HasCalls joined.seen) joined_joined has in
-        sym (calls_of_one joined.seen of_worker) ∙ has_one.0
+-- ---- what a lane has done
 
--- ---- all histories of a run
+pub has_made : {S E : Type 0} (k : ℕ) (calls : List E) (v w : Known S E) → IsUnused k v → MakesCalls v w calls → HasMade k calls w
+has_made k calls v w unused makes = record { number = makes.number ∙ unused.number; made = makes.made ∙ ap (λ z. z ++ calls) unused.made }
 
-module _ (service : Service) (calls looks : ℕ) (served : List LineDone) (opened split own done joined : Passes) (opened_is : IsOpened calls looks opened) (split_is : AreSplit calls looks opened split own)
-    (makes : MakesAll served own done) (joined_is : AreJoined split done joined) where
-  abbrev line_versions : List VersionCall
-  line_versions = flat_map (λ (it : LineDone). it.made.versions) served
+-- ---- joins
 
-  abbrev line_looks : ℕ → List ShelfCall
-  line_looks k = flat_map (λ (it : LineDone). calls_on k it.made.shelves) served
+pub have_joined_none : (splits : ℕ) (done : ℕ → List LineDone) (p : Passes) → HaveSplit splits p → HaveJoined splits 0 done p
+have_joined_none splits done p h = record {
+  versions = joined_none (λ k. versions_made (done k)) splits (known_by p.versions) h.versions;
+  shelves = λ i low. joined_none (λ k. made_on i (done k)) splits (known_on p.cache i) (h.shelves i low);
+}
 
-  -- what is known of the shelf k after all that
-  shelf_opened : (k : ℕ) → k < 8 → cache.IsOpened looks (known_on opened.cache k)
-  shelf_opened k low = opened_is.shelves.each k low
+pub are_opening : (splits joined : ℕ) (done : ℕ → List LineDone) (p : Passes) → HaveJoined splits joined done p → AreOpening p
+are_opening splits joined done p h = record { versions = h.versions.number; shelves = record { each = λ i low. (h.shelves i low).number } }
 
-  shelf_split : (k : ℕ) → k < 8 → cache.IsSplit looks (known_on opened.cache k) (known_on split.cache k) (known_on own.cache k)
-  shelf_split k low = split_is.shelves.each k low
-
-  shelf_joined : (k : ℕ) → k < 8 → cache.IsJoined (known_on split.cache k) (known_on done.cache k) (known_on joined.cache k)
-  shelf_joined k low = joined_is.shelves.each k low
-
-  pub are_whole : AreOf service joined → AreWhole service joined
-  are_whole of = record {
-    versions =
-        is_whole opened_is.start calls line_versions (known_by opened.versions) (known_by split.versions) (known_by own.versions) (known_by done.versions) (known_by joined.versions) opened_is.versions split_is.versions
-        split_is.split_off makes.versions joined_is.versions joined_is.sums
-        ∙ of.versions.of.allowance;
-    shelves = record {
-      each = λ k low.
-          is_whole (shelf_opened k low).start looks (line_looks k) (known_on opened.cache k) (known_on split.cache k) (known_on own.cache k) (known_on done.cache k) (known_on joined.cache k) (shelf_opened k low).known
-          (shelf_split k low).known (shelf_split k low).other_known (makes.shelves k low) (shelf_joined k low).known (shelf_joined k low).sums;
-    };
+module _ (splits k : ℕ) (done : ℕ → List LineDone) (old other new : Passes) (joined : AreJoined old other new) where
+  pub have_joined_more : HaveJoined splits k done old → HasMade k (versions_made (done k)) (known_by other.versions) → ((i : ℕ) → i < 8 → HasMade k (made_on i (done k)) (known_on other.cache i)) → HaveJoined splits (k + 1) done new
+  have_joined_more h versions shelves = record {
+    versions = joined_more (λ j. versions_made (done j)) splits k (known_by old.versions) (known_by other.versions) (known_by new.versions) h.versions versions.number versions.made joined.versions;
+    shelves = λ i low.
+        joined_more (λ j. made_on i (done j)) splits k (known_on old.cache i) (known_on other.cache i) (known_on new.cache i) (h.shelves i low) (shelves i low).number (shelves i low).made
+        (joined.shelves.each i low).known;
   }
 
-  module _ (input : Input) (closed : Closed) (is : AreClosed service joined closed) (opening : opening_of (start_of service.versions) ≡ input.tables) where
+  pub sum_up : SumUp new
+  sum_up = record { versions = joined.sums; shelves = λ i low. (joined.shelves.each i low).sums }
+
+-- ---- the histories of a run
+
+module _ (service : Service) (lanes : ℕ) (done : ℕ → List LineDone) (p : Passes) (h : HaveJoined lanes lanes done p) where
+  pub are_whole : SumUp p → AreOf service p → AreWhole service p
+  are_whole sums of = record {
+    versions = joined_whole (λ k. versions_made (done k)) lanes (known_by p.versions) h.versions sums.versions ∙ of.versions.of.allowance;
+    shelves = record { each = λ i low. joined_whole (λ k. made_on i (done k)) lanes (known_on p.cache i) (h.shelves i low) (sums.shelves i low) };
+  }
+
+  module _ (input : Input) (workers : lanes ≡ input.workers) (served : List LineDone) (done_are : (k : ℕ) → k < lanes → done k ≡ done_in input served k) (closed : Closed) (is : AreClosed service p closed)
+      (opening : opening_of (start_of service.versions) ≡ input.tables) where
     pub has_versions : HasVersions input served closed
     has_versions = record {
-      calls = is.history
-          ∙ calls_are opened_is.start calls line_versions (known_by opened.versions) (known_by split.versions) (known_by own.versions) (known_by done.versions) (known_by joined.versions) opened_is.versions split_is.versions
-          split_is.split_off makes.versions joined_is.versions is.own is.joined is.whole;
-      numbers = subst (All IsOne) (sym is.numbers)
-          (of_worker opened_is.start calls line_versions (known_by opened.versions) (known_by split.versions) (known_by own.versions) (known_by done.versions) (known_by joined.versions) opened_is.versions split_is.versions
-          split_is.split_off makes.versions joined_is.versions is.own is.joined is.whole);
+      calls = subst (λ n. AreOfLanes n (λ k. versions_made (done_in input served k)) (calls_of closed.versions) closed.numbers.items) workers
+          (of_lanes_same lanes (λ k. versions_made (done k)) (λ k. versions_made (done_in input served k)) (calls_of closed.versions) closed.numbers.items (λ k low. ap versions_made (done_are k low))
+          (joined_calls (λ k. versions_made (done k)) lanes (known_by p.versions) h.versions is.own is.joined is.whole (calls_of closed.versions) closed.numbers.items is.history is.numbers));
       legal = subst (λ z. ∥ versions.Legal z (calls_of closed.versions) (versions_of closed.versions) ∥₁) (is.opening ∙ opening) is.legal;
     }
 
-    has_shelf : (k : ℕ) (it : ClosedShelf) → k < 8 → cache.IsClosed (known_on joined.cache k) it.0 it.1.items → HasShelf served k it
-    has_shelf k it low h = record {
-      calls = h.history
-          ∙ calls_are (shelf_opened k low).start looks (line_looks k) (known_on opened.cache k) (known_on split.cache k) (known_on own.cache k) (known_on done.cache k) (known_on joined.cache k) (shelf_opened k low).known
-          (shelf_split k low).known (shelf_split k low).other_known (makes.shelves k low) (shelf_joined k low).known h.own h.joined h.whole;
-      numbers = subst (All IsOne) (sym h.numbers_are)
-          (of_worker (shelf_opened k low).start looks (line_looks k) (known_on opened.cache k) (known_on split.cache k) (known_on own.cache k) (known_on done.cache k) (known_on joined.cache k) (shelf_opened k low).known
-          (shelf_split k low).known (shelf_split k low).other_known (makes.shelves k low) (shelf_joined k low).known h.own h.joined h.whole);
-      legal = h.legal;
+    has_shelf : (i : ℕ) (it : ClosedShelf) → i < 8 → cache.IsClosed (known_on p.cache i) it.0 it.1.items → HasShelf input served i it
+    has_shelf i it low c = record {
+      calls = subst (λ n. AreOfLanes n (λ k. made_on i (done_in input served k)) (shelf.calls_of it.0) it.1.items) workers
+          (of_lanes_same lanes (λ k. made_on i (done k)) (λ k. made_on i (done_in input served k)) (shelf.calls_of it.0) it.1.items (λ k inside. ap (made_on i) (done_are k inside))
+          (joined_calls (λ k. made_on i (done k)) lanes (known_on p.cache i) (h.shelves i low) c.own c.joined c.whole (shelf.calls_of it.0) it.1.items c.history c.numbers_are));
+      legal = c.legal;
     }
 
-    pub has_shelves : HasShelves served closed
+    pub has_shelves : HasShelves input served closed
     has_shelves = record {
       eight = is.shelves.eight;
-      each = λ k d low. has_shelf k (slice_index_or closed.shelves.items k d) low (is.shelves.each k d low);
+      each = λ i d low. has_shelf i (slice_index_or closed.shelves.items i d) low (is.shelves.each i d low);
     }
-
--- the passes that are split off a new service's have all of its allowances
-pub own_can : (calls looks : ℕ) (lines : List ScriptEntry) (opened split own : Passes) → calls ≡ version_calls lines → looks ≡ shelf_calls lines → IsOpened calls looks opened → AreSplit calls looks opened split own → CanServe lines own
-own_can calls looks lines opened split own calls_are looks_are opened_is split_is = record {
-  versions = let left = ap (λ (v : Known _ _). v.left) split_is.split_off in omega (arith, left, calls_are);
-  shelves = record { each = λ k low. let left = ap (λ (v : Known _ _). v.left) (split_is.shelves.each k low).other_known in omega (arith, left, looks_are) };
-}
-
-pub can_split : (calls looks : ℕ) (opened : Passes) → IsOpened calls looks opened → CanSplit calls looks opened
-can_split calls looks opened h = record {
-  versions = record {
-    opening = ap (λ (v : Known _ _). v.number) h.versions;
-    splits = let n = ap (λ (v : Known _ _). v.splits) h.versions in omega (arith, n);
-    left = let n = ap (λ (v : Known _ _). v.left) h.versions in omega (arith, n);
-  };
-  shelves = record {
-    each = λ k low. record {
-      opening = ap (λ (v : Known _ _). v.number) (h.shelves.each k low).known;
-      splits = let n = ap (λ (v : Known _ _). v.splits) (h.shelves.each k low).known in omega (arith, n);
-      left = let n = ap (λ (v : Known _ _). v.left) (h.shelves.each k low).known in omega (arith, n);
-    };
-  };
-}
-
-pub are_opening : (calls looks : ℕ) (opened split own : Passes) → IsOpened calls looks opened → AreSplit calls looks opened split own → AreOpening split
-are_opening calls looks opened split own h s = record {
-  versions = ap (λ (v : Known _ _). v.number) s.versions ∙ ap (λ (v : Known _ _). v.number) h.versions;
-  shelves = record { each = λ k low. ap (λ (v : Known _ _). v.number) (s.shelves.each k low).known ∙ ap (λ (v : Known _ _). v.number) (h.shelves.each k low).known };
-}

@@ -17,7 +17,7 @@ use Rattle.ba_model.specs.declared.policy.Policy.{Policy}
 use Rattle.ba_model.specs.declared.schema.Schema.{Schema}
 use Rattle.ba_model.specs.declared.schema.Table.{Table}
 use Rattle.ba_model.specs.declared.value.Value.{Value}
-use Rattle.ba_model.specs.declared.limits.TheConstants.{MAX_BUDGET, MAX_FILE_BYTES}
+use Rattle.ba_model.specs.declared.limits.TheConstants.{MAX_BUDGET, MAX_FILE_BYTES, MAX_WORKERS}
 use Rattle.ba_outside.specs.Seen.{FilesSeen}
 use Rattle.ba_plan.proofs.Plans.{found_ok, memory_now, then_err, then_ok}
 use Rattle.ba_plan.specs.Follows.{Follows, Gives, Got}
@@ -46,16 +46,17 @@ no_rule : (s : Schema) (rules : List Rule) → rules ≡ [] → All (RuleFits s)
 no_rule s rules none = subst (All (RuleFits s)) (sym none) (All-nil (RuleFits s))
 
 -- what was read belongs together
-pub input_fits : (policy : Policy) (tables : TableSet) (script : Script) (sets : List TableSet) (budget : ℕ) → PolicyFits policy → IsSetOf policy.schema tables → IsScript policy.params script
-    → All (IsSetOf policy.schema) sets → length sets ≡ published script.entries → budget ≤ MAX_BUDGET → AreTables policy.schema.tables → policy.schema.rules ≡ []
-    → IsInput (record { policy = policy; tables = tables; script = script; published = sets; budget = budget })
-input_fits policy tables script sets budget fits set is all count few tables_are none = record {
+pub input_fits : (policy : Policy) (tables : TableSet) (script : Script) (sets : List TableSet) (workers budget : ℕ) → PolicyFits policy → IsSetOf policy.schema tables → IsScript policy.params script
+    → All (IsSetOf policy.schema) sets → length sets ≡ published script.entries → (0 < workers) × (workers ≤ MAX_WORKERS) → budget ≤ MAX_BUDGET → AreTables policy.schema.tables → policy.schema.rules ≡ []
+    → IsInput (record { policy = policy; tables = tables; script = script; published = sets; workers = workers; budget = budget })
+input_fits policy tables script sets workers budget fits set is all count many few tables_are none = record {
   policy = fits;
   schema = set.schema_is;
   conform = set.conform;
   script = is;
   sets = all;
   one_each = count;
+  workers = many;
   budget = few;
   tables_are = tables_are;
   rules = no_rule policy.schema policy.schema.rules none;
@@ -156,23 +157,23 @@ sets_count entries sets more i entry set below is before one kept =
     omega (arith, ap length kept, length-append sets (option_to_list set), before, one, whole, published_more (published (take i entries)) entry)
 
 -- all sets, and then the input
-pub published_ok : (budget : ℕ) (policy : Policy) (tables : TableSet) (script : Script) (schema : Schema) (entries : List ScriptEntry) (sets : List TableSet) (s t : FilesSeen) → schema ≡ policy.schema → entries ≡ script.entries
-    → Follows (sets_plan schema entries []) s t (Ok sets) → Follows (published_plan budget policy tables script) s t (Ok (record { policy = policy; tables = tables; script = script; published = sets; budget = budget }))
-published_ok budget policy tables script schema entries sets s t same is follows =
-    then_ok (sets_plan policy.schema script.entries []) (λ z. done (record { policy = policy; tables = tables; script = script; published = z; budget = budget })) s t t sets _
+pub published_ok : (workers budget : ℕ) (policy : Policy) (tables : TableSet) (script : Script) (schema : Schema) (entries : List ScriptEntry) (sets : List TableSet) (s t : FilesSeen) → schema ≡ policy.schema → entries ≡ script.entries
+    → Follows (sets_plan schema entries []) s t (Ok sets) → Follows (published_plan workers budget policy tables script) s t (Ok (record { policy = policy; tables = tables; script = script; published = sets; workers = workers; budget = budget }))
+published_ok workers budget policy tables script schema entries sets s t same is follows =
+    then_ok (sets_plan policy.schema script.entries []) (λ z. done (record { policy = policy; tables = tables; script = script; published = z; workers = workers; budget = budget })) s t t sets _
     (subst (λ z. Follows (sets_plan z script.entries []) s t (Ok sets)) same (subst (λ z. Follows (sets_plan schema z []) s t (Ok sets)) is follows)) (refl, refl)
 
-pub published_err : (budget : ℕ) (policy : Policy) (tables : TableSet) (script : Script) (schema : Schema) (entries : List ScriptEntry) (s t : FilesSeen) (e : Stop Refusal) → schema ≡ policy.schema → entries ≡ script.entries
-    → Follows (sets_plan schema entries []) s t (Err e) → Follows (published_plan budget policy tables script) s t (Err e)
-published_err budget policy tables script schema entries s t e same is follows =
-    then_err (sets_plan policy.schema script.entries []) (λ z. done (record { policy = policy; tables = tables; script = script; published = z; budget = budget })) s t e
+pub published_err : (workers budget : ℕ) (policy : Policy) (tables : TableSet) (script : Script) (schema : Schema) (entries : List ScriptEntry) (s t : FilesSeen) (e : Stop Refusal) → schema ≡ policy.schema → entries ≡ script.entries
+    → Follows (sets_plan schema entries []) s t (Err e) → Follows (published_plan workers budget policy tables script) s t (Err e)
+published_err workers budget policy tables script schema entries s t e same is follows =
+    then_err (sets_plan policy.schema script.entries []) (λ z. done (record { policy = policy; tables = tables; script = script; published = z; workers = workers; budget = budget })) s t e
     (subst (λ z. Follows (sets_plan z script.entries []) s t (Err e)) same (subst (λ z. Follows (sets_plan schema z []) s t (Err e)) is follows))
 
 -- the schema, the policy, the tables, and then the rest
 pub named_ok : (names : Names) (bytes text : List ℕ) (schema : Schema) (policy : Policy) (tables : TableSet) (s m n o t : FilesSeen) (r : Result Input (Stop Refusal))
     → Got names.schema MAX_FILE_BYTES bytes s m → widened (ddl_refusal names.schema) (schema_of bytes) ≡ Ok schema
     → Got names.policy MAX_FILE_BYTES text m n → widened (policy_refusal names.policy) (policy_of schema text) ≡ Ok policy
-    → Follows (tables_plan names.tables schema) n o (Ok tables) → Follows (script_plan names.script names.budget policy tables) o t r → Follows (reading_of names) s t r
+    → Follows (tables_plan names.tables schema) n o (Ok tables) → Follows (script_plan names.script names.workers names.budget policy tables) o t r → Follows (reading_of names) s t r
 named_ok names bytes text schema policy tables s m n o t r got read given is set rest = inr (
   bytes,
   m,
@@ -183,7 +184,7 @@ named_ok names bytes text schema policy tables s m n o t r got read given is set
         n,
         given,
         found_ok (widened (policy_refusal names.policy) (policy_of schema text)) (rest_plan names schema) n t r policy is
-            (then_ok (tables_plan names.tables schema) (script_plan names.script names.budget policy) n o t tables r set rest),
+            (then_ok (tables_plan names.tables schema) (script_plan names.script names.workers names.budget policy) n o t tables r set rest),
       )),
 )
 
@@ -202,7 +203,7 @@ named_err names bytes text schema policy s m n t e got read given is set = inr (
         n,
         given,
         found_ok (widened (policy_refusal names.policy) (policy_of schema text)) (rest_plan names schema) n t (Err e) policy is
-            (then_err (tables_plan names.tables schema) (script_plan names.script names.budget policy) n t e set),
+            (then_err (tables_plan names.tables schema) (script_plan names.script names.workers names.budget policy) n t e set),
       )),
 )
 

@@ -1,4 +1,9 @@
+pub mod LineLemmas
+pub mod JoinLemmas
+pub mod ShareLemmas
 pub mod ServeLemmas
+pub mod MergeLemmas
+pub mod WorkLemmas
 pub mod LaneLemmas
 pub mod HistoryLemmas
 pub mod SummaryLemmas

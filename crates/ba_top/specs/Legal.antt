@@ -1,15 +1,16 @@
 -- What a run does with its input.
-use Rattle.std.specs.Prelude.{◌≡◌, ◌⊎◌, ◌≤◌, ◌<◌, ◌==◌, ℕ, List, [], ◌∷◌, ◌++◌, ⊤, Bool, true, false, if◌then◌else◌, All, Contains, Some, length, map, slice_get, slice_index_or}
+use Rattle.std.specs.Prelude.{◌≡◌, ◌⊎◌, ◌≤◌, ◌<◌, ◌==◌, ◌%◌, ℕ, List, [], ◌∷◌, ◌++◌, Bool, true, false, if◌then◌else◌, All, Contains, Some, length, map, slice_get, slice_index_or}
 use Rattle.std.specs.List.{AllZip, flat_map, list_any}
 use Rattle.ba_cache.specs.Passes.{ClosedShelf}
 use Rattle.ba_cache.specs.Reads as shelf
 use Rattle.ba_cache.specs.Rows as shelves
+use Rattle.ba_cache.specs.declared.call.ShelfCall.{ShelfCall}
 use Rattle.ba_comply.specs.declared.trace.TraceEntry.{TraceEntry}
 use Rattle.ba_kernel.specs.Courses.{RuleFits}
 use Rattle.ba_model.specs.Conform.{Conforms, RowFits}
 use Rattle.ba_model.specs.Fit.{PolicyFits}
 use Rattle.ba_model.specs.SchemaFaults.{AreTables}
-use Rattle.ba_model.specs.declared.limits.TheConstants.{MAX_BUDGET}
+use Rattle.ba_model.specs.declared.limits.TheConstants.{MAX_BUDGET, MAX_WORKERS}
 use Rattle.ba_model.specs.declared.policy.Context.{Context}
 use Rattle.ba_model.specs.declared.schema.Table.{Table}
 use Rattle.ba_model.specs.declared.value.Value.{Value}
@@ -25,6 +26,7 @@ use Rattle.ba_session.specs.declared.reply.Reply.TheVariants as reply
 use Rattle.ba_session.specs.declared.request.Request.{Request}
 use Rattle.ba_session.specs.declared.service.Closed.{Closed}
 use Rattle.ba_tables.specs.TableSet.{TableSet}
+use Rattle.ba_top.specs.Lanes.{AreOfLanes, EachAfter, of_lane}
 use Rattle.ba_top.specs.Published.{IsSetOf}
 use Rattle.ba_top.specs.declared.report.Entry.{Entry}
 use Rattle.ba_top.specs.declared.report.Entry.TheVariants.{Begin, Unbegun, Ask, End, Publish, NoMemory}
@@ -55,11 +57,24 @@ contexts_of entries = flat_map context_in entries
 abbrev pub HasContext : Script → ℕ → Context → Type 0
 HasContext script number context = slice_get (contexts_of script.entries) number ≡ Some context
 
+-- ---- lanes
+
+-- the number by which a line comes to its lane: that of its request, or of its publish line
+abbrev pub number_in : ScriptEntry → ℕ
+number_in (said.Begin request name context) = request
+number_in (said.Ask request name text) = request
+number_in (said.End request name) = request
+number_in (said.Publish number set) = number
+
+-- the lane that carries a line, of so many
+abbrev pub lane_of : ℕ → ScriptEntry → ℕ
+lane_of workers line = number_in line % workers
+
 -- ---- the input
 
 -- The input belongs together: the policy fits its schema, which is well formed, the tables are of that schema and conform to it, the
--- script is one for the policy's parameters, there is a table set for each of its publish lines, of that schema too, and the budget is
--- within its limit.
+-- script is one for the policy's parameters, there is a table set for each of its publish lines, of that schema too, and the workers and the budget
+-- are within their limits.
 pub record IsInput (input : Input) : Type 0 where
   pub policy : PolicyFits input.policy
   pub schema : input.tables.schema ≡ input.policy.schema
@@ -67,6 +82,7 @@ pub record IsInput (input : Input) : Type 0 where
   pub script : IsScript input.policy.params input.script
   pub sets : All (IsSetOf input.policy.schema) input.published
   pub one_each : length input.published ≡ published input.script.entries
+  pub workers : (0 < input.workers) × (input.workers ≤ MAX_WORKERS)
   pub budget : input.budget ≤ MAX_BUDGET
   pub tables_are : AreTables input.policy.schema.tables
   pub rules : All (RuleFits input.policy.schema) input.policy.schema.rules
@@ -178,42 +194,44 @@ IsServed input earlier (said.Publish number set) it = IsPublish input number it 
 
 -- the lines and what becomes of them, one by one, after earlier lines
 abbrev pub AreServed : Input → List LineDone → List ScriptEntry → List LineDone → Type 0
-AreServed input earlier [] [] = ⊤
-AreServed input earlier [] (it ∷ its) = ⊥
-AreServed input earlier (line ∷ lines) [] = ⊥
-AreServed input earlier (line ∷ lines) (it ∷ its) = IsServed input earlier line it × AreServed input (earlier ++ it ∷ []) lines its
+AreServed input earlier lines its = EachAfter (IsServed input) earlier lines its
 
 -- ---- histories
 
--- all calls are those of the one worker
-abbrev pub AreOfWorker : List ℕ → Type 0
-AreOfWorker numbers = All (λ n. n ≡ 1) numbers
+-- what became of the lines of the lane k, in their order, where this became of all lines
+abbrev pub done_in : Input → List LineDone → ℕ → List LineDone
+done_in input served k = of_lane (lane_of input.workers) k input.script.entries served
 
--- the versions' calls are those of the lines, in order, and legal from the input's tables on
+-- the calls that these lines made, on the versions and on the shelf k
+abbrev pub versions_made : List LineDone → List VersionCall
+versions_made its = flat_map (λ it. it.made.versions) its
+
+abbrev pub made_on : ℕ → List LineDone → List ShelfCall
+made_on k its = flat_map (λ it. calls_on k it.made.shelves) its
+
+-- the versions' calls are those of the lines, lane by lane in their order, and legal from the input's tables on
 pub record HasVersions (input : Input) (served : List LineDone) (histories : Closed) : Type 0 where
-  pub calls : calls_of histories.versions ≡ flat_map (λ it. it.made.versions) served
-  pub numbers : AreOfWorker histories.numbers.items
+  pub calls : AreOfLanes input.workers (λ k. versions_made (done_in input served k)) (calls_of histories.versions) histories.numbers.items
   pub legal : ∥ versions.Legal input.tables (calls_of histories.versions) (versions_of histories.versions) ∥₁
 
--- the calls of the shelf k are those of the lines, in order, and legal from an empty shelf on
-pub record HasShelf (served : List LineDone) (k : ℕ) (it : ClosedShelf) : Type 0 where
-  pub calls : shelf.calls_of it.0 ≡ flat_map (λ line. calls_on k line.made.shelves) served
-  pub numbers : AreOfWorker it.1.items
+-- the calls of the shelf k are those of the lines, lane by lane in their order, and legal from an empty shelf on
+pub record HasShelf (input : Input) (served : List LineDone) (k : ℕ) (it : ClosedShelf) : Type 0 where
+  pub calls : AreOfLanes input.workers (λ i. made_on k (done_in input served i)) (shelf.calls_of it.0) it.1.items
   pub legal : ∥ shelves.Legal (shelf.calls_of it.0) (shelf.rows_of it.0) ∥₁
 
-pub record HasShelves (served : List LineDone) (histories : Closed) : Type 0 where
+pub record HasShelves (input : Input) (served : List LineDone) (histories : Closed) : Type 0 where
   pub eight : length histories.shelves.items ≡ 8
-  pub each : (k : ℕ) (d : ClosedShelf) → k < 8 → HasShelf served k (slice_index_or histories.shelves.items k d)
+  pub each : (k : ℕ) (d : ClosedShelf) → k < 8 → HasShelf input served k (slice_index_or histories.shelves.items k d)
 
--- One entry for each line of the script, in order, and the calls of these lines are the histories of the versions and of the shelves. A request begins over the version
--- that was the last one, with an empty trace, and each of its questions has the reply of the request as it then stands, under the input's budget.
+-- One entry for each line of the script, in order, and the calls of these lines are the histories of the versions and of the shelves, each lane's in the order of its
+-- lines, with the number of its pass. A request begins over the version that was the last one, with an empty trace, and each of its questions has the reply of the request as it then stands, under the input's budget.
 pub record Legal (input : Input) (journal : Journal) : Type 0 where
   pub input_fits : IsInput input
   pub served : List LineDone
   pub entries : journal.entries ≡ map (λ it. it.entry) served
   pub lines : AreServed input [] input.script.entries served
   pub versions : HasVersions input served journal.histories
-  pub shelves : HasShelves served journal.histories
+  pub shelves : HasShelves input served journal.histories
 
 unfoldable pub is_memory : Entry → Bool
 is_memory (Begin request version) = false

@@ -34,12 +34,13 @@ use Rattle.ba_top.specs.declared.report.Task.TheVariants as task
 
 -- ---- a run
 
--- the names of the files, and of the table set, and the budget of a search
+-- the names of the files, and of the table set, the number of workers, and the budget of a search
 pub record Names : Type 0 where
   pub schema : List ℕ
   pub policy : List ℕ
   pub tables : List ℕ
   pub script : List ℕ
+  pub workers : ℕ
   pub budget : ℕ
 
 abbrev pub file_of : List ℕ → Plan Refusal (List ℕ)
@@ -79,21 +80,21 @@ sets_plan schema (entry ∷ entries) sets = do
   set ← set_plan schema entry
   sets_plan schema entries (sets ++ option_to_list set)
 
-abbrev pub published_plan : ℕ → Policy → TableSet → Script → Plan Refusal Input
-published_plan budget policy tables script = do
+abbrev pub published_plan : ℕ → ℕ → Policy → TableSet → Script → Plan Refusal Input
+published_plan workers budget policy tables script = do
   published ← sets_plan policy.schema script.entries []
-  done (record { policy = policy; tables = tables; script = script; published = published; budget = budget })
+  done (record { policy = policy; tables = tables; script = script; published = published; workers = workers; budget = budget })
 
-abbrev pub script_plan : List ℕ → ℕ → Policy → TableSet → Plan Refusal Input
-script_plan name budget policy tables = do
+abbrev pub script_plan : List ℕ → ℕ → ℕ → Policy → TableSet → Plan Refusal Input
+script_plan name workers budget policy tables = do
   bytes ← file_of name
   script ← found (widened (script_refusal name) (script_of policy.params bytes))
-  published_plan budget policy tables script
+  published_plan workers budget policy tables script
 
 abbrev pub rest_plan : Names → Schema → Policy → Plan Refusal Input
 rest_plan names schema policy = do
   tables ← tables_plan names.tables schema
-  script_plan names.script names.budget policy tables
+  script_plan names.script names.workers names.budget policy tables
 
 abbrev pub policy_plan : Names → Schema → Plan Refusal Input
 policy_plan names schema = do
@@ -147,9 +148,8 @@ check_plan names = do
   proof ← proof_reading_of names
   done (task.Check proof)
 
--- the number of workers has no effect on what is read
 abbrev pub command_plan : Command → Plan Refusal Task
-command_plan (Run schema policy tables script workers budget) = run_plan (record { schema = schema; policy = policy; tables = tables; script = script; budget = budget })
+command_plan (Run schema policy tables script workers budget) = run_plan (record { schema = schema; policy = policy; tables = tables; script = script; workers = workers; budget = budget })
 command_plan (Check schema policy proof) = check_plan (record { schema = schema; policy = policy; proof = proof })
 
 abbrev pub plan_at : Result Command WordsFault → Plan Refusal Task

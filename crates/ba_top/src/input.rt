@@ -1,12 +1,12 @@
 //! Reads what the words name.
-ghost use Rattle.std.specs.Prelude.{◌≡◌, ◌≤◌, ◌++◌, [], All, IfOk, IfSome, length, map, string_bytes, Err};
+ghost use Rattle.std.specs.Prelude.{◌≡◌, ◌<◌, ◌≤◌, ◌++◌, [], All, IfOk, IfSome, length, map, string_bytes, Err};
 ghost use Rattle.std.specs.Option.{option_to_list};
-ghost use Rattle.ba_command.specs.Words.{budget_of};
+ghost use Rattle.ba_command.specs.Words.{budget_of, workers_of};
 ghost use Rattle.ba_model.specs.Conform.{RowFits};
 ghost use Rattle.ba_model.specs.Fit.{PolicyFits};
 ghost use Rattle.ba_model.specs.Readings.{widened};
 ghost use Rattle.ba_model.specs.SchemaFaults.{AreTables};
-ghost use Rattle.ba_model.specs.declared.limits.TheConstants.{MAX_BUDGET as most_budget};
+ghost use Rattle.ba_model.specs.declared.limits.TheConstants.{MAX_BUDGET as most_budget, MAX_WORKERS as most_workers};
 ghost use Rattle.ba_plan.specs.Follows.{Follows, Gives};
 ghost use Rattle.ba_policy.specs.Reading.{policy_of};
 ghost use Rattle.ba_script.specs.Reading.{published, published_by, script_of};
@@ -37,13 +37,14 @@ use ba_sql_ddl::read_schema;
 use ba_tables::{Tables, rows_of_file};
 use std::alloc::{AllocError, Global};
 
-/// The names of the files and of the table set, and the budget of a search.
+/// The names of the files and of the table set, the number of workers, and the budget of a search.
 #[derive(Clone, Copy, Debug)]
 struct Named<'a> {
     schema: &'a str,
     policy: &'a str,
     tables: &'a str,
     script: &'a str,
+    workers: u32,
     budget: u32,
 }
 
@@ -261,6 +262,7 @@ fn read_sets<F: Files>(
 fn read_published<F: Files>(
     alloc: Global,
     files: &mut F,
+    workers: u32,
     budget: u32,
     policy: Shared<Policy>,
     tables: Shared<Tables>,
@@ -271,8 +273,9 @@ fn read_published<F: Files>(
     requires script { IsScript policy.params script }
     requires tables_are { AreTables policy.schema.tables }
     requires rules { policy.schema.rules ≡ [] }
+    requires workers { (0 < workers) × (workers ≤ most_workers) }
     requires budget { budget ≤ most_budget }
-    ensures follows { Follows (published_plan budget policy tables script)
+    ensures follows { Follows (published_plan workers budget policy tables script)
         (F.seen files.old) (F.seen files.new) result }
     ensures input { IfOk result IsInput }
 {
@@ -282,6 +285,7 @@ fn read_published<F: Files>(
         tables,
         script,
         published,
+        workers,
         budget,
     })
 }
@@ -291,6 +295,7 @@ fn read_rest<F: Files>(
     alloc: Global,
     files: &mut F,
     name: &str,
+    workers: u32,
     budget: u32,
     policy: Shared<Policy>,
     tables: Shared<Tables>,
@@ -299,14 +304,15 @@ fn read_rest<F: Files>(
     requires tables { IsSetOf policy.schema tables }
     requires tables_are { AreTables policy.schema.tables }
     requires rules { policy.schema.rules ≡ [] }
+    requires workers { (0 < workers) × (workers ≤ most_workers) }
     requires budget { budget ≤ most_budget }
-    ensures follows { Follows (script_plan name.now budget policy tables)
+    ensures follows { Follows (script_plan name.now workers budget policy tables)
         (F.seen files.old) (F.seen files.new) result }
     ensures input { IfOk result IsInput }
 {
     let bytes = read_file(alloc, files, name, MAX_FILE_BYTES)?;
     let script = script_at(alloc, name, &policy.params, &bytes)?;
-    read_published(alloc, files, budget, policy, tables, script)
+    read_published(alloc, files, workers, budget, policy, tables, script)
 }
 
 fn read_named<F: Files>(
@@ -314,12 +320,14 @@ fn read_named<F: Files>(
     files: &mut F,
     named: &Named<'_>,
 ) -> Result<Input, Stop<Refusal>>
+    requires workers { (0 < named.now.workers) × (named.now.workers ≤ most_workers) }
     requires budget { named.now.budget ≤ most_budget }
     ensures follows { Follows (reading_of (record {
       schema = named.now.schema.now;
       policy = named.now.policy.now;
       tables = named.now.tables.now;
       script = named.now.script.now;
+      workers = named.now.workers;
       budget = named.now.budget;
     }))
         (F.seen files.old) (F.seen files.new) result }
@@ -330,7 +338,15 @@ fn read_named<F: Files>(
     let text = read_file(alloc, files, named.policy, MAX_FILE_BYTES)?;
     let policy = policy_at(alloc, named.policy, &schema, &text)?;
     let tables = read_tables(alloc, files, named.tables, &schema)?;
-    read_rest(alloc, files, named.script, named.budget, policy, tables)
+    read_rest(
+        alloc,
+        files,
+        named.script,
+        named.workers,
+        named.budget,
+        policy,
+        tables,
+    )
 }
 
 fn read_run<F: Files>(
@@ -338,12 +354,14 @@ fn read_run<F: Files>(
     files: &mut F,
     named: &Named<'_>,
 ) -> Result<Task, Stop<Refusal>>
+    requires workers { (0 < named.now.workers) × (named.now.workers ≤ most_workers) }
     requires budget { named.now.budget ≤ most_budget }
     ensures follows { Follows (run_plan (record {
       schema = named.now.schema.now;
       policy = named.now.policy.now;
       tables = named.now.tables.now;
       script = named.now.script.now;
+      workers = named.now.workers;
       budget = named.now.budget;
     }))
         (F.seen files.old) (F.seen files.new) result }
@@ -358,6 +376,7 @@ fn read_command<F: Files>(
     command: &Command,
     files: &mut F,
 ) -> Result<Task, Stop<Refusal>>
+    requires workers { IfSome (workers_of command.now) (λ n. (0 < n) × (n ≤ most_workers)) }
     requires budget { budget_of command.now ≤ most_budget }
     ensures follows { Follows (command_plan command.now)
         (F.seen files.old) (F.seen files.new) result }
@@ -369,14 +388,15 @@ fn read_command<F: Files>(
             policy,
             tables,
             script,
+            workers,
             budget,
-            ..
         } => {
             let named = Named {
                 schema: schema.as_str(),
                 policy: policy.as_str(),
                 tables: tables.as_str(),
                 script: script.as_str(),
+                workers: *workers,
                 budget: *budget,
             };
             read_run(alloc, files, &named)

@@ -1,12 +1,13 @@
 //! A lane: the lines of a script that one worker serves, one after another.
 
-ghost use Rattle.std.specs.Prelude.{◌≡◌, ℕ, ◌<◌, ◌≤◌, List, [], IfOk, length, vec_capacity};
+ghost use Rattle.std.specs.Prelude.{◌≡◌, ℕ, ◌+◌, ◌<◌, ◌≤◌, List, [], IfOk, length, vec_capacity};
 ghost use Rattle.ba_script.specs.declared.entry.ScriptEntry.TheVariants as line;
 ghost use Rattle.ba_session.specs.Passing.{AreOf};
-ghost use Rattle.ba_top.specs.Legal.{IsInput, no_calls};
-ghost use Rattle.ba_top.specs.Serving.{CanServe, CanTake, EndsOrLost, HasServed, Takes};
+ghost use Rattle.ba_top.specs.Legal.{IsInput, context_in, contexts_of, no_calls};
+ghost use Rattle.ba_top.specs.Serving.{CanServe, CanTake, EndsOrLost, HasServed, PassesOver, Takes, lines_in};
 
 use crate::report::{Entry, Input};
+use crate::share::lane_of;
 use ba_model::{Context, Duplicate, Str};
 use ba_outside::Gate;
 use ba_script::ScriptEntry;
@@ -15,7 +16,8 @@ use std::alloc::{AllocError, Global};
 use std::sync::Wait;
 
 /// What a worker has: its passes, the requests that it began, by their numbers, and the entries of the
-/// lines that it served. A request that found no memory when it began has an empty place.
+/// lines that it served. A request that found no memory when it began has an empty place, and so have
+/// those of other lanes.
 #[derive(Drop)]
 pub(crate) struct Lane {
     pub(crate) passes: Passes,
@@ -24,13 +26,18 @@ pub(crate) struct Lane {
 }
 
 impl Lane {
-    /// A lane that has served nothing, with room for so many lines.
-    pub(crate) fn new(alloc: Global, passes: Passes, lines: usize) -> Result<Lane, AllocError>
+    /// A lane that has served nothing, with room for so many requests of the script and lines of its own.
+    pub(crate) fn new(
+        alloc: Global,
+        passes: Passes,
+        requests: usize,
+        lines: usize,
+    ) -> Result<Lane, AllocError>
         ensures passes { IfOk result (λ it. it.passes ≡ passes) }
-        ensures requests { IfOk result (λ it. (it.requests.items ≡ []) × (lines ≤ vec_capacity it.requests)) }
+        ensures requests { IfOk result (λ it. (it.requests.items ≡ []) × (requests ≤ vec_capacity it.requests)) }
         ensures entries { IfOk result (λ it. (it.entries.items ≡ []) × (lines ≤ vec_capacity it.entries)) }
     {
-        let requests = Vec::with_capacity(alloc, lines)?;
+        let requests = Vec::with_capacity(alloc, requests)?;
         let entries = Vec::with_capacity(alloc, lines)?;
         Ok(Lane {
             passes,
@@ -172,29 +179,44 @@ impl Lane {
         }
     }
 
-    /// Serves the lines of the script, in order.
+    // Leaves a line to its own lane; a request that begins there has an empty place here.
+    fn pass_over(&mut self, said: &ScriptEntry)
+        requires room { length self.old.requests.items + length (context_in said.now) ≤ vec_capacity self.old.requests }
+        ensures { PassesOver said.now self.old self.new }
+    {
+        if let ScriptEntry::Begin { .. } = said {
+            self.requests.push_reserved(None);
+        }
+    }
+
+    /// Serves the lines of the lane `number` among those of the script, in order.
     pub(crate) fn serve<R: Wait, G: Gate>(
         &mut self,
         rt: &R,
         alloc: Global,
         input: &Input,
         service: &Service,
+        number: u32,
         gate: &G,
     )
         requires input { IsInput input.now }
         requires policy { service.now.policy ≡ input.now.policy }
         requires of { AreOf service.now self.old.passes }
-        requires can { CanServe input.now.script.entries self.old.passes }
-        requires requests { (self.old.requests.items ≡ []) × (length input.now.script.entries ≤ vec_capacity self.old.requests) }
-        requires entries { (self.old.entries.items ≡ []) × (length input.now.script.entries ≤ vec_capacity self.old.entries) }
-        ensures { HasServed input.now service.now self.old.passes input.now.script.entries self.new }
+        requires can { CanServe (lines_in input.now number input.now.script.entries) self.old.passes }
+        requires requests { (self.old.requests.items ≡ []) × (length (contexts_of input.now.script.entries) ≤ vec_capacity self.old.requests) }
+        requires entries { (self.old.entries.items ≡ []) × (length (lines_in input.now number input.now.script.entries) ≤ vec_capacity self.old.entries) }
+        ensures { HasServed input.now service.now self.old.passes number input.now.script.entries self.new }
     {
         let mut point = 0u32;
         for said in input.script.entries.as_slice() {
-            gate.pass(0, point);
-            point = point.saturating_add(1);
-            let entry = self.line(rt, alloc, input, service, said);
-            self.entries.push_reserved(entry);
+            if lane_of(input.workers, said) == number {
+                gate.pass(number, point);
+                point = point.saturating_add(1);
+                let entry = self.line(rt, alloc, input, service, said);
+                self.entries.push_reserved(entry);
+            } else {
+                self.pass_over(said);
+            }
         }
     }
 }

@@ -10,8 +10,10 @@ mod proof_input;
 mod refusal;
 mod report;
 mod serve;
+mod share;
 mod summary;
 mod top;
+mod work;
 
 pub use report::{Detail, Entry, Input, Journal, Outcome, Refusal, Task};
 pub use top::blockaid;

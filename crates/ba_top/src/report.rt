@@ -15,6 +15,8 @@ pub struct Input {
     pub script: Script,
     /// The table set of each publish line, in their order.
     pub published: List<Shared<Tables>>,
+    /// How many workers serve the script, each a lane of its lines.
+    pub workers: u32,
     /// How many steps the search for a question's proof may take.
     pub budget: u32,
 }
@@ -59,7 +61,7 @@ pub enum Entry {
 }
 
 /// What a run did: what became of each line of the script, in order, and the histories of what the
-/// requests share, each call with the number of the pass that made it.
+/// requests share, each call with the number of the pass that made it: k + 1 of the worker k.
 #[derive(Drop)]
 pub struct Journal {
     pub entries: List<Entry>,

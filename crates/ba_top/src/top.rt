@@ -23,6 +23,7 @@ use ba_plan::Stop;
 use ba_wire::Fault;
 use std::alloc::Global;
 use std::sync::Wait;
+use std::thread::Threads;
 
 fn status(detail: &Detail) -> u8
     ensures { result ≡ status_of detail.now }
@@ -100,7 +101,7 @@ fn end_stop<S: Sink>(alloc: Global, stop: Stop<Refusal>, sink: &mut S) -> Detail
 }
 
 // Serves the script, and writes its lines.
-fn run_input<R: Wait, S: Sink, G: Gate>(
+fn run_input<R: Threads + Wait + Sync, S: Sink, G: Gate + Sync>(
     rt: &R,
     alloc: Global,
     input: &Input,
@@ -117,7 +118,7 @@ fn run_input<R: Wait, S: Sink, G: Gate>(
 }
 
 // Does what is to be done with what was read.
-fn end_task<R: Wait, S: Sink, G: Gate>(
+fn end_task<R: Threads + Wait + Sync, S: Sink, G: Gate + Sync>(
     rt: &R,
     alloc: Global,
     task: Task,
@@ -133,7 +134,7 @@ fn end_task<R: Wait, S: Sink, G: Gate>(
     }
 }
 
-fn run<R: Wait, F: Files, S: Sink, G: Gate>(
+fn run<R: Threads + Wait + Sync, F: Files, S: Sink, G: Gate + Sync>(
     rt: &R,
     alloc: Global,
     words: &[String],
@@ -166,7 +167,7 @@ fn run<R: Wait, F: Files, S: Sink, G: Gate>(
 /// The first fault ends a command with one fault line: words of another form (status 2), a file that has no reading, or rows that break
 /// a key or a link (3), a file that can't be read (4), a count above its limit (7). A write that fails ends it with status 5, want
 /// of memory with 6.
-pub fn blockaid<R: Wait, F: Files, S: Sink, G: Gate + Sync>(
+pub fn blockaid<R: Threads + Wait + Sync, F: Files, S: Sink, G: Gate + Sync>(
     rt: &R,
     alloc: Global,
     words: &[String],

@@ -11,11 +11,17 @@ use ba_outside::{FreeGate, Held, SureFiles, SureSink};
 use ba_top::{Detail, Outcome, blockaid};
 use std::alloc::Global;
 use std::sync::Wait;
+use std::thread::Threads;
 
 /// Over files and a sink that never fail, a command comes to what its words and files come to, or memory runs out.
 ///
 /// A name that isn't held reads as an empty file.
-pub fn sure_run<R: Wait>(rt: &R, alloc: Global, words: &[String], held: Vec<Held>) -> Outcome
+pub fn sure_run<R: Threads + Wait + Sync>(
+    rt: &R,
+    alloc: Global,
+    words: &[String],
+    held: Vec<Held>,
+) -> Outcome
     ensures { (result.detail ≡ Detail.Memory)
         ⊎ ComesTo (outcome_of (held_or_empty held.items) (plan_of (map string_bytes words.now))) result.detail }
 {

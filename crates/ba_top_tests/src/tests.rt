@@ -1,13 +1,16 @@
 // Runs that no case of files can show: reads and writes that fail, want of memory, huge files, the sure forms.
 mod checks;
+mod refused;
 mod shard;
+mod workers;
 
 use crate::sure_run;
-use ba_outside::{Files, FreeGate, Held, MemFiles, MemSink, Sink, WriteFail};
+use ba_outside::{Files, FreeGate, Held, MemFiles, MemSink, ReadFail, Sink, WriteFail};
 use ba_top::{Detail, blockaid};
 use std::alloc::{AllocError, Global};
 use std::sync::Wait;
 use std::test::Fail;
+use std::thread::Threads;
 
 const WORDS: [&str; 9] = [
     "run", "--schema", "S", "--policy", "P", "--tables", "t0", "--script", "F",
@@ -26,12 +29,6 @@ const FILES: [(&str, &str); 4] = [
         "{\"begin\":\"r1\",\"context\":{}}\n{\"ask\":\"r1\",\"query\":\"SELECT Name FROM Users\"}\n",
     ),
 ];
-
-// What a run over these files writes.
-const LINES: &str = "{\"begin\":\"r1\",\"line\":1,\"version\":0}
-{\"by\":\"cover\",\"line\":2,\"request\":\"r1\",\"rows\":[[\"ann\"],[\"bob\"]],\"version\":0}
-{\"answered\":1,\"blocked\":0,\"lines\":2,\"memory\":0,\"requests\":1,\"rows\":2,\"unread\":0}
-";
 
 fn words(alloc: Global) -> Result<Vec<String>, AllocError> {
     let mut words = Vec::new(alloc);
@@ -56,7 +53,7 @@ fn add_files(alloc: Global, files: &mut Vec<Held>) -> Result<(), AllocError> {
 }
 
 // The status of a run.
-fn status<R: Wait, F: Files, S: Sink>(
+fn status<R: Threads + Wait + Sync, F: Files, S: Sink>(
     rt: &R,
     alloc: Global,
     files: &mut F,
@@ -67,7 +64,7 @@ fn status<R: Wait, F: Files, S: Sink>(
 }
 
 // Whether a run over these files ends with the status and writes exactly the line.
-fn comes_to<R: Wait>(
+fn comes_to<R: Threads + Wait + Sync>(
     rt: &R,
     alloc: Global,
     files: &mut MemFiles,
@@ -79,31 +76,20 @@ fn comes_to<R: Wait>(
     Ok(status == wanted && sink.bytes() == line.as_bytes())
 }
 
-// The files of a run, of which the read of that number fails.
-fn failing_files(alloc: Global, number: usize) -> Result<MemFiles, AllocError> {
+// The files of a run, none of whose reads fails.
+fn run_files(alloc: Global) -> Result<MemFiles, AllocError> {
     let mut files = Vec::new(alloc);
     add_files(alloc, &mut files)?;
-    let failing = vec![in alloc; number as u64]?;
-    Ok(MemFiles::new(alloc, files, failing))
-}
-
-#[test]
-fn each_read_fails_in_turn(rt: HostRuntime) -> Result<(), Fail> {
-    let alloc = rt.alloc();
-    for (number, (name, _)) in FILES.iter().enumerate() {
-        let mut files = failing_files(alloc, number)?;
-        let line = format!(in alloc; "{{\"fault\":\"read\",\"file\":\"{name}\",\"status\":4}}\n")?;
-        assert!(rt;
-            comes_to(&rt, alloc, &mut files, 4, line.as_str())?,
-            "{name}"
-        );
-    }
-    Ok(())
+    Ok(MemFiles::new(alloc, files, Vec::new(alloc)))
 }
 
 // The status of a run over the files above.
-fn written<R: Wait, S: Sink>(rt: &R, alloc: Global, sink: &mut S) -> Result<u8, AllocError> {
-    let mut files = failing_files(alloc, FILES.len())?;
+fn written<R: Threads + Wait + Sync, S: Sink>(
+    rt: &R,
+    alloc: Global,
+    sink: &mut S,
+) -> Result<u8, AllocError> {
+    let mut files = run_files(alloc)?;
     status(rt, alloc, &mut files, sink)
 }
 
@@ -122,22 +108,19 @@ fn sink_fails_in_mid_line(rt: HostRuntime) -> Result<(), Fail> {
     Ok(())
 }
 
-#[test]
-fn each_write_fails_in_turn(rt: HostRuntime) -> Result<(), Fail> {
-    let alloc = rt.alloc();
-    let text = LINES.as_bytes();
-    for number in 0..=text.len() {
-        let mut sink = failing_sink(alloc, number, vec![in alloc; 1usize; text.len()]?)?;
-        let wanted = if number < text.len() { 5 } else { 0 };
-        assert_eq!(rt; written(&rt, alloc, &mut sink)?, wanted);
-        assert_eq!(rt; sink.bytes(), &text[..number]);
-    }
-    Ok(())
-}
-
-// A sink without memory.
+// Files and a sink without memory.
 #[derive(Drop)]
 struct NoRoom;
+
+impl Files for NoRoom {
+    ghost use Rattle.std.specs.Prelude.{None, []};
+
+    ghost seen = { λ _. record { held = None; asked = []; taken = 0; faults = 0 } };
+
+    fn read(&mut self, _name: &str, _limit: u64) -> Result<Vec<u8>, ReadFail> {
+        Err(ReadFail::NoMemory)
+    }
+}
 
 impl Sink for NoRoom {
     ghost use Rattle.std.specs.Prelude.{None};
@@ -153,8 +136,12 @@ impl Sink for NoRoom {
 }
 
 #[test]
-fn want_of_memory(rt: HostRuntime) -> Result<(), Fail> {
-    assert_eq!(rt; written(&rt, rt.alloc(), &mut NoRoom)?, 6);
+fn refused_memory(rt: HostRuntime) -> Result<(), Fail> {
+    let alloc = rt.alloc();
+    assert_eq!(rt; written(&rt, alloc, &mut NoRoom)?, 6);
+    let mut sink = MemSink::new(alloc, Vec::new(alloc), Vec::new(alloc));
+    assert_eq!(rt; status(&rt, alloc, &mut NoRoom, &mut sink)?, 6);
+    assert!(rt; sink.bytes().is_empty());
     Ok(())
 }
 
@@ -180,9 +167,8 @@ const SPACES: &str = "                                                          
 
 // Files whose counts pass a limit by one: a name, the front of its text, what is repeated behind it and how often, and
 // what passes which limit.
-const HUGE: [(&str, &str, &str, u32, &str, u64); 5] = [
+const HUGE: [(&str, &str, &str, u32, &str, u64); 4] = [
     ("S", " ", SPACES, 16_384, "bytes", 1_048_576),
-    ("P", " ", SPACES, 1_048_576, "bytes", 67_108_864),
     (
         "t0/Users.csv",
         "UId,Name\n",
@@ -230,6 +216,26 @@ fn limits_of_huge_files(rt: HostRuntime) -> Result<(), Fail> {
             "{name} {what}"
         );
     }
+    Ok(())
+}
+
+// The files of a run, with a policy of so many bytes.
+fn files_of_long_policy(alloc: Global, len: usize) -> Result<MemFiles, AllocError> {
+    let mut files = Vec::new(alloc);
+    let name = String::from_str(alloc, "P")?;
+    let bytes = vec![in alloc; b' '; len]?;
+    // The first file of a name counts.
+    files.push(Held { name, bytes })?;
+    add_files(alloc, &mut files)?;
+    Ok(MemFiles::new(alloc, files, Vec::new(alloc)))
+}
+
+#[test]
+fn oversized_file(rt: HostRuntime) -> Result<(), Fail> {
+    let alloc = rt.alloc();
+    let mut files = files_of_long_policy(alloc, 67_108_865)?;
+    let line = "{\"fault\":\"limit\",\"limit\":67108864,\"status\":7,\"what\":\"bytes\"}\n";
+    assert!(rt; comes_to(&rt, alloc, &mut files, 7, line)?);
     Ok(())
 }
 

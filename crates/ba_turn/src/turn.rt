@@ -10,9 +10,13 @@ use crate::rule::{Board, SERVING, TICKET};
 use crate::storied::Storied;
 use atomic_table::Table;
 use std::alloc::{AllocError, Global};
+use std::hint::spin_loop;
 use std::marker::Brand;
 use std::snapshot::Snapshot;
 use std::sync::Wait;
+
+// How often a waiting thread looks before it sleeps: a few microseconds, as long as it takes to be woken.
+const LOOKS: u32 = 400;
 
 /// A value that threads call one at a time, in the order of the tickets that their passes draw.
 /// It keeps the number of each call's pass beside the value.
@@ -93,11 +97,24 @@ impl<S: Storied> Turn<S> {
         unreachable!()
     }
 
+    // Whether another number is served within some looks.
+    fn is_soon_past(&self, serving: u64) -> bool {
+        for _ in 0..LOOKS {
+            if self.table.shared.peek(SERVING) != serving {
+                return true;
+            }
+            spin_loop();
+        }
+        false
+    }
+
     // Sleeps while this number is served. It may also return for no reason.
     fn wait_while<R: Wait>(&self, rt: &R, serving: u64) {
-        self.table
-            .shared
-            .park(rt, SERVING, (serving % (1 << 32)) as u32);
+        if !self.is_soon_past(serving) {
+            self.table
+                .shared
+                .park(rt, SERVING, (serving % (1 << 32)) as u32);
+        }
     }
 
     // Wakes those that wait, once this number was served. Nobody sleeps on it where no later ticket is drawn:

@@ -5,6 +5,7 @@ use ba_top::blockaid;
 use std::alloc::{AllocError, Global};
 use std::rt::Files;
 use std::sync::Wait;
+use std::thread::Threads;
 use std::{fs, io};
 
 /// The end of a run: its status, and what it wrote.
@@ -54,7 +55,7 @@ impl Case {
     /// The end of the case's run over the files of that folder.
     pub fn run<R>(&self, rt: &R, folder: &str) -> io::Result<End>
     where
-        R: Files + AllocGlobal + Wait + Clone + Drop,
+        R: Files + AllocGlobal + Threads + Wait + Sync + Clone + Drop,
     {
         let alloc = rt.alloc();
         let mut files = FolderFiles::new(rt.clone()?, alloc, folder);

@@ -12,6 +12,7 @@ use case::{Case, End};
 use std::process::ExitCode;
 use std::rt::Files;
 use std::sync::Wait;
+use std::thread::Threads;
 use std::{env, fs, io};
 
 // The names of what a folder holds, rising.
@@ -53,7 +54,7 @@ fn tell(rt: &impl Print, name: &str, wanted: &End, end: &End) -> io::Result<()> 
 // Runs the case of that name, says how that ended, and gives whether it is as it must be.
 fn passes<R>(rt: &R, folder: &str, name: &str) -> io::Result<bool>
 where
-    R: Files + AllocGlobal + Print + Wait + Clone + Drop,
+    R: Files + AllocGlobal + Print + Threads + Wait + Sync + Clone + Drop,
 {
     let place = format!(in rt.alloc(); "{folder}/{name}")?;
     let case = Case::read(rt, place.as_str())?;
@@ -70,7 +71,7 @@ where
 // Runs each case of the folder and gives how many passed and how many failed.
 fn counts<R>(rt: &R, folder: &str) -> io::Result<(u64, u64)>
 where
-    R: Files + AllocGlobal + Print + Wait + Clone + Drop,
+    R: Files + AllocGlobal + Print + Threads + Wait + Sync + Clone + Drop,
 {
     let mut passed = 0u64;
     let mut failed = 0u64;

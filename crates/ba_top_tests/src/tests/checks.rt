@@ -5,6 +5,7 @@ use ba_top::blockaid;
 use std::alloc::{AllocError, Global};
 use std::sync::Wait;
 use std::test::Fail;
+use std::thread::Threads;
 
 const WORDS: [&str; 7] = ["check", "--schema", "S", "--policy", "P", "--proof", "F"];
 
@@ -39,7 +40,7 @@ fn check_files(alloc: Global, failing: Vec<u64>) -> Result<MemFiles, AllocError>
 }
 
 // The status of a check.
-fn status<R: Wait, F: Files, S: Sink>(
+fn status<R: Threads + Wait + Sync, F: Files, S: Sink>(
     rt: &R,
     alloc: Global,
     files: &mut F,
@@ -53,7 +54,7 @@ fn status<R: Wait, F: Files, S: Sink>(
 }
 
 // Whether a check of these files ends with the status and writes exactly the line.
-fn comes_to<R: Wait>(
+fn comes_to<R: Threads + Wait + Sync>(
     rt: &R,
     alloc: Global,
     files: &mut MemFiles,
