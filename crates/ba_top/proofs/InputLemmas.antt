@@ -34,11 +34,11 @@ use Rattle.ba_script.specs.declared.entry.ScriptEntry.TheVariants as said
 use Rattle.ba_sql_ddl.specs.Reading.{schema_of}
 use Rattle.ba_tables.specs.Broken.{checked}
 use Rattle.ba_tables.specs.TableSet.{TableSet}
-use Rattle.ba_top.specs.Legal.{IsInput, RowsOfTables}
-use Rattle.ba_top.specs.Published.{IsSetOf}
+use Rattle.ba_lanes.specs.Legal.{IsInput, RowsOfTables}
+use Rattle.ba_lanes.specs.Published.{IsSetOf}
 use Rattle.ba_top.specs.Reading.{Names, ProofNames, check_plan, policy_and_proof_plan, policy_plan, proof_plan, proof_reading_of, published_plan, reading_of, rest_plan, rows_plan, run_plan, script_plan, set_plan, sets_plan, table_plan, tables_plan}
 use Rattle.ba_top.specs.Refusals.{broken_refusal, ddl_refusal, policy_refusal}
-use Rattle.ba_top.specs.declared.report.Input.{Input}
+use Rattle.ba_lanes.specs.declared.journal.Input.{Input}
 use Rattle.ba_top.specs.declared.report.Refusal.{Refusal}
 use Rattle.ba_top.specs.declared.report.Task.TheVariants as task
 

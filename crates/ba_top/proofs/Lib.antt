@@ -1,15 +1,5 @@
-pub mod LineLemmas
-pub mod JoinLemmas
-pub mod ShareLemmas
-pub mod ServeLemmas
-pub mod MergeLemmas
-pub mod WorkLemmas
-pub mod LaneLemmas
-pub mod HistoryLemmas
 pub mod SummaryLemmas
 pub mod PrintLemmas
 pub mod InputLemmas
-pub mod PublishedLemmas
 pub mod CheckLemmas
 pub mod Runs
-pub mod HeadlineLemmas

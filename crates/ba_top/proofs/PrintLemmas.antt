@@ -8,7 +8,7 @@ use Rattle.ba_plan.specs.Sent.{SentLines, WroteLines}
 use Rattle.ba_script.specs.declared.entry.ScriptEntry.{ScriptEntry}
 use Rattle.ba_tables.proofs.FieldLemmas.{drop_element}
 use Rattle.ba_top.specs.Text.{entry_bytes, lines_from}
-use Rattle.ba_top.specs.declared.report.Entry.{Entry}
+use Rattle.ba_lanes.specs.declared.journal.Entry.{Entry}
 
 -- a line of the script and its entry, and then those behind them
 lines_step : (its : List ScriptEntry) (line : ℕ) (entries : List Entry) (i : ℕ) (it : ScriptEntry) (entry : Entry) → slice_get its i ≡ Some it → slice_get entries i ≡ Some entry

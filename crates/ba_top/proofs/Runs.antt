@@ -19,8 +19,8 @@ use Rattle.ba_top.specs.Ran.{Accepts, EndsFault, EndsRun, EndsStop, Ran, RanTask
 use Rattle.ba_top.specs.Reading.{plan_of}
 use Rattle.ba_top.specs.declared.report.Detail.{Detail}
 use Rattle.ba_top.specs.declared.report.Detail.TheVariants.{Done, NotAccepted, Words, Input as BadInput, Read, Write, Memory, Limit, Steps}
-use Rattle.ba_top.specs.declared.report.Input.{Input}
-use Rattle.ba_top.specs.declared.report.Journal.{Journal}
+use Rattle.ba_lanes.specs.declared.journal.Input.{Input}
+use Rattle.ba_lanes.specs.declared.journal.Journal.{Journal}
 use Rattle.ba_top.specs.declared.report.Refusal.{Refusal}
 use Rattle.ba_top.specs.declared.report.Refusal.TheVariants as refusal
 use Rattle.ba_top.specs.declared.report.Task.{Task}
@@ -301,3 +301,8 @@ ran_complete contents words f g s t detail journal ran told calm still = by_end 
     by_end (reading, follows, inl is) = whole_of words f g reading (outcome_of contents (plan_of words)) detail (determined contents (plan_of words) f g reading told follows) follows calm is
     by_end (reading, follows, inr (inl (is, rose))) = absurd (still rose)
     by_end (reading, follows, inr (inr is)) = inl is
+
+-- a run with a journal was served
+pub ran_headline : (words : List (List ℕ)) (f g : FilesSeen) (s t : SinkSeen) (detail : Detail) (journal : Option Journal) → Ran words f g s t detail journal → IfSome journal (Served words f g s t detail)
+ran_headline words f g s t detail (Some journal) served = served
+ran_headline words f g s t detail None ran = tt

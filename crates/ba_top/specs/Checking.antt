@@ -10,7 +10,7 @@ use Rattle.ba_proof.specs.Checked.{HasFault, IsStrongQuestion}
 use Rattle.ba_proof.specs.declared.checking.CheckFault.{CheckFault}
 use Rattle.ba_proof.specs.declared.checking.CheckFault.TheVariants as check
 use Rattle.ba_proof.specs.declared.proof.Proof.{Proof}
-use Rattle.ba_top.specs.Legal.{IsInput}
+use Rattle.ba_lanes.specs.Legal.{IsInput}
 use Rattle.ba_top.specs.declared.report.Detail.{Detail}
 use Rattle.ba_top.specs.declared.report.Detail.TheVariants.{Done, NotAccepted, Words, Input as BadInput, Read, Write, Memory, Limit, Steps}
 use Rattle.ba_top.specs.declared.report.Task.{Task}

@@ -1,13 +1,7 @@
 pub mod Path
 pub mod Refusals
 pub mod Reading
-pub mod Published
-pub mod Lanes
-pub mod Legal
 pub mod Checking
-pub mod Serving
-pub mod Working
 pub mod Text
 pub mod Ran
 pub mod Causes
-pub mod Headline

@@ -10,14 +10,14 @@ use Rattle.ba_plan.specs.declared.stop.Stop.TheVariants.{Refused, Read as Unread
 use Rattle.ba_proof.specs.declared.checking.CheckFault.{CheckFault}
 use Rattle.ba_proof.specs.declared.proof.Proof.{Proof}
 use Rattle.ba_top.specs.Checking.{EndsCheck, EndsLine, IsAccepted, IsRejected}
-use Rattle.ba_top.specs.Headline.{Headline}
-use Rattle.ba_top.specs.Legal.{Legal, lacks_memory}
+use Rattle.ba_lanes.specs.Headline.{Headline}
+use Rattle.ba_lanes.specs.Legal.{Legal, lacks_memory}
 use Rattle.ba_top.specs.Reading.{plan_of}
 use Rattle.ba_top.specs.Text.{lines_of}
 use Rattle.ba_top.specs.declared.report.Detail.{Detail}
 use Rattle.ba_top.specs.declared.report.Detail.TheVariants.{Done, NotAccepted, Words, Input as BadInput, Read, Write, Memory, Limit, Steps}
-use Rattle.ba_top.specs.declared.report.Input.{Input}
-use Rattle.ba_top.specs.declared.report.Journal.{Journal}
+use Rattle.ba_lanes.specs.declared.journal.Input.{Input}
+use Rattle.ba_lanes.specs.declared.journal.Journal.{Journal}
 use Rattle.ba_top.specs.declared.report.Refusal.{Refusal}
 use Rattle.ba_top.specs.declared.report.Refusal.TheVariants as refusal
 use Rattle.ba_top.specs.declared.report.Task.{Task}

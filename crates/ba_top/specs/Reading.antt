@@ -26,7 +26,7 @@ use Rattle.ba_tables.specs.TableFile.{rows_of_file}
 use Rattle.ba_tables.specs.TableSet.{TableSet}
 use Rattle.ba_top.specs.Path.{path_of}
 use Rattle.ba_top.specs.Refusals.{broken_refusal, ddl_refusal, policy_refusal, proof_refusal, script_refusal, table_refusal}
-use Rattle.ba_top.specs.declared.report.Input.{Input}
+use Rattle.ba_lanes.specs.declared.journal.Input.{Input}
 use Rattle.ba_top.specs.declared.report.Refusal.{Refusal}
 use Rattle.ba_top.specs.declared.report.Refusal.TheVariants.{Words}
 use Rattle.ba_top.specs.declared.report.Task.{Task}

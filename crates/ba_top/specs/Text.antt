@@ -9,10 +9,10 @@ use Rattle.ba_session.specs.declared.reply.Reply.{Reply}
 use Rattle.ba_session.specs.declared.reply.Reply.TheVariants.{Answer, Blocked, Unread, NoMemory}
 use Rattle.ba_session.specs.declared.reply.Why.{Why}
 use Rattle.ba_session.specs.declared.reply.Why.TheVariants.{Refuted, Spent, Stuck}
-use Rattle.ba_top.specs.Legal.{is_memory}
-use Rattle.ba_top.specs.declared.report.Entry.{Entry}
-use Rattle.ba_top.specs.declared.report.Entry.TheVariants.{Begin, Unbegun, Ask, End, Publish, NoMemory as Unserved}
-use Rattle.ba_top.specs.declared.report.Journal.{Journal}
+use Rattle.ba_lanes.specs.Legal.{is_memory}
+use Rattle.ba_lanes.specs.declared.journal.Entry.{Entry}
+use Rattle.ba_lanes.specs.declared.journal.Entry.TheVariants.{Begin, Unbegun, Ask, End, Publish, NoMemory as Unserved}
+use Rattle.ba_lanes.specs.declared.journal.Journal.{Journal}
 use Rattle.ba_wire.specs.Printed.{Printed, begin, end, publish, answer, block, unread, memory, line_bytes, summary_bytes}
 use Rattle.ba_wire.specs.declared.line.By.{By as PrintedBy}
 use Rattle.ba_wire.specs.declared.line.By.TheVariants as by

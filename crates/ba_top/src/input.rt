@@ -15,8 +15,8 @@ ghost use Rattle.ba_sql_ddl.specs.Reading.{schema_of};
 ghost use Rattle.ba_tables.specs.Broken.{checked};
 ghost use Rattle.ba_tables.specs.TableFile.{rows_of_file};
 ghost use Rattle.ba_top.specs.Checking.{IsTask};
-ghost use Rattle.ba_top.specs.Legal.{IsInput, RowsOfTables};
-ghost use Rattle.ba_top.specs.Published.{IsSetOf};
+ghost use Rattle.ba_lanes.specs.Legal.{IsInput, RowsOfTables};
+ghost use Rattle.ba_lanes.specs.Published.{IsSetOf};
 ghost use Rattle.ba_top.specs.Reading.{command_plan, plan_of, published_plan, reading_of, rows_plan, run_plan, script_plan, set_plan, sets_plan, table_plan, tables_plan};
 ghost use Rattle.ba_top.specs.Refusals.{broken_refusal, ddl_refusal, policy_refusal, script_refusal, table_refusal};
 
@@ -24,8 +24,9 @@ use crate::proof_input::{NamedProof, read_check};
 use crate::refusal::{
     broken_refusal, ddl_refusal, path, policy_refusal, script_refusal, table_refusal,
 };
-use crate::report::{Input, Refusal, Task};
+use crate::report::{Refusal, Task};
 use ba_command::{Command, WordsFault, read_words};
+use ba_lanes::Input;
 use ba_model::{
     Failure, List, MAX_FILE_BYTES, Parameter, Policy, Row, RowSet, Schema, Shared, Str, Table,
 };

@@ -4,16 +4,12 @@
 
 mod checking;
 mod input;
-mod lane;
 mod print;
 mod proof_input;
 mod refusal;
 mod report;
-mod serve;
-mod share;
 mod summary;
 mod top;
-mod work;
 
-pub use report::{Detail, Entry, Input, Journal, Outcome, Refusal, Task};
+pub use report::{Detail, Outcome, Refusal, Task};
 pub use top::blockaid;

@@ -4,8 +4,8 @@ ghost use Rattle.ba_plan.specs.Sent.{SentLines};
 ghost use Rattle.ba_wire.specs.Printed.{fault_bytes, printed};
 ghost use Rattle.ba_top.specs.Text.{entry_bytes, entry_line, lines_of, name_in, printed_block, printed_by, reply_line, total_bytes};
 
-use crate::report::{Entry, Journal};
 use crate::summary::summary;
+use ba_lanes::{Entry, Journal};
 use ba_model::Str;
 use ba_outside::{Sink, WriteFail};
 use ba_plan::send;

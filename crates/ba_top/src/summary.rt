@@ -1,10 +1,10 @@
 //! What a run counts over its script.
 ghost use Rattle.std.specs.Prelude.{◌≡◌, IfSome};
 ghost use Rattle.std.specs.List.{list_any};
-ghost use Rattle.ba_top.specs.Legal.{is_memory, lacks_memory};
+ghost use Rattle.ba_lanes.specs.Legal.{is_memory, lacks_memory};
 ghost use Rattle.ba_top.specs.Text.{is_answer, is_begin, is_block, is_unread, more, row_count, summary_of, with_entry};
 
-use crate::report::{Entry, Journal};
+use ba_lanes::{Entry, Journal};
 use ba_session::Reply;
 use ba_wire::Summary;
 

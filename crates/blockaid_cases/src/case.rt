@@ -15,11 +15,37 @@ pub struct End {
     pub text: Vec<u8>,
 }
 
+// A line without the way in which its question was answered, where another order of the workers may find another: a proof, or the template of one.
+fn without_way(line: &[u8]) -> &[u8] {
+    for way in ["{\"by\":\"proof\"", "{\"by\":\"template\""] {
+        if let Some(rest) = line.strip_prefix(way.as_bytes()) {
+            return rest;
+        }
+    }
+    line
+}
+
+impl End {
+    /// Whether it is the other one, but for which answers are by proof and which by template.
+    pub fn is_like(&self, other: &End) -> bool {
+        let mut lines = other.text.split(|byte| *byte == b'\n');
+        for line in self.text.split(|byte| *byte == b'\n') {
+            match lines.next() {
+                Some(it) if without_way(it) == without_way(line) => {}
+                _ => return false,
+            }
+        }
+        self.status == other.status && lines.next().is_none()
+    }
+}
+
 /// A case: the words of a run, without the program's name, and the end that it must have.
 #[derive(Drop)]
 pub struct Case {
-    words: Vec<String>,
+    words: String,
     pub wanted: End,
+    /// Whether several workers must end it alike: it is a run that leaves their number open, and publishes nothing.
+    pub is_for_many: bool,
 }
 
 // The words of a text with one on each line.
@@ -40,27 +66,36 @@ fn text_in<R: Files + AllocGlobal>(rt: &R, folder: &str, name: &str) -> io::Resu
 impl Case {
     /// The case of that folder.
     pub fn read<R: Files + AllocGlobal>(rt: &R, folder: &str) -> io::Result<Case> {
-        let words = words_of(rt.alloc(), text_in(rt, folder, "words")?.as_str())?;
-        let text = text_in(rt, folder, "expected")?.into_bytes();
+        let words = text_in(rt, folder, "words")?;
+        let text = text_in(rt, folder, "expected")?;
         let number = text_in(rt, folder, "status")?;
         let Ok(status) = number.trim_end().parse::<u8>() else {
             return Err(io::Error::from(io::ErrorKind::InvalidData));
         };
+        let is_for_many = words.starts_with("run\n")
+            && !words.contains("--workers")
+            && !text.contains("\"publish\":");
         Ok(Case {
             words,
-            wanted: End { status, text },
+            wanted: End {
+                status,
+                text: text.into_bytes(),
+            },
+            is_for_many,
         })
     }
 
-    /// The end of the case's run over the files of that folder.
-    pub fn run<R>(&self, rt: &R, folder: &str) -> io::Result<End>
+    /// The end of the case's run, with more words, over the files of that folder.
+    pub fn run<R>(&self, rt: &R, folder: &str, more: &str) -> io::Result<End>
     where
         R: Files + AllocGlobal + Threads + Wait + Sync + Clone + Drop,
     {
         let alloc = rt.alloc();
         let mut files = FolderFiles::new(rt.clone()?, alloc, folder);
         let mut sink = MemSink::new(alloc, Vec::new(alloc), Vec::new(alloc));
-        let outcome = blockaid(rt, alloc, &self.words, &mut files, &mut sink, &FreeGate);
+        let text = format!(in alloc; "{}{more}", self.words)?;
+        let words = words_of(alloc, text.as_str())?;
+        let outcome = blockaid(rt, alloc, &words, &mut files, &mut sink, &FreeGate);
         Ok(End {
             status: outcome.status,
             text: sink.bytes().to_vec(alloc)?,

@@ -1,5 +1,6 @@
 //! `blockaid_cases [FOLDER]`: runs the top call on each case of a folder (the one that it is run in, if none is named)
-//! and says of each whether its run ended as it must.
+//! and says of each whether its run ended as it must; and of those that leave the number of workers open and publish nothing,
+//! whether a run by four workers ended so too, but for which answers are by proof and which by template.
 //!
 //! A case is a folder: the input files, `words` (a word on each line, without the program's name), `expected` (the bytes
 //! that the run must write) and `status` (the status that it must end with). Names in its words are relative to it.
@@ -51,21 +52,39 @@ fn tell(rt: &impl Print, name: &str, wanted: &End, end: &End) -> io::Result<()> 
     Ok(())
 }
 
-// Runs the case of that name, says how that ended, and gives whether it is as it must be.
+// Says how a run of the case ended, and gives whether that is as it must be.
+fn tells(rt: &impl Print, name: &str, wanted: &End, end: &End, is_same: bool) -> io::Result<bool> {
+    if is_same {
+        println!(rt; "ok {name}")?;
+    } else {
+        tell(rt, name, wanted, end)?;
+    }
+    Ok(is_same)
+}
+
+// Runs the case by four workers, where they must end it like one.
+fn passes_by_many<R>(rt: &R, place: &str, name: &str, case: &Case) -> io::Result<bool>
+where
+    R: Files + AllocGlobal + Print + Threads + Wait + Sync + Clone + Drop,
+{
+    if !case.is_for_many {
+        return Ok(true);
+    }
+    let end = case.run(rt, place, "--workers\n4\n")?;
+    let name = format!(in rt.alloc(); "{name} by 4 workers")?;
+    tells(rt, name.as_str(), &case.wanted, &end, end.is_like(&case.wanted))
+}
+
+// Runs the case of that name, and gives whether it ended as it must.
 fn passes<R>(rt: &R, folder: &str, name: &str) -> io::Result<bool>
 where
     R: Files + AllocGlobal + Print + Threads + Wait + Sync + Clone + Drop,
 {
     let place = format!(in rt.alloc(); "{folder}/{name}")?;
     let case = Case::read(rt, place.as_str())?;
-    let end = case.run(rt, place.as_str())?;
-    let is_same = end == case.wanted;
-    if is_same {
-        println!(rt; "ok {name}")?;
-    } else {
-        tell(rt, name, &case.wanted, &end)?;
-    }
-    Ok(is_same)
+    let end = case.run(rt, place.as_str(), "")?;
+    let is_same = tells(rt, name, &case.wanted, &end, end == case.wanted)?;
+    Ok(passes_by_many(rt, place.as_str(), name, &case)? && is_same)
 }
 
 // Runs each case of the folder and gives how many passed and how many failed.

@@ -1,13 +1,13 @@
 // Workers that run beside each other.
-use super::held;
-use ba_outside::{HoldGate, MemFiles, MemSink};
+use super::{failing_sink, held};
+use ba_outside::{FreeGate, HoldGate, MemFiles, MemSink};
 use ba_top::blockaid;
 use std::alloc::{AllocError, Global};
 use std::sync::Wait;
 use std::test::Fail;
 use std::thread::Threads;
 
-const WORDS: [&str; 11] = [
+const WORDS: [&str; 10] = [
     "run",
     "--schema",
     "S",
@@ -18,10 +18,9 @@ const WORDS: [&str; 11] = [
     "--script",
     "F",
     "--workers",
-    "2",
 ];
 
-// Two requests, which two workers serve.
+// Two requests, which two workers serve, or two of sixteen.
 const FILES: [(&str, &str); 4] = [
     (
         "S",
@@ -50,11 +49,13 @@ const LINES: &str = "{\"begin\":\"r1\",\"line\":1,\"version\":0}
 {\"answered\":2,\"blocked\":0,\"lines\":4,\"memory\":0,\"requests\":2,\"rows\":4,\"unread\":0}
 ";
 
-fn words(alloc: Global) -> Result<Vec<String>, AllocError> {
+// The words of a run by so many workers.
+fn words(alloc: Global, workers: &str) -> Result<Vec<String>, AllocError> {
     let mut words = Vec::new(alloc);
     for word in WORDS {
         words.push(String::from_str(alloc, word)?)?;
     }
+    words.push(String::from_str(alloc, workers)?)?;
     Ok(words)
 }
 
@@ -73,7 +74,7 @@ fn runs_beside<R: Threads + Wait + Sync>(
     first: u32,
     second: u32,
 ) -> Result<bool, AllocError> {
-    let words = words(alloc)?;
+    let words = words(alloc, "2")?;
     let mut files = files(alloc)?;
     let mut sink = MemSink::new(alloc, Vec::new(alloc), Vec::new(alloc));
     let gate = HoldGate::new(first, second, 100_000_000);
@@ -86,5 +87,28 @@ fn two_workers_at_a_hold_gate(rt: HostRuntime) -> Result<(), Fail> {
     let alloc = rt.alloc();
     assert!(rt; runs_beside(&rt, alloc, 0, 1)?);
     assert!(rt; runs_beside(&rt, alloc, 1, 0)?);
+    Ok(())
+}
+
+// Whether a run by sixteen workers whose write of that number fails, each of a single byte, ends with status 5 and leaves
+// just the bytes before it.
+fn fails_at<R: Threads + Wait + Sync>(
+    rt: &R,
+    alloc: Global,
+    number: usize,
+) -> Result<bool, AllocError> {
+    let words = words(alloc, "16")?;
+    let mut files = files(alloc)?;
+    let mut sink = failing_sink(alloc, number, vec![in alloc; 1usize; LINES.len()]?)?;
+    let outcome = blockaid(rt, alloc, &words, &mut files, &mut sink, &FreeGate);
+    Ok(outcome.status == 5 && sink.bytes() == &LINES.as_bytes()[..number])
+}
+
+#[test]
+fn each_write_of_sixteen_workers_lines_fails_in_turn(rt: HostRuntime) -> Result<(), Fail> {
+    let alloc = rt.alloc();
+    for number in 0..LINES.len() {
+        assert!(rt; fails_at(&rt, alloc, number)?, "{number}");
+    }
     Ok(())
 }

@@ -1,6 +1,6 @@
 use Rattle.std.proofs.Common.{◌+◌, drop, take, subst, sym}
 use Rattle.ba_plan.specs.Follows.{Follows}
-use Rattle.ba_top.specs.Legal.{RowsOfTables}
+use Rattle.ba_lanes.specs.Legal.{RowsOfTables}
 use Rattle.ba_top.specs.Reading.{rows_plan}
 use Rattle.ba_top.proofs.InputLemmas.{fit_more, rows_step}
 use Rattle.ba_top.proofs.input.read_rows.Goals as goal

@@ -4,7 +4,7 @@ use Rattle.ba_outside.specs.Seen.{FilesSeen}
 use Rattle.ba_plan.specs.Follows.{Follows}
 use Rattle.ba_plan.specs.declared.stop.Stop.{Stop}
 use Rattle.ba_top.specs.declared.report.Refusal.{Refusal}
-use Rattle.ba_top.specs.Legal.{RowsOfTables}
+use Rattle.ba_lanes.specs.Legal.{RowsOfTables}
 use Rattle.ba_top.specs.Reading.{rows_plan}
 use Rattle.ba_top.proofs.input.read_rows.Given as goal
 

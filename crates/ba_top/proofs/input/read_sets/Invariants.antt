@@ -6,7 +6,7 @@ use Rattle.ba_plan.specs.declared.stop.Stop.{Stop}
 use Rattle.ba_script.specs.Reading.{published}
 use Rattle.ba_tables.specs.TableSet.{TableSet}
 use Rattle.ba_top.specs.declared.report.Refusal.{Refusal}
-use Rattle.ba_top.specs.Published.{IsSetOf}
+use Rattle.ba_lanes.specs.Published.{IsSetOf}
 use Rattle.ba_top.specs.Reading.{sets_plan}
 use Rattle.ba_top.proofs.input.read_sets.Given as goal
 

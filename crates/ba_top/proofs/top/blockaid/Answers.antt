@@ -1,6 +1,5 @@
 use Rattle.std.proofs.Common.{map, string_bytes}
-use Rattle.ba_top.proofs.HeadlineLemmas.{ran_headline}
-use Rattle.ba_top.proofs.Runs.{if_told, ran_accepted, ran_asked, ran_complete, ran_limit, ran_read, ran_rejected, ran_steps, ran_told, ran_write}
+use Rattle.ba_top.proofs.Runs.{if_told, ran_accepted, ran_asked, ran_complete, ran_headline, ran_limit, ran_read, ran_rejected, ran_steps, ran_told, ran_write}
 use Rattle.ba_top.proofs.top.blockaid.Goals as goal
 
 pub returns-clause-read : goal.returns-clause-read

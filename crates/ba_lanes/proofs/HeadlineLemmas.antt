@@ -1,0 +1,233 @@
+-- A legal journal has the headline.
+use Rattle.std.proofs.Common.{◌≡◌, ◌∙◌, refl, sym, ap, subst, ℕ, suc, zero, ◌+◌, ◌<◌, get_or, ◌⊎◌, inl, inr, List, [], ◌∷◌, ◌++◌, Some, length, map, append_assoc, append-nil, arith}
+use Rattle.std.proofs.Math.Logic.{∥∥₁_map}
+use Rattle.std.proofs.lemmas.List.Elements.{Contains-append_left, Contains-append_right, Contains-push_cases}
+use Rattle.std.specs.List.{flat_map}
+use Rattle.std.specs.Prelude.{Contains, slice_get}
+use Rattle.ba_model.specs.declared.query.Query.{Query}
+use Rattle.ba_model.specs.declared.value.Value.{Value}
+use Rattle.ba_script.specs.declared.entry.ScriptEntry.{ScriptEntry}
+use Rattle.ba_script.specs.declared.entry.ScriptEntry.TheVariants as said
+use Rattle.ba_session.specs.Asking.{Replies}
+use Rattle.ba_session.specs.Passing.{ShelfCalls}
+use Rattle.ba_session.specs.declared.reply.By.{By}
+use Rattle.ba_session.specs.declared.reply.Reply.{Reply}
+use Rattle.ba_session.specs.declared.reply.Reply.TheVariants.{Answer, Blocked}
+use Rattle.ba_session.specs.declared.reply.Why.{Why}
+use Rattle.ba_session.specs.declared.request.Request.{Request}
+use Rattle.ba_tables.specs.TableSet.{TableSet}
+use Rattle.ba_lanes.proofs.JoinLemmas.{told_by}
+use Rattle.ba_lanes.proofs.LineLemmas.{in_its_lane}
+use Rattle.ba_lanes.proofs.MergeLemmas.{lane_low}
+use Rattle.ba_lanes.proofs.ServeLemmas.{same_length}
+use Rattle.ba_lanes.specs.Headline.{Headline, IsAnswerEverywhere, IsAsker, IsBlockedWithReason}
+use Rattle.ba_lanes.specs.Legal.{AreServed, IsAsk, IsServed, Legal, LineDone, answer_of, begins, done_in, lane_of, pin_of, trace_in, trace_of, versions_made}
+use Rattle.ba_lanes.specs.declared.journal.Entry.{Entry}
+use Rattle.ba_lanes.specs.declared.journal.Entry.TheVariants.{Begin, Unbegun, Ask, End, Publish, NoMemory}
+use Rattle.ba_lanes.specs.declared.journal.Input.{Input}
+use Rattle.ba_lanes.specs.declared.journal.Journal.{Journal}
+use Rattle.ba_versions.specs.Calls as versions
+use Rattle.ba_versions.specs.Reads.{calls_of, versions_of}
+use Rattle.ba_versions.specs.declared.call.VersionCall.{VersionCall}
+use Rattle.ba_versions.specs.declared.call.VersionCall.TheVariants as call
+
+-- ---- pins
+
+get_front : {X : Type 0} (xs ys : List X) (r : ℕ) (x : X) → slice_get xs r ≡ Some x → slice_get (xs ++ ys) r ≡ Some x
+get_front [] ys r x e = absurd (cc)
+get_front (y ∷ xs) ys zero x e = e
+get_front (y ∷ xs) ys (suc r) x e = get_front xs ys r x e
+
+-- a version stays where it is
+stays : (opening : TableSet) (made : VersionCall) (old new : List TableSet) → versions.Steps opening old made new → (n : ℕ) (tables : TableSet) → slice_get old n ≡ Some tables → slice_get new n ≡ Some tables
+stays opening (call.Publish told m) old new step n tables there = subst (λ z. slice_get z n ≡ Some tables) (sym step.appended) (get_front old (told.value ∷ []) n tables there)
+stays opening (call.Pin m told) old new step n tables there = subst (λ z. slice_get z n ≡ Some tables) (sym step.same) there
+stays opening call.Refused old new step n tables there = subst (λ z. slice_get z n ≡ Some tables) (sym step) there
+
+-- what was pinned is a version
+pinned_there : (opening : TableSet) {calls : List VersionCall} {list : List TableSet} → versions.Legal opening calls list → (n : ℕ) (tables : TableSet) → Contains calls (pin_of n tables) → slice_get list n ≡ Some tables
+pinned_there opening (versions.start v) n tables h = let low = h.1 in absurd (omega (arith, low))
+pinned_there opening (versions.next {calls = calls} {old = old} {new = new} made before step) n tables h = by (pinned_there opening before n tables) (Contains-push_cases calls made (pin_of n tables) h)
+  where
+    here : (it : VersionCall) → it ≡ pin_of n tables → versions.Steps opening old it new → slice_get new n ≡ Some tables
+    here it e s =
+        let p : versions.Steps opening old (pin_of n tables) new = subst (λ z. versions.Steps opening old z new) e s in
+        subst (λ z. slice_get z n ≡ Some tables) (sym p.same) p.there
+
+    by : (Contains calls (pin_of n tables) → slice_get old n ≡ Some tables) → Contains calls (pin_of n tables) ⊎ (made ≡ pin_of n tables) → slice_get new n ≡ Some tables
+    by earlier (inl c) = stays opening made old new step n tables (earlier c)
+    by earlier (inr e) = here made e step
+
+flat_contains : {A B : Type 0} (f : A → List B) (xs : List A) (x : A) (y : B) → Contains xs x → Contains (f x) y → Contains (flat_map f xs) y
+flat_contains f xs x y h inside = at xs h.0 h.1 h.2
+  where
+    at : (l : List _) (k : ℕ) → k < length l → get_or l k x ≡ x → Contains (flat_map f l) y
+    at [] k low e = absurd (omega (arith, low))
+    at (z ∷ l) zero low e = Contains-append_left (f z) (flat_map f l) y (subst (λ w. Contains (f w) y) (sym e) inside)
+    at (z ∷ l) (suc k) low e = Contains-append_right (f z) (flat_map f l) y (at l k (omega (arith, low)) e)
+
+-- ---- lines and their entries
+
+head_is : {A : Type 0} (x y : A) (xs ys : List A) → x ∷ xs ≡ y ∷ ys → x ≡ y
+head_is x y xs ys e = cc
+
+tail_is : {A : Type 0} (x y : A) (xs ys : List A) → x ∷ xs ≡ y ∷ ys → xs ≡ ys
+tail_is x y xs ys e = cc
+
+none_is : {A : Type 0} (before after : List A) (x : A) → before ++ x ∷ after ≡ [] → ⊥
+none_is [] after x e = cc
+none_is (b ∷ bs) after x e = cc
+
+abbrev entry_in : LineDone → Entry
+entry_in it = it.entry
+
+-- the line of an entry among the others
+record IsAmong (its : List LineDone) (before : List Entry) (entry : Entry) : Type 0 where
+  front : List LineDone
+  it : LineDone
+  rest : List LineDone
+  its_are : its ≡ front ++ it ∷ rest
+  front_is : map entry_in front ≡ before
+  entry_is : it.entry ≡ entry
+
+among : (its : List LineDone) (before : List Entry) (entry : Entry) (after : List Entry) → before ++ entry ∷ after ≡ map entry_in its → IsAmong its before entry
+among [] before entry after e = absurd (none_is before after entry e)
+among (x ∷ xs) [] entry after e = record {
+  front = [];
+  it = x;
+  rest = xs;
+  its_are = refl;
+  front_is = refl;
+  entry_is = sym (head_is entry x.entry after (map entry_in xs) e);
+}
+among (x ∷ xs) (b ∷ bs) entry after e =
+    let found = among xs bs entry after (tail_is b x.entry (bs ++ entry ∷ after) (map entry_in xs) e) in
+    let same = head_is b x.entry (bs ++ entry ∷ after) (map entry_in xs) e in
+    record {
+      front = x ∷ found.front;
+      it = found.it;
+      rest = found.rest;
+      its_are = ap (λ z. x ∷ z) found.its_are;
+      front_is = (λ i. sym same i ∷ found.front_is i);
+      entry_is = found.entry_is;
+    }
+
+-- the script's line of it, and what became of that
+record IsAt (input : Input) (lines : List ScriptEntry) (earlier front : List LineDone) (it : LineDone) : Type 0 where
+  line : ScriptEntry
+  at : slice_get lines (length front) ≡ Some line
+  is : IsServed input (earlier ++ front) line it
+
+served_at : (input : Input) (lines : List ScriptEntry) (earlier front : List LineDone) (it : LineDone) (rest : List LineDone) → AreServed input earlier lines (front ++ it ∷ rest) → IsAt input lines earlier front it
+served_at input [] earlier [] it rest h = absurd h
+served_at input [] earlier (x ∷ front) it rest h = absurd h
+served_at input (l ∷ ls) earlier [] it rest (h, more) = record { line = l; at = refl; is = subst (λ z. IsServed input z l it) (sym (append-nil earlier)) h }
+served_at input (l ∷ ls) earlier (x ∷ front) it rest (h, more) =
+    let found = served_at input ls (earlier ++ x ∷ []) front it rest more in
+    record { line = found.line; at = found.at; is = subst (λ z. IsServed input z found.line it) (append_assoc earlier (x ∷ []) front) found.is }
+
+-- ---- questions
+
+-- the reply that a question's entry has, and its line
+record HasReply (input : Input) (journal : Journal) (request version : ℕ) (earlier : List Entry) (reply : Reply) : Type 0 where
+  asker : Request
+  asks : IsAsker input journal request version earlier asker
+  name : List ℕ
+  text : List ℕ
+  line : slice_get input.script.entries (length earlier) ≡ Some (said.Ask request name text)
+  calls : ShelfCalls
+  holds : Replies input.policy asker input.budget text calls reply
+
+answer_holds : (input : Input) (journal : Journal) (request version : ℕ) (earlier : List Entry) (query : Query) (rows : List (List Value)) (by : By) → HasReply input journal request version earlier (Answer query rows by) →
+    IsAnswerEverywhere input journal request version earlier query rows
+answer_holds input journal request version earlier query rows by h = let it = h.holds in
+    record { question = record { name = h.name; text = h.text; line = h.line; reads = it.reads }; asker = h.asker; asks = h.asks; released = it.released }
+
+block_holds : (input : Input) (journal : Journal) (request version : ℕ) (earlier : List Entry) (query : Query) (why : Why) → HasReply input journal request version earlier (Blocked query why) →
+    IsBlockedWithReason input journal request version earlier query why
+block_holds input journal request version earlier query why h = let it = h.holds in
+    record { question = record { name = h.name; text = h.text; line = h.line; reads = it.reads }; asker = h.asker; asks = h.asks; uncovered = it.denied.uncovered; reason = it.denied.reason }
+
+request_is : (request version r v : ℕ) (reply it : Reply) → Ask request version reply ≡ Ask r v it → r ≡ request
+request_is request version r v reply it e = cc
+
+version_is : (request version r v : ℕ) (reply it : Reply) → Ask request version reply ≡ Ask r v it → v ≡ version
+version_is request version r v reply it e = cc
+
+reply_is : (request version r v : ℕ) (reply it : Reply) → Ask request version reply ≡ Ask r v it → it ≡ reply
+reply_is request version r v reply it e = cc
+
+trace_same : (number : ℕ) (its : List LineDone) → trace_of number its ≡ trace_in number (map entry_in its)
+trace_same number [] = refl
+trace_same number (x ∷ xs) = ap (λ z. answer_of number x.entry ++ z) (trace_same number xs)
+
+map_length : {X Y : Type 0} (f : X → Y) (xs : List X) → length (map f xs) ≡ length xs
+map_length f [] = refl
+map_length f (x ∷ xs) = ap suc (map_length f xs)
+
+module _ (input : Input) (journal : Journal) (legal : Legal input journal) (before : List Entry) (request version : ℕ) (reply : Reply)
+    (found : IsAmong legal.served before (Ask request version reply)) where
+  -- the version that an earlier line pinned
+  pinned : (tables : TableSet) → Contains found.front (begins request version tables) → ∥ slice_get (versions_of journal.histories.versions) version ≡ Some tables ∥₁
+  pinned tables h =
+      let all : Contains legal.served (begins request version tables) =
+      subst (λ z. Contains z (begins request version tables)) (sym found.its_are) (Contains-append_left found.front (found.it ∷ found.rest) (begins request version tables) h) in
+      let there = in_its_lane (lane_of input.workers) input.workers input.script.entries legal.served (begins request version tables) (same_length input [] input.script.entries legal.served legal.lines)
+      (lane_low input legal.input_fits.workers.0) all in
+      let one : Contains (pin_of version tables ∷ []) (pin_of version tables) = (0, omega arith, refl) in
+      let of_its_lane : Contains (versions_made (done_in input legal.served there.0)) (pin_of version tables) =
+      flat_contains (λ (it : LineDone). it.made.versions) (done_in input legal.served there.0) (begins request version tables) (pin_of version tables) there.2 one in
+      let log = legal.versions.calls.log in
+      let made : Contains (calls_of journal.histories.versions) (pin_of version tables) =
+      subst (λ z. Contains z (pin_of version tables)) (sym legal.versions.calls.calls_are)
+      (told_by (there.0 + 1) log (pin_of version tables) (subst (λ z. Contains z (pin_of version tables)) (sym (legal.versions.calls.each there.0 there.1)) of_its_lane)) in
+      ∥∥₁_map legal.versions.legal (λ it. pinned_there input.tables it version tables made)
+
+  asked : (name text : List ℕ) → slice_get input.script.entries (length found.front) ≡ Some (said.Ask request name text) → IsAsk input found.front request text found.it → HasReply input journal request version before reply
+  asked name text at h =
+      let is : Ask request version reply ≡ Ask request h.asker.version h.reply = sym found.entry_is ∙ ap entry_in h.is in
+      let same = version_is request version request h.asker.version reply h.reply is in
+      record {
+        asker = h.asker;
+        asks = record {
+          context = h.asks.context;
+          version_is = same;
+          pinned = pinned h.asker.tables (subst (λ z. Contains found.front (begins request z h.asker.tables)) same h.asks.begun);
+          trace = h.asks.trace ∙ trace_same request found.front ∙ ap (trace_in request) found.front_is;
+        };
+        name = name;
+        text = text;
+        line = subst (λ z. slice_get input.script.entries z ≡ Some (said.Ask request name text)) (sym (map_length entry_in found.front) ∙ ap length found.front_is) at;
+        calls = h.calls;
+        holds = subst (Replies input.policy h.asker input.budget text h.calls) (reply_is request version request h.asker.version reply h.reply is) h.replies;
+      }
+
+  -- the entry is a question's, so the line is
+  at_line : (line : ScriptEntry) → slice_get input.script.entries (length found.front) ≡ Some line → IsServed input found.front line found.it → HasReply input journal request version before reply
+  at_line (said.Begin r name context) at (inl h) = let e : Ask request version reply ≡ Begin r h.version = sym found.entry_is ∙ ap entry_in h.is in absurd (cc)
+  at_line (said.Begin r name context) at (inr h) = let e : Ask request version reply ≡ Unbegun r = sym found.entry_is ∙ h.0 in absurd (cc)
+  at_line (said.Ask r name text) at (inl h) =
+      let is : Ask request version reply ≡ Ask r h.asker.version h.reply = sym found.entry_is ∙ ap entry_in h.is in
+      let same = request_is request version r h.asker.version reply h.reply is in
+      asked name text (subst (λ z. slice_get input.script.entries (length found.front) ≡ Some (said.Ask z name text)) same at) (subst (λ z. IsAsk input found.front z text found.it) same h)
+  at_line (said.Ask r name text) at (inr h) = let e : Ask request version reply ≡ NoMemory = sym found.entry_is ∙ ap entry_in h.1 in absurd (cc)
+  at_line (said.End r name) at (inl h) = let e : Ask request version reply ≡ End r = sym found.entry_is ∙ ap entry_in h.is in absurd (cc)
+  at_line (said.End r name) at (inr h) = let e : Ask request version reply ≡ NoMemory = sym found.entry_is ∙ ap entry_in h.1 in absurd (cc)
+  at_line (said.Publish number set) at (inl h) = let e : Ask request version reply ≡ Publish h.version = sym found.entry_is ∙ ap entry_in h.is in absurd (cc)
+  at_line (said.Publish number set) at (inr h) = let e : Ask request version reply ≡ NoMemory = sym found.entry_is ∙ ap entry_in h in absurd (cc)
+
+  has_reply : HasReply input journal request version before reply
+  has_reply =
+      let it = served_at input input.script.entries [] found.front found.it found.rest (subst (AreServed input [] input.script.entries) found.its_are legal.lines) in
+      at_line it.line it.at it.is
+
+ask_has : (input : Input) (journal : Journal) (before after : List Entry) (request version : ℕ) (reply : Reply) → Legal input journal → journal.entries ≡ before ++ Ask request version reply ∷ after →
+    HasReply input journal request version before reply
+ask_has input journal before after request version reply legal e =
+    has_reply input journal legal before request version reply (among legal.served before (Ask request version reply) after (sym e ∙ legal.entries))
+
+pub headline : (input : Input) (journal : Journal) → Legal input journal → Headline input journal
+headline input journal legal = record {
+  answers = λ before after request version query rows by e. answer_holds input journal request version before query rows by (ask_has input journal before after request version (Answer query rows by) legal e);
+  blocks = λ before after request version query why e. block_holds input journal request version before query why (ask_has input journal before after request version (Blocked query why) legal e);
+}

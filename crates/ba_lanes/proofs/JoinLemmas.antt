@@ -1,0 +1,156 @@
+-- The history that the passes of all lanes leave, once they were split off one pass and joined into it.
+use Rattle.std.proofs.Common.{◌≡◌, ◌≢◌, ◌∙◌, refl, sym, ap, subst, ℕ, suc, zero, ◌+◌, ◌<◌, ◌≤◌, ◌==◌, ◌⊎◌, inl, inr, Bool, true, false, List, [], ◌∷◌, length, map, filter, cond, get_or, arith}
+use Rattle.std.proofs.lemmas.Bool.{eqb-false, eqb-true}
+use Rattle.std.proofs.lemmas.List.Elements.{All-cons, All-head, All-nil, All-tail}
+use Rattle.std.specs.Prelude.{All, Contains}
+use Rattle.ba_lanes.specs.Lanes.{AreOfLanes, HasJoined, HasSplit}
+use Rattle.ba_lanes.proofs.LineLemmas.{same_true}
+use Rattle.ba_turn.specs.History.{HasCalls, calls_by, entry_of, number_of}
+use Rattle.ba_turn.specs.Knowing.{HasAllCalls, SumsToAllowance, after_join, after_split, numbers_of, opening_known}
+use Rattle.ba_turn.specs.declared.known.Known.{Known}
+
+-- ---- elements
+
+contains_first : {X : Type 0} (x : X) (xs : List X) → Contains (x ∷ xs) x
+contains_first x xs = (0, omega arith, refl)
+
+contains_rest : {X : Type 0} (x y : X) (xs : List X) → Contains xs x → Contains (y ∷ xs) x
+contains_rest x y xs h = let low = h.1 in (suc h.0, omega (arith, low), h.2)
+
+-- a call of one pass stands in the whole history
+pub told_by : {E : Type 0} (n : ℕ) (log : List (ℕ × E)) (call : E) → Contains (calls_by n log) call → Contains (map entry_of log) call
+told_by n [] call h = h
+told_by n (c ∷ log) call h = by (told_by n log call) (number_of c == n) h
+  where
+    at : (Contains (calls_by n log) call → Contains (map entry_of log) call) → (k : ℕ) → k < length (c.1 ∷ calls_by n log) → get_or (c.1 ∷ calls_by n log) k call ≡ call → Contains (c.1 ∷ map entry_of log) call
+    at behind zero low e = (0, omega arith, e)
+    at behind (suc k) low e = contains_rest call c.1 (map entry_of log) (behind (k, omega (arith, low), e))
+
+    by : (Contains (calls_by n log) call → Contains (map entry_of log) call) → (t : Bool) →
+        Contains (map entry_of (cond t (c ∷ filter (λ x. number_of x == n) log) (filter (λ x. number_of x == n) log))) call → Contains (map entry_of (c ∷ log)) call
+    by behind true there = at behind there.0 there.1 there.2
+    by behind false there = contains_rest call c.1 (map entry_of log) (behind there)
+
+-- of a call's number the history has just the calls beside it
+calls_beside : {E : Type 0} (log : List (ℕ × E)) (ks : List (ℕ × List E)) (c : ℕ × List E) → HasCalls log ks → Contains ks c → calls_by c.0 log ≡ c.1
+calls_beside log ks c has h = at ks has h.0 h.1 h.2
+  where
+    at : (l : List (ℕ × List _)) → HasCalls log l → (k : ℕ) → k < length l → get_or l k c ≡ c → calls_by c.0 log ≡ c.1
+    at [] has k low e = absurd (omega (arith, low))
+    at (x ∷ l) has zero low e = subst (λ z. calls_by z.0 log ≡ z.1) e has.0
+    at (x ∷ l) has (suc k) low e = at l has.1 k (omega (arith, low)) e
+
+-- a number of a call is one of the pass that made it, and none is the opening pass's
+one_of : (P : ℕ → Type 0) (ns : List ℕ) → All P ns → (n : ℕ) → n ≢ 0 → Contains (0 ∷ ns) n → P n
+one_of P ns all n some h = at h.0 h.1 h.2
+  where
+    in_all : (l : List ℕ) → All P l → (k : ℕ) → k < length l → get_or l k n ≡ n → P n
+    in_all [] all k low e = absurd (omega (arith, low))
+    in_all (x ∷ l) all zero low e = subst P e (All-head P x l all)
+    in_all (x ∷ l) all (suc k) low e = in_all l (All-tail P x l all) k (omega (arith, low)) e
+
+    at : (k : ℕ) → k < length (0 ∷ ns) → get_or (0 ∷ ns) k n ≡ n → P n
+    at zero low e = absurd (some (sym e))
+    at (suc k) low e = in_all ns all k (omega (arith, low)) e
+
+module _ {E : Type 0} where
+  none_first : (c : ℕ × E) (log : List (ℕ × E)) → calls_by 0 (c ∷ log) ≡ [] → c.0 ≢ 0
+  none_first c log none same =
+      let is : calls_by 0 (c ∷ log) ≡ c.1 ∷ calls_by 0 log = ap (λ t. map entry_of (cond t (c ∷ filter (λ x. number_of x == 0) log) (filter (λ x. number_of x == 0) log))) (ap (λ n. n == 0) same ∙ same_true 0) in
+      let e : c.1 ∷ calls_by 0 log ≡ [] = sym is ∙ none in
+      cc
+
+  none_behind : (c : ℕ × E) (log : List (ℕ × E)) → calls_by 0 (c ∷ log) ≡ [] → calls_by 0 log ≡ []
+  none_behind c log none = by (c.0 == 0) none
+    where
+      by : (t : Bool) → map entry_of (cond t (c ∷ filter (λ x. number_of x == 0) log) (filter (λ x. number_of x == 0) log)) ≡ [] → calls_by 0 log ≡ []
+      by true e = absurd (cc)
+      by false e = e
+
+  others : (P : ℕ → Type 0) (ns : List ℕ) → All P ns → (log : List (ℕ × E)) → calls_by 0 log ≡ [] → All (Contains (0 ∷ ns)) (map number_of log) → All P (map number_of log)
+  others P ns all [] none inside = All-nil P
+  others P ns all (c ∷ log) none inside =
+      All-cons P c.0 (map number_of log) (one_of P ns all c.0 (none_first c log none) (All-head (Contains (0 ∷ ns)) c.0 (map number_of log) inside))
+      (others P ns all log (none_behind c log none) (All-tail (Contains (0 ∷ ns)) c.0 (map number_of log) inside))
+
+  numbers_all : (P : ℕ → Type 0) (ks : List (ℕ × List E)) → All (λ c. P c.0) ks → All P (map number_of ks)
+  numbers_all P [] all = All-nil P
+  numbers_all P (k ∷ ks) all = All-cons P k.0 (map number_of ks) (All-head (λ c. P c.0) k ks all) (numbers_all P ks (All-tail (λ c. P c.0) k ks all))
+
+  more_allowed : (n : ℕ) (ks : List (ℕ × List E)) → All (λ c. (0 < c.0) × (c.0 ≤ n)) ks → All (λ c. (0 < c.0) × (c.0 ≤ n + 1)) ks
+  more_allowed n [] all = All-nil (λ c. (0 < c.0) × (c.0 ≤ n + 1))
+  more_allowed n (k ∷ ks) all =
+      let first = All-head (λ c. (0 < c.0) × (c.0 ≤ n)) k ks all in
+      let most = first.1 in
+      All-cons (λ c. (0 < c.0) × (c.0 ≤ n + 1)) k ks (first.0, omega (arith, most)) (more_allowed n ks (All-tail (λ c. (0 < c.0) × (c.0 ≤ n)) k ks all))
+
+same_or_less : (k j : ℕ) → k < j + 1 → (k ≡ j) ⊎ (k < j)
+same_or_less k j low = by (k == j) refl
+  where
+    by : (t : Bool) → (k == j) ≡ t → (k ≡ j) ⊎ (k < j)
+    by true e = inl (eqb-true k j e)
+    by false e = let differ = eqb-false k j e in inr (omega (arith, low, differ))
+
+abbrev InLanes : ℕ → ℕ → Type 0
+InLanes lanes n = (0 < n) × (n ≤ lanes)
+
+-- ---- splits and joins
+
+pub split_first : {S E : Type 0} (start : S) (allowance : ℕ) (v : Known S E) → v ≡ opening_known start allowance → HasSplit 0 v
+split_first start allowance v is = subst (HasSplit 0) (sym is) (record { number = refl; splits_are = refl; made = refl; joined = refl })
+
+pub split_more : {S E : Type 0} (splits a : ℕ) (v w : Known S E) → HasSplit splits v → w ≡ after_split a v → HasSplit (splits + 1) w
+split_more splits a v w h is = subst (HasSplit (splits + 1)) (sym is) (record { number = h.number; splits_are = ap (λ n. n + 1) h.splits_are; made = h.made; joined = h.joined })
+
+-- the calls of each lane may be told otherwise
+pub of_lanes_same : {E : Type 0} (lanes : ℕ) (f g : ℕ → List E) (calls : List E) (numbers : List ℕ) → ((k : ℕ) → k < lanes → f k ≡ g k) → AreOfLanes lanes f calls numbers → AreOfLanes lanes g calls numbers
+of_lanes_same lanes f g calls numbers same h = record {
+  log = h.log;
+  calls_are = h.calls_are;
+  numbers_are = h.numbers_are;
+  each = λ k low. h.each k low ∙ same k low;
+  no_others = h.no_others;
+}
+
+module _ {S E : Type 0} (calls_of_lane : ℕ → List E) where
+  pub joined_none : (splits : ℕ) (v : Known S E) → HasSplit splits v → HasJoined splits 0 calls_of_lane v
+  joined_none splits v h = record {
+    number = h.number;
+    splits_are = h.splits_are;
+    made = h.made;
+    many = ap length h.joined;
+    each = λ k low. absurd (omega (arith, low));
+    only = subst (All (λ c. (0 < c.0) × (c.0 ≤ 0))) (sym h.joined) (All-nil (λ c. (0 < c.0) × (c.0 ≤ 0)));
+  }
+
+  pub joined_more : (splits joined : ℕ) (v o w : Known S E) → HasJoined splits joined calls_of_lane v → o.number ≡ joined + 1 → o.made ≡ calls_of_lane joined → w ≡ after_join v o → HasJoined splits (joined + 1) calls_of_lane w
+  joined_more splits joined v o w h number made is = subst (HasJoined splits (joined + 1) calls_of_lane) (sym is) (record {
+    number = h.number;
+    splits_are = h.splits_are;
+    made = h.made;
+    many = let many = h.many in omega (arith, many);
+    each = λ k low. each k low (same_or_less k joined low);
+    only = All-cons (λ c. (0 < c.0) × (c.0 ≤ joined + 1)) (o.number, o.made) v.joined (omega (arith, number), omega (arith, number)) (more_allowed joined v.joined h.only);
+  })
+    where
+      each : (k : ℕ) → k < joined + 1 → (k ≡ joined) ⊎ (k < joined) → Contains ((o.number, o.made) ∷ v.joined) (k + 1, calls_of_lane k)
+      each k low (inl e) =
+          subst (λ z. Contains ((o.number, o.made) ∷ v.joined) (z + 1, calls_of_lane z)) (sym e)
+          (subst (Contains ((o.number, o.made) ∷ v.joined)) (λ i. (number i, made i)) (contains_first (o.number, o.made) v.joined))
+      each k low (inr less) = contains_rest (k + 1, calls_of_lane k) (o.number, o.made) v.joined (h.each k less)
+
+  -- all of the allowance was spent, or has come back
+  pub joined_whole : (lanes : ℕ) (v : Known S E) → HasJoined lanes lanes calls_of_lane v → SumsToAllowance v → v.left + length v.seen ≡ v.allowance
+  joined_whole lanes v h sums = sums h.number (h.splits_are ∙ sym h.many)
+
+  pub joined_calls : (lanes : ℕ) (v : Known S E) → HasJoined lanes lanes calls_of_lane v → calls_by v.number v.seen ≡ v.made → HasCalls v.seen v.joined → HasAllCalls v → (calls : List E) (numbers : List ℕ) →
+      calls ≡ map entry_of v.seen → numbers ≡ map number_of v.seen → AreOfLanes lanes calls_of_lane calls numbers
+  joined_calls lanes v h own has whole calls numbers calls_are numbers_are = record {
+    log = v.seen;
+    calls_are = calls_are;
+    numbers_are = numbers_are;
+    each = λ k low. calls_beside v.seen v.joined (k + 1, calls_of_lane k) has (h.each k low);
+    no_others = subst (All (InLanes lanes)) (sym numbers_are)
+        (others (InLanes lanes) (map number_of v.joined) (numbers_all (InLanes lanes) v.joined h.only) v.seen (ap (λ n. calls_by n v.seen) (sym h.number) ∙ own ∙ h.made)
+        (subst (λ n. All (Contains (n ∷ map number_of v.joined)) (map number_of v.seen)) h.number (whole.each h.number (h.splits_are ∙ sym h.many))));
+  }

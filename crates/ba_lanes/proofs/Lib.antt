@@ -1,0 +1,11 @@
+pub mod LineLemmas
+pub mod JoinLemmas
+pub mod ShareLemmas
+pub mod PublishedLemmas
+pub mod LaneLemmas
+pub mod ServeLemmas
+pub mod MergeLemmas
+pub mod HistoryLemmas
+pub mod WorkLemmas
+pub mod HeadlineLemmas
+pub mod Crossing

@@ -1,0 +1,27 @@
+use Rattle.std.proofs.Common.{◌∙◌, ap, arith, length, subst, sym}
+use Rattle.std.proofs.lemmas.List.{take_all}
+use Rattle.ba_lanes.proofs.LineLemmas.{other_taken, own_taken, taken_short}
+use Rattle.ba_lanes.proofs.ShareLemmas.{share_more, share_small}
+use Rattle.ba_lanes.specs.Lanes.{lines_of}
+use Rattle.ba_lanes.specs.Legal.{lane_of}
+use Rattle.ba_lanes.specs.Serving.{IsShare}
+use Rattle.ba_lanes.proofs.share.Share.of.Goals as goal
+
+pub add-requires-clause-lines : goal.add-requires-clause-lines
+add-requires-clause-lines c =
+    let items = c.as_slice-said-items.result.now in
+    let short = taken_short (lane_of c.args.workers) c.args.number items c.loop-said.said-index c.loop-said-test.true in
+    let few = c.requires.few in
+    let long = ap length c.as_slice-said-items.ensures in
+    let so_far = c.loop-said.invariant.lines_are in
+    omega (arith, short, few, long, so_far)
+
+pub add-requires-clause-calls : goal.add-requires-clause-calls
+add-requires-clause-calls c = share_small _ c.loop-said.share c.loop-said.invariant
+
+pub loop-said-preserved : goal.loop-said-preserved
+loop-said-preserved c = c
+
+pub returns : goal.returns
+returns c = subst (λ z. IsShare (lines_of (lane_of c.args.workers) c.args.number z) c.loop-said.share)
+    (take_all c.loop-said.said-index c.as_slice-said-items.result.now c.loop-said-test.false ∙ c.as_slice-said-items.ensures) c.loop-said.invariant

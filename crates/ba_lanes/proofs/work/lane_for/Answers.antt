@@ -1,0 +1,10 @@
+use Rattle.ba_lanes.proofs.HistoryLemmas.{are_unused, can_split, has_left_more, have_split_more, own_can}
+use Rattle.ba_lanes.proofs.MergeLemmas.{lane_low}
+use Rattle.ba_lanes.proofs.work.lane_for.Goals as goal
+
+pub split-requires-clause-can : goal.split-requires-clause-can
+split-requires-clause-can c =
+    let input = c.args.input.now in
+    let is = c.requires.input in
+    let share = c.of-share.ensures in
+    can_split input (lane_low input is.workers.0) c.args.number c.requires.below is.workers.1 c.of-share.result.calls c.of-share.result.looks share.calls_are share.looks_are c.args.passes.now c.requires.left c.requires.split

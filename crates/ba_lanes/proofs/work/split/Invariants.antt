@@ -1,0 +1,16 @@
+use Rattle.std.proofs.Common.{◌≡◌, ℕ, ◌<◌, get_or, length, vec_capacity}
+use Rattle.ba_session.specs.Passing.{AreOf}
+use Rattle.ba_lanes.specs.Serving.{HasLeft, HaveSplit}
+use Rattle.ba_lanes.specs.Working.{IsWork}
+use Rattle.ba_lanes.proofs.work.split.Given as goal
+
+-- the lanes so far are ready, and what the others may take is left
+abbrev pub invariant-loop-number : goal.invariant-loop-number
+invariant-loop-number g l = record {
+  of : AreOf l.service l.passes;
+  split : HaveSplit l.number l.passes;
+  left : HasLeft l.input l.number l.passes;
+  many : length l.works.items ≡ l.number;
+  room : vec_capacity l.works ≡ l.input.workers;
+  ready : (k : ℕ) (d : _) → k < l.number → IsWork l.input l.service k (get_or l.works.items k d);
+}

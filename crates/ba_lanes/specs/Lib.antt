@@ -1,0 +1,6 @@
+pub mod Published
+pub mod Lanes
+pub mod Legal
+pub mod Headline
+pub mod Serving
+pub mod Working

@@ -1,0 +1,11 @@
+//! Serves a script: its questions are answered or blocked, by several workers, each a lane of the lines.
+#![tactic(auto)]
+
+mod journal;
+mod lane;
+mod serve;
+mod share;
+mod work;
+
+pub use journal::{Entry, Input, Journal};
+pub use serve::serve;

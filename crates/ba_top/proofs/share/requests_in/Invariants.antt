@@ -1,7 +1,0 @@
-use Rattle.std.proofs.Common.{◌≡◌, length, take}
-use Rattle.ba_top.specs.Legal.{contexts_of}
-use Rattle.ba_top.proofs.share.requests_in.Given as goal
-
--- how many requests the lines so far begin
-abbrev pub invariant-loop-said : goal.invariant-loop-said
-invariant-loop-said l = l.count ≡ length (contexts_of (take l.said-index l.said-items))

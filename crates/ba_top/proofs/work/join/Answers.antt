@@ -1,4 +1,0 @@
-use Rattle.std.proofs.Common.{arith, length, ap, refl, sym}
-use Rattle.ba_top.proofs.HistoryLemmas.{are_opening}
-use Rattle.ba_top.proofs.WorkLemmas.{gathered, gathering_more, gathering_none}
-use Rattle.ba_top.proofs.work.join.Goals as goal
