@@ -121,4 +121,5 @@ def main():
         print_workers(said, program, folder, "F3")
 
 
-main()
+if __name__ == "__main__":
+    main()

@@ -36,11 +36,12 @@ use Rattle.ba_tables.specs.Broken.{checked}
 use Rattle.ba_tables.specs.TableSet.{TableSet}
 use Rattle.ba_lanes.specs.Legal.{IsInput, RowsOfTables}
 use Rattle.ba_lanes.specs.Published.{IsSetOf}
-use Rattle.ba_top.specs.Reading.{Names, ProofNames, check_plan, policy_and_proof_plan, policy_plan, proof_plan, proof_reading_of, published_plan, reading_of, rest_plan, rows_plan, run_plan, script_plan, set_plan, sets_plan, table_plan, tables_plan}
+use Rattle.ba_top.specs.Reading.{Names, ProofNames, check_plan, policy_and_proof_plan, policy_plan, proof_plan, proof_reading_of, published_plan, reading_of, rest_plan, rows_plan, run_plan, script_plan, set_plan, sets_plan, table_plan, tables_plan, workload_plan, workload_reading}
 use Rattle.ba_top.specs.Refusals.{broken_refusal, ddl_refusal, policy_refusal}
 use Rattle.ba_lanes.specs.declared.journal.Input.{Input}
 use Rattle.ba_top.specs.declared.report.Refusal.{Refusal}
 use Rattle.ba_top.specs.declared.report.Task.TheVariants as task
+use Rattle.ba_top.specs.declared.report.Told.TheVariants.{Lines, Summary}
 
 no_rule : (s : Schema) (rules : List Rule) → rules ≡ [] → All (RuleFits s) rules
 no_rule s rules none = subst (All (RuleFits s)) (sym none) (All-nil (RuleFits s))
@@ -223,11 +224,11 @@ proof_ok names bytes text schema policy s m n t r got read given is rest = inr (
 -- ---- the commands
 
 -- the input, and then the run of it
-pub run_ok : (names : Names) (input : Input) (s t : FilesSeen) → Follows (reading_of names) s t (Ok input) → Follows (run_plan names) s t (Ok (task.Run input))
-run_ok names input s t follows = then_ok (reading_of names) (λ z. done (task.Run z)) s t t input (Ok (task.Run input)) follows (refl, refl)
+pub run_ok : (names : Names) (input : Input) (s t : FilesSeen) → Follows (reading_of names) s t (Ok input) → Follows (run_plan names) s t (Ok (task.Run input Lines))
+run_ok names input s t follows = then_ok (reading_of names) (λ z. done (task.Run z Lines)) s t t input (Ok (task.Run input Lines)) follows (refl, refl)
 
 pub run_err : (names : Names) (s t : FilesSeen) (e : Stop Refusal) → Follows (reading_of names) s t (Err e) → Follows (run_plan names) s t (Err e)
-run_err names s t e follows = then_err (reading_of names) (λ z. done (task.Run z)) s t e follows
+run_err names s t e follows = then_err (reading_of names) (λ z. done (task.Run z Lines)) s t e follows
 
 -- the proof, and then the check of it
 pub check_ok : (names : ProofNames) (proof : Proof) (s t : FilesSeen) → Follows (proof_reading_of names) s t (Ok proof) → Follows (check_plan names) s t (Ok (task.Check proof))
@@ -243,3 +244,10 @@ policy_is policy fits tables none = record {
   rules = no_rule policy.schema policy.schema.rules none;
   views = fits;
 }
+
+-- the run of a workload
+pub workload_ok : (seed requests workers : ℕ) (input : Input) (s : FilesSeen) → Follows (workload_reading seed requests workers) s s (Ok input) → Follows (workload_plan seed requests workers false) s s (Ok (task.Run input Summary))
+workload_ok seed requests workers input s follows = then_ok (workload_reading seed requests workers) (λ z. done (task.Run z Summary)) s s s input (Ok (task.Run input Summary)) follows (refl, refl)
+
+pub workload_err : (seed requests workers : ℕ) (s : FilesSeen) (e : Stop Refusal) → Follows (workload_reading seed requests workers) s s (Err e) → Follows (workload_plan seed requests workers false) s s (Err e)
+workload_err seed requests workers s e follows = then_err (workload_reading seed requests workers) (λ z. done (task.Run z Summary)) s s e follows

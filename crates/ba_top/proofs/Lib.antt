@@ -2,4 +2,5 @@ pub mod SummaryLemmas
 pub mod PrintLemmas
 pub mod InputLemmas
 pub mod CheckLemmas
+pub mod WorkloadLemmas
 pub mod Runs

@@ -15,7 +15,7 @@ use Rattle.ba_proof.specs.declared.checking.CheckFault.{CheckFault}
 use Rattle.ba_proof.specs.declared.proof.Proof.{Proof}
 use Rattle.ba_top.specs.Causes.{ComesTo, IsLimit, IsStepLimit, Tells, stopped}
 use Rattle.ba_top.specs.Checking.{EndsCheck, EndsLine, IsAccepted, IsFinding, IsVerdict, detail_found, line_found}
-use Rattle.ba_top.specs.Ran.{Accepts, EndsFault, EndsRun, EndsStop, Ran, RanTask, Rejects, detail_of}
+use Rattle.ba_top.specs.Ran.{Accepts, EndsFault, EndsPrint, EndsRun, EndsStop, Ran, RanTask, Rejects, Served, detail_of}
 use Rattle.ba_top.specs.Reading.{plan_of}
 use Rattle.ba_top.specs.declared.report.Detail.{Detail}
 use Rattle.ba_top.specs.declared.report.Detail.TheVariants.{Done, NotAccepted, Words, Input as BadInput, Read, Write, Memory, Limit, Steps}
@@ -25,6 +25,7 @@ use Rattle.ba_top.specs.declared.report.Refusal.{Refusal}
 use Rattle.ba_top.specs.declared.report.Refusal.TheVariants as refusal
 use Rattle.ba_top.specs.declared.report.Task.{Task}
 use Rattle.ba_top.specs.declared.report.Task.TheVariants as task
+use Rattle.ba_top.specs.declared.report.Told.{Told}
 use Rattle.ba_wire.specs.Verdicts.{verdict_bytes}
 use Rattle.ba_wire.specs.declared.fault.Fault.{Fault}
 use Rattle.ba_wire.specs.declared.fault.Fault.TheVariants as fault
@@ -48,16 +49,16 @@ stops_as (TooLong file limit) s t detail ends = ends_as (fault.Limit FileBytes l
 stops_as NoMemory s t detail ends = inl ends.0
 
 -- a run's text ends with done, a write fault or want of memory
-runs_as : (input : Input) (journal : Journal) (s t : SinkSeen) (detail : Detail) → EndsRun input journal s t detail → (detail ≡ Done) ⊎ ((detail ≡ Write) × Rose s.faults t.faults) ⊎ (detail ≡ Memory)
-runs_as input journal s t Done ends = inl refl
-runs_as input journal s t Write ends = inr (inl (refl, ends.1))
-runs_as input journal s t Memory ends = inr (inr refl)
-runs_as input journal s t (NotAccepted why) ends = absurd ends
-runs_as input journal s t Words ends = absurd ends
-runs_as input journal s t (BadInput file reason) ends = absurd ends
-runs_as input journal s t (Read file) ends = absurd ends
-runs_as input journal s t (Limit what limit) ends = absurd ends
-runs_as input journal s t (Steps limit) ends = absurd ends
+runs_as : (input : Input) (told : Told) (journal : Journal) (s t : SinkSeen) (detail : Detail) → EndsRun input told journal s t detail → (detail ≡ Done) ⊎ ((detail ≡ Write) × Rose s.faults t.faults) ⊎ (detail ≡ Memory)
+runs_as input told journal s t Done ends = inl refl
+runs_as input told journal s t Write ends = inr (inl (refl, ends.1))
+runs_as input told journal s t Memory ends = inr (inr refl)
+runs_as input told journal s t (NotAccepted why) ends = absurd ends
+runs_as input told journal s t Words ends = absurd ends
+runs_as input told journal s t (BadInput file reason) ends = absurd ends
+runs_as input told journal s t (Read file) ends = absurd ends
+runs_as input told journal s t (Limit what limit) ends = absurd ends
+runs_as input told journal s t (Steps limit) ends = absurd ends
 
 -- a finding that is told ends with its own detail, or that of the writing
 told_as : (proof : Proof) (s t : SinkSeen) (detail : Detail) (found : Option CheckFault) → IsFinding proof found → EndsLine (verdict_bytes (line_found (length proof.steps) found)) (detail_found found) s t detail → IsVerdict proof detail ⊎ ((detail ≡ Write) × Rose s.faults t.faults) ⊎ (detail ≡ Memory)
@@ -73,18 +74,27 @@ checks_as : (proof : Proof) (s t : SinkSeen) (detail : Detail) → EndsCheck pro
 checks_as proof s t detail (inl told) = told_as proof s t detail told.found told.is told.ends
 checks_as proof s t detail (inr (is, same)) = inr (inr is)
 
+-- a printed script ends with done, a write fault or want of memory
+prints_as : (text : List ℕ) (s t : SinkSeen) (detail : Detail) → EndsPrint text s t detail → (detail ≡ Done) ⊎ ((detail ≡ Write) × Rose s.faults t.faults) ⊎ (detail ≡ Memory)
+prints_as text s t detail (inl (is, wrote)) = inl is
+prints_as text s t detail (inr (inl (is, sent))) = inr (inl (is, sent.1))
+prints_as text s t detail (inr (inr (is, sent))) = inr (inr is)
+
 -- what was read, and then what was done with it
 pub ran_task : (words : List (List ℕ)) (f g : FilesSeen) (s t : SinkSeen) (detail : Detail) (journal : Option Journal) (it : Task) → Follows (plan_of words) f g (Ok it) → RanTask it s t detail journal → Ran words f g s t detail journal
-ran_task words f g s t detail (Some journal) (task.Run input) follows (legal, headline, written) = record {
+ran_task words f g s t detail (Some journal) (task.Run input told) follows (legal, headline, written) = record {
   input = input;
+  told = told;
   read = follows;
   legal = legal;
   headline = headline;
   written = written;
 }
-ran_task words f g s t detail None (task.Run input) follows (is, same) = inr (inl (input, follows, is, same))
+ran_task words f g s t detail None (task.Run input told) follows (is, same) = inr (inl (input, told, follows, is, same))
+ran_task words f g s t detail (Some journal) (task.Print text) follows ends = absurd ends
+ran_task words f g s t detail None (task.Print text) follows ends = inr (inr (inr (record { text = text; read = follows; ends = ends })))
 ran_task words f g s t detail (Some journal) (task.Check proof) follows ends = absurd ends
-ran_task words f g s t detail None (task.Check proof) follows ends = inr (inr (record { proof = proof; read = follows; ends = ends }))
+ran_task words f g s t detail None (task.Check proof) follows ends = inr (inr (inl (record { proof = proof; read = follows; ends = ends })))
 
 -- How a command ended: by what the reading came to, or by the writing, or for want of memory.
 Ended : List (List ℕ) → FilesSeen → FilesSeen → SinkSeen → SinkSeen → Detail → Type 0
@@ -93,15 +103,17 @@ Ended words f g s t detail =
 
 ended : (words : List (List ℕ)) (f g : FilesSeen) (s t : SinkSeen) (detail : Detail) (journal : Option Journal) → Ran words f g s t detail journal → Ended words f g s t detail
 unfolding Ended
-ended words f g s t detail (Some journal) it = (Ok (task.Run it.input), it.read, runs_as it.input journal s t detail it.written)
+ended words f g s t detail (Some journal) it = (Ok (task.Run it.input it.told), it.read, runs_as it.input it.told journal s t detail it.written)
 ended words f g s t detail None (inl (stop, follows, ends)) = (Err stop, follows, stops_as stop s t detail ends)
-ended words f g s t detail None (inr (inl (input, follows, is, same))) = (Ok (task.Run input), follows, inr (inr is))
-ended words f g s t detail None (inr (inr it)) = (Ok (task.Check it.proof), it.read, checks_as it.proof s t detail it.ends)
+ended words f g s t detail None (inr (inl (input, told, follows, is, same))) = (Ok (task.Run input told), follows, inr (inr is))
+ended words f g s t detail None (inr (inr (inl it))) = (Ok (task.Check it.proof), it.read, checks_as it.proof s t detail it.ends)
+ended words f g s t detail None (inr (inr (inr it))) = (Ok (task.Print it.text), it.read, prints_as it.text s t detail it.ends)
 
 -- ---- read faults and long files
 
 unreadable : (reading : Result Task (Stop Refusal)) (file : List ℕ) → ComesTo reading (Read file) → reading ≡ Err (Unreadable file)
-unreadable (Ok (task.Run input)) file e = absurd (cc)
+unreadable (Ok (task.Run input told)) file e = absurd (cc)
+unreadable (Ok (task.Print text)) file e = absurd (cc)
 unreadable (Ok (task.Check proof)) file e = absurd e
 unreadable (Err (Refused refusal.Words)) file e = absurd (cc)
 unreadable (Err (Refused (refusal.Input f reason))) file e = absurd (cc)
@@ -116,7 +128,8 @@ abbrev ComesToLimit : Result Task (Stop Refusal) → Counted → ℕ → Type 0
 ComesToLimit reading what limit = (reading ≡ Err (Refused (refusal.Limit what limit))) ⊎ ((what ≡ FileBytes) × ((file : List ℕ) × (reading ≡ Err (TooLong file limit))))
 
 limit_of : (reading : Result Task (Stop Refusal)) (what : Counted) (limit : ℕ) → ComesTo reading (Limit what limit) → ComesToLimit reading what limit
-limit_of (Ok (task.Run input)) what limit e = absurd (cc)
+limit_of (Ok (task.Run input told)) what limit e = absurd (cc)
+limit_of (Ok (task.Print text)) what limit e = absurd (cc)
 limit_of (Ok (task.Check proof)) what limit e = absurd e
 limit_of (Err (Refused refusal.Words)) what limit e = absurd (cc)
 limit_of (Err (Refused (refusal.Input f reason))) what limit e = absurd (cc)
@@ -127,7 +140,8 @@ limit_of (Err (TooLong f n)) what limit e = let w : FileBytes ≡ what = cc in l
 limit_of (Err NoMemory) what limit e = absurd (cc)
 
 step_limit_of : (reading : Result Task (Stop Refusal)) (limit : ℕ) → ComesTo reading (Steps limit) → reading ≡ Err (Refused (refusal.Steps limit))
-step_limit_of (Ok (task.Run input)) limit e = absurd (cc)
+step_limit_of (Ok (task.Run input told)) limit e = absurd (cc)
+step_limit_of (Ok (task.Print text)) limit e = absurd (cc)
 step_limit_of (Ok (task.Check proof)) limit e = absurd e
 step_limit_of (Err (Refused refusal.Words)) limit e = absurd (cc)
 step_limit_of (Err (Refused (refusal.Input f reason))) limit e = absurd (cc)
@@ -169,7 +183,8 @@ ran_steps words f g s t detail journal ran limit e = by_end (ended words f g s t
     by_end (reading, follows, inr (inr is)) = absurd (cc)
 
 not_write : (reading : Result Task (Stop Refusal)) → ¬ (ComesTo reading Write)
-not_write (Ok (task.Run input)) e = cc
+not_write (Ok (task.Run input told)) e = cc
+not_write (Ok (task.Print text)) e = cc
 not_write (Ok (task.Check proof)) e = e
 not_write (Err (Refused refusal.Words)) e = cc
 not_write (Err (Refused (refusal.Input f reason))) e = cc
@@ -213,16 +228,18 @@ accepted proof s t detail e (inr (inr is)) = absurd (cc)
 pub ran_accepted : (words : List (List ℕ)) (f g : FilesSeen) (s t : SinkSeen) (detail : Detail) (journal : Option Journal) → Ran words f g s t detail journal → Accepts words f g detail journal
 ran_accepted words f g s t detail (Some journal) it = tt
 ran_accepted words f g s t detail None (inl (stop, follows, ends)) = λ e. absurd (never_done stop s t detail e (stops_as stop s t detail ends))
-ran_accepted words f g s t detail None (inr (inl (input, follows, is, same))) = λ e. absurd (cc)
-ran_accepted words f g s t detail None (inr (inr it)) = λ e. record {
+ran_accepted words f g s t detail None (inr (inl (input, told, follows, is, same))) = λ e. absurd (cc)
+ran_accepted words f g s t detail None (inr (inr (inl it))) = λ e. inl (record {
   proof = it.proof;
   read = it.read;
   holds = accepted it.proof s t detail e (checks_as it.proof s t detail it.ends);
-}
+})
+ran_accepted words f g s t detail None (inr (inr (inr it))) = λ e. inr (it.text, it.read)
 
 -- a reading that ends so is of a proof that has the fault
 rejects : (words : List (List ℕ)) (f g : FilesSeen) (reading : Result Task (Stop Refusal)) (why : CheckFault) → Follows (plan_of words) f g reading → ComesTo reading (NotAccepted why) → Rejects words f g why
-rejects words f g (Ok (task.Run input)) why follows e = absurd (cc)
+rejects words f g (Ok (task.Run input told)) why follows e = absurd (cc)
+rejects words f g (Ok (task.Print text)) why follows e = absurd (cc)
 rejects words f g (Ok (task.Check proof)) why follows is = record { proof = proof; read = follows; holds = is }
 rejects words f g (Err (Refused refusal.Words)) why follows e = absurd (cc)
 rejects words f g (Err (Refused (refusal.Input file reason))) why follows e = absurd (cc)

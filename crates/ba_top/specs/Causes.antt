@@ -26,10 +26,11 @@ stopped (Unreadable file) = Read file
 stopped (TooLong file limit) = Limit FileBytes limit
 stopped NoMemory = Memory
 
--- What a command comes to, by what its reading comes to, where no sink fails and memory suffices: a run is done, a check is done where
+-- What a command comes to, by what its reading comes to, where no sink fails and memory suffices: a run is done, and so is the printing of a script; a check is done where
 -- its proof is accepted, and else has the proof's fault.
 abbrev pub ComesTo : Result Task (Stop Refusal) → Detail → Type 0
-ComesTo (Ok (task.Run input)) detail = detail ≡ Done
+ComesTo (Ok (task.Run input told)) detail = detail ≡ Done
+ComesTo (Ok (task.Print text)) detail = detail ≡ Done
 ComesTo (Ok (task.Check proof)) detail = IsVerdict proof detail
 ComesTo (Err stop) detail = detail ≡ stopped stop
 

@@ -1,5 +1,5 @@
 -- What a check comes to, and what it writes.
-use Rattle.std.specs.Prelude.{◌≡◌, ◌⊎◌, ◌≤◌, List, ℕ, [], ◌∷◌, length, Option, Some, None, Err}
+use Rattle.std.specs.Prelude.{◌≡◌, ◌⊎◌, ◌≤◌, List, ℕ, [], ◌∷◌, length, Option, Some, None, Err, ⊤}
 use Rattle.ba_kernel.specs.Courses.{ProblemFits}
 use Rattle.ba_kernel.specs.Replays.{Closes}
 use Rattle.ba_model.specs.declared.limits.TheConstants.{MAX_BUDGET}
@@ -14,7 +14,7 @@ use Rattle.ba_lanes.specs.Legal.{IsInput}
 use Rattle.ba_top.specs.declared.report.Detail.{Detail}
 use Rattle.ba_top.specs.declared.report.Detail.TheVariants.{Done, NotAccepted, Words, Input as BadInput, Read, Write, Memory, Limit, Steps}
 use Rattle.ba_top.specs.declared.report.Task.{Task}
-use Rattle.ba_top.specs.declared.report.Task.TheVariants.{Run, Check}
+use Rattle.ba_top.specs.declared.report.Task.TheVariants.{Run, Print, Check}
 use Rattle.ba_wire.specs.Verdicts.{verdict_bytes}
 use Rattle.ba_wire.specs.declared.verdict.Verdict.{Verdict}
 use Rattle.ba_wire.specs.declared.verdict.Verdict.TheVariants.{Accepted, NotShown, StillOpen}
@@ -28,7 +28,8 @@ pub record IsCheckable (proof : Proof) : Type 0 where
 
 -- what was read for a command belongs together
 abbrev pub IsTask : Task → Type 0
-IsTask (Run input) = IsInput input
+IsTask (Run input told) = IsInput input
+IsTask (Print text) = ⊤
 IsTask (Check proof) = IsCheckable proof
 
 -- ---- what a check finds

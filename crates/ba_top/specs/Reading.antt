@@ -1,9 +1,10 @@
 -- How what the words name is read.
-use Rattle.std.specs.Prelude.{ℕ, List, [], ◌∷◌, ◌++◌, Option, Some, None, Result, Ok, Err}
+use Rattle.std.specs.Prelude.{ℕ, List, [], ◌∷◌, ◌++◌, Bool, true, false, Option, Some, None, Result, Ok, Err, codes, if◌then◌else◌, length, nat_lt}
 use Rattle.std.specs.Option.{option_to_list}
+use Rattle.std.specs.Str.{bytes_eq}
 use Rattle.ba_command.specs.Words.{command_of}
 use Rattle.ba_command.specs.declared.command.Command.{Command}
-use Rattle.ba_command.specs.declared.command.Command.TheVariants.{Run, Check}
+use Rattle.ba_command.specs.declared.command.Command.TheVariants.{Run, Check, Gen}
 use Rattle.ba_command.specs.declared.command.WordsFault.{WordsFault}
 use Rattle.ba_command.specs.declared.command.WordsFault.TheVariants.{NoForm}
 use Rattle.ba_model.specs.Readings.{widened}
@@ -11,7 +12,8 @@ use Rattle.ba_model.specs.declared.policy.Policy.{Policy}
 use Rattle.ba_model.specs.declared.schema.Schema.{Schema}
 use Rattle.ba_model.specs.declared.schema.Table.{Table}
 use Rattle.ba_model.specs.declared.value.Value.{Value}
-use Rattle.ba_model.specs.declared.limits.TheConstants.{MAX_FILE_BYTES}
+use Rattle.ba_model.specs.declared.limits.Counted.TheVariants.{FileBytes}
+use Rattle.ba_model.specs.declared.limits.TheConstants.{BUDGET, MAX_FILE_BYTES}
 use Rattle.ba_plan.specs.Plan.{Plan, done, refuse, ask, found, ◌>>=◌}
 use Rattle.ba_policy.specs.Reading.{policy_of}
 use Rattle.ba_proof.specs.Reading.{proof_of}
@@ -28,9 +30,13 @@ use Rattle.ba_top.specs.Path.{path_of}
 use Rattle.ba_top.specs.Refusals.{broken_refusal, ddl_refusal, policy_refusal, proof_refusal, script_refusal, table_refusal}
 use Rattle.ba_lanes.specs.declared.journal.Input.{Input}
 use Rattle.ba_top.specs.declared.report.Refusal.{Refusal}
-use Rattle.ba_top.specs.declared.report.Refusal.TheVariants.{Words}
+use Rattle.ba_top.specs.declared.report.Refusal.TheVariants.{Limit, Words}
 use Rattle.ba_top.specs.declared.report.Task.{Task}
 use Rattle.ba_top.specs.declared.report.Task.TheVariants as task
+use Rattle.ba_top.specs.declared.report.Told.TheVariants.{Lines, Summary}
+use Rattle.ba_workload.specs.Files.{File, files_of}
+use Rattle.ba_workload.specs.Requests.{script_text}
+use Rattle.ba_workload.specs.declared.files.TheConstants.{POLICY_FILE, SCHEMA_FILE, SCRIPT_FILE, TABLE_SET}
 
 -- ---- a run
 
@@ -110,6 +116,26 @@ reading_of names = do
   schema ← found (widened (ddl_refusal names.schema) (schema_of bytes))
   policy_plan names schema
 
+-- ---- a workload
+
+-- a plan over files that are given, as one that asks for none; a file that is too long is a count above its limit
+abbrev pub over : {X : Type 0} → (List ℕ → List ℕ) → Plan Refusal X → Plan Refusal X
+over bytes (done x) = done x
+over bytes (refuse e) = refuse e
+over bytes (ask name limit next) = if nat_lt limit (length (bytes name)) then refuse (Limit FileBytes limit) else over bytes (next (bytes name))
+
+-- the bytes of the first file of that name, or none
+abbrev pub bytes_of : List File → List ℕ → List ℕ
+bytes_of [] name = []
+bytes_of (file ∷ files) name = if bytes_eq file.0 name then file.1 else bytes_of files name
+
+abbrev pub workload_names : ℕ → Names
+workload_names workers = record { schema = codes SCHEMA_FILE; policy = codes POLICY_FILE; tables = codes TABLE_SET; script = codes SCRIPT_FILE; workers = workers; budget = BUDGET }
+
+-- the input of a workload: its files are read as those of a run
+abbrev pub workload_reading : ℕ → ℕ → ℕ → Plan Refusal Input
+workload_reading seed requests workers = over (bytes_of (files_of seed requests)) (reading_of (workload_names workers))
+
 -- ---- a check
 
 -- the names of the files of a check
@@ -141,7 +167,14 @@ proof_reading_of names = do
 abbrev pub run_plan : Names → Plan Refusal Task
 run_plan names = do
   input ← reading_of names
-  done (task.Run input)
+  done (task.Run input Lines)
+
+-- a workload is run, or its script is printed
+abbrev pub workload_plan : ℕ → ℕ → ℕ → Bool → Plan Refusal Task
+workload_plan seed requests workers true = done (task.Print (script_text seed requests))
+workload_plan seed requests workers false = do
+  input ← workload_reading seed requests workers
+  done (task.Run input Summary)
 
 abbrev pub check_plan : ProofNames → Plan Refusal Task
 check_plan names = do
@@ -150,6 +183,7 @@ check_plan names = do
 
 abbrev pub command_plan : Command → Plan Refusal Task
 command_plan (Run schema policy tables script workers budget) = run_plan (record { schema = schema; policy = policy; tables = tables; script = script; workers = workers; budget = budget })
+command_plan (Gen seed requests workers print) = workload_plan seed requests workers print
 command_plan (Check schema policy proof) = check_plan (record { schema = schema; policy = policy; proof = proof })
 
 abbrev pub plan_at : Result Command WordsFault → Plan Refusal Task

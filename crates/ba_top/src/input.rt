@@ -24,7 +24,8 @@ use crate::proof_input::{NamedProof, read_check};
 use crate::refusal::{
     broken_refusal, ddl_refusal, path, policy_refusal, script_refusal, table_refusal,
 };
-use crate::report::{Refusal, Task};
+use crate::report::{Refusal, Task, Told};
+use crate::workload::read_workload;
 use ba_command::{Command, WordsFault, read_words};
 use ba_lanes::Input;
 use ba_model::{
@@ -40,13 +41,13 @@ use std::alloc::{AllocError, Global};
 
 /// The names of the files and of the table set, the number of workers, and the budget of a search.
 #[derive(Clone, Copy, Debug)]
-struct Named<'a> {
-    schema: &'a str,
-    policy: &'a str,
-    tables: &'a str,
-    script: &'a str,
-    workers: u32,
-    budget: u32,
+pub(crate) struct Named<'a> {
+    pub(crate) schema: &'a str,
+    pub(crate) policy: &'a str,
+    pub(crate) tables: &'a str,
+    pub(crate) script: &'a str,
+    pub(crate) workers: u32,
+    pub(crate) budget: u32,
 }
 
 /// The schema of a file's bytes.
@@ -316,7 +317,7 @@ fn read_rest<F: Files>(
     read_published(alloc, files, workers, budget, policy, tables, script)
 }
 
-fn read_named<F: Files>(
+pub(crate) fn read_named<F: Files>(
     alloc: Global,
     files: &mut F,
     named: &Named<'_>,
@@ -369,7 +370,7 @@ fn read_run<F: Files>(
     ensures task { IfOk result IsTask }
 {
     let input = read_named(alloc, files, named)?;
-    Ok(Task::Run(input))
+    Ok(Task::Run(input, Told::Lines))
 }
 
 fn read_command<F: Files>(
@@ -402,6 +403,12 @@ fn read_command<F: Files>(
             };
             read_run(alloc, files, &named)
         }
+        Command::Gen {
+            seed,
+            requests,
+            workers,
+            print,
+        } => read_workload(alloc, *seed, *requests, *workers, *print),
         Command::Check {
             schema,
             policy,

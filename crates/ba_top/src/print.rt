@@ -2,8 +2,9 @@
 ghost use Rattle.std.specs.Prelude.{◌≡◌, [], ◌∷◌, IfOk, length, string_bytes};
 ghost use Rattle.ba_plan.specs.Sent.{SentLines};
 ghost use Rattle.ba_wire.specs.Printed.{fault_bytes, printed};
-ghost use Rattle.ba_top.specs.Text.{entry_bytes, entry_line, lines_of, name_in, printed_block, printed_by, reply_line, total_bytes};
+ghost use Rattle.ba_top.specs.Text.{entry_bytes, entry_line, lines_of, name_in, printed_block, printed_by, reply_line, told_lines, total_bytes};
 
+use crate::report::Told;
 use crate::summary::summary;
 use ba_lanes::{Entry, Journal};
 use ba_model::Str;
@@ -120,8 +121,23 @@ fn summary_line(alloc: Global, journal: &Journal) -> Result<String, WriteFail>
     }
 }
 
-/// Writes a line for each line of the script, by its entry, in order, and then the summary.
-pub(crate) fn print<S: Sink>(
+// Writes the summary alone.
+fn print_summary<S: Sink>(
+    alloc: Global,
+    journal: &Journal,
+    sink: &mut S,
+) -> Result<(), WriteFail>
+    ensures { SentLines (total_bytes journal.now.entries ∷ [])
+        (S.seen sink.old) (S.seen sink.new) result }
+{
+    let Ok(text) = summary_line(alloc, journal) else {
+        return Err(WriteFail::NoMemory);
+    };
+    send(sink, text.as_bytes())
+}
+
+// Writes a line for each line of the script, by its entry, in order, and then the summary.
+fn print<S: Sink>(
     alloc: Global,
     script: &Script,
     journal: &Journal,
@@ -146,6 +162,24 @@ pub(crate) fn print<S: Sink>(
         return Err(WriteFail::NoMemory);
     };
     send(sink, text.as_bytes())
+}
+
+/// Writes what is told of a run.
+pub(crate) fn print_told<S: Sink>(
+    alloc: Global,
+    script: &Script,
+    journal: &Journal,
+    told: Told,
+    sink: &mut S,
+) -> Result<(), WriteFail>
+    requires { length journal.now.entries ≡ length script.now.entries }
+    ensures { SentLines (told_lines told script.now journal.now)
+        (S.seen sink.old) (S.seen sink.new) result }
+{
+    match told {
+        Told::Lines => print(alloc, script, journal, sink),
+        Told::Summary => print_summary(alloc, journal, sink),
+    }
 }
 
 /// Writes the line of a fault.

@@ -5,11 +5,22 @@ use ba_model::{Counted, Str};
 use ba_proof::{CheckFault, Proof};
 use ba_wire::Reason;
 
+/// What is told of a run.
+#[derive(Clone, Copy, Debug, PartialEq, Eq)]
+pub enum Told {
+    /// A line for each line of the script, in order, and then the summary.
+    Lines,
+    /// The summary alone.
+    Summary,
+}
+
 /// What is done, with what was read for it.
 #[derive(Debug, Drop)]
 pub enum Task {
-    /// The questions of a script are answered or blocked.
-    Run(Input),
+    /// The questions of a script are answered or blocked, and this is told of it.
+    Run(Input, Told),
+    /// A script is printed.
+    Print(Str),
     /// A proof is checked.
     Check(Proof),
 }

@@ -8,18 +8,18 @@ ghost use Rattle.ba_proof.specs.declared.checking.CheckFault.{CheckFault};
 ghost use Rattle.ba_top.specs.Causes.{ComesTo, IsLimit, IsStepLimit, Tells};
 ghost use Rattle.ba_top.specs.Checking.{IsTask};
 ghost use Rattle.ba_lanes.specs.Legal.{IsInput};
-ghost use Rattle.ba_top.specs.Ran.{Accepts, EndsFault, EndsRun, EndsStop, Ran, RanInput, RanTask, Rejects, Served, detail_of, status_of};
+ghost use Rattle.ba_top.specs.Ran.{Accepts, EndsFault, EndsPrint, EndsRun, EndsStop, Ran, RanInput, RanTask, Rejects, Served, detail_of, status_of};
 ghost use Rattle.ba_top.specs.Reading.{plan_of};
 
 use crate::checking::end_check;
 use crate::input::read_task;
-use crate::print::{print, print_fault};
-use crate::report::{Detail, Outcome, Refusal, Task};
+use crate::print::{print_fault, print_told};
+use crate::report::{Detail, Outcome, Refusal, Task, Told};
 use crate::summary::has_memory_line;
 use ba_lanes::{Input, Journal, serve};
-use ba_model::Counted;
+use ba_model::{Counted, Str};
 use ba_outside::{Files, Gate, Sink, WriteFail};
-use ba_plan::Stop;
+use ba_plan::{Stop, send};
 use ba_wire::Fault;
 use std::alloc::Global;
 use std::sync::Wait;
@@ -52,11 +52,17 @@ fn detail(fault: Fault) -> Detail
     }
 }
 
-fn end_run<S: Sink>(alloc: Global, input: &Input, journal: &Journal, sink: &mut S) -> Detail
+fn end_run<S: Sink>(
+    alloc: Global,
+    input: &Input,
+    told: Told,
+    journal: &Journal,
+    sink: &mut S,
+) -> Detail
     requires { length journal.now.entries ≡ length input.now.script.entries }
-    ensures { EndsRun input.now journal.now (S.seen sink.old) (S.seen sink.new) result }
+    ensures { EndsRun input.now told journal.now (S.seen sink.old) (S.seen sink.new) result }
 {
-    match print(alloc, &input.script, journal, sink) {
+    match print_told(alloc, &input.script, journal, told, sink) {
         Ok(()) => {
             if has_memory_line(journal) {
                 Detail::Memory
@@ -100,19 +106,30 @@ fn end_stop<S: Sink>(alloc: Global, stop: Stop<Refusal>, sink: &mut S) -> Detail
     }
 }
 
-// Serves the script, and writes its lines.
+fn end_print<S: Sink>(text: &Str, sink: &mut S) -> Detail
+    ensures { EndsPrint text.now (S.seen sink.old) (S.seen sink.new) result }
+{
+    match send(sink, text.as_bytes()) {
+        Ok(()) => Detail::Done,
+        Err(WriteFail::Failed) => Detail::Write,
+        Err(WriteFail::NoMemory) => Detail::Memory,
+    }
+}
+
+// Serves the script, and writes what is told of it.
 fn run_input<R: Threads + Wait + Sync, S: Sink, G: Gate + Sync>(
     rt: &R,
     alloc: Global,
     input: &Input,
+    told: Told,
     sink: &mut S,
     gate: &G,
 ) -> (Detail, Option<Journal>)
     requires { IsInput input.now }
-    ensures { RanInput input.now (S.seen sink.old) (S.seen sink.new) result.0 result.1 }
+    ensures { RanInput input.now told (S.seen sink.old) (S.seen sink.new) result.0 result.1 }
 {
     match serve(rt, alloc, input, gate) {
-        Ok(journal) => (end_run(alloc, input, &journal, sink), Some(journal)),
+        Ok(journal) => (end_run(alloc, input, told, &journal, sink), Some(journal)),
         Err(_) => (Detail::Memory, None),
     }
 }
@@ -129,7 +146,8 @@ fn end_task<R: Threads + Wait + Sync, S: Sink, G: Gate + Sync>(
     ensures { RanTask task (S.seen sink.old) (S.seen sink.new) result.0 result.1 }
 {
     match task {
-        Task::Run(input) => run_input(rt, alloc, &input, sink, gate),
+        Task::Run(input, told) => run_input(rt, alloc, &input, told, sink, gate),
+        Task::Print(text) => (end_print(&text, sink), None),
         Task::Check(proof) => (end_check(alloc, proof, sink), None),
     }
 }
@@ -164,6 +182,9 @@ fn run<R: Threads + Wait + Sync, F: Files, S: Sink, G: Gate + Sync>(
 /// strongly compliant under its context and after its rows. Else the line tells the first step that isn't accepted and why, or how many
 /// branches are open (status 1).
 ///
+/// `gen --seed N --requests R [--workers N] [--print]` makes the schema, the policy, the tables and the script of a workload (`ba_workload`), and
+/// reads no file. With `--print` it writes the script; else it serves it as `run` does, with the default budget, and writes the summary alone.
+///
 /// The first fault ends a command with one fault line: words of another form (status 2), a file that has no reading, or rows that break
 /// a key or a link (3), a file that can't be read (4), a count above its limit (7). A write that fails ends it with status 5, want
 /// of memory with 6.
@@ -188,7 +209,7 @@ pub fn blockaid<R: Threads + Wait + Sync, F: Files, S: Sink, G: Gate + Sync>(
         (S.seen sink.old) (S.seen sink.new) result.detail result.journal }
 
     // A check that is done has read a proof whose steps are all accepted and leave no branch open; and so its question is strongly
-    // compliant under its context and after its rows.
+    // compliant under its context and after its rows. Without a journal, to be done is that, or that a script was printed.
     ensures accepted { Accepts (map string_bytes words.now) (F.seen files.old) (F.seen files.new)
         result.detail result.journal }
     // One that isn't accepted has read a proof that has the fault, and so is none.

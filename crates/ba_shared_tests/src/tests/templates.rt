@@ -7,7 +7,7 @@ ghost use Rattle.ba_kernel.specs.Drafts.{IsChecked};
 
 use ba_kernel::{Problem, ProblemDraft, Proved, Step, replay};
 use ba_model::{
-    Atom, Column, Kind, List, MAX_BUDGET, Op, Operand, Part, Policy, Query, Schema, Shared, Str,
+    Atom, Column, Duplicate, Kind, List, MAX_BUDGET, Op, Operand, Part, Policy, Query, Schema, Shared, Str,
     Table, Value,
 };
 use ba_template::{Template, each_var_stands};
@@ -45,7 +45,8 @@ fn schema(alloc: Global) -> Result<Shared<Schema>, AllocError> {
     Shared::new(alloc, schema)
 }
 
-fn policy(alloc: Global) -> Result<Shared<Policy>, AllocError> {
+/// The policy.
+pub(super) fn policy(alloc: Global) -> Result<Shared<Policy>, AllocError> {
     let policy = Policy {
         schema: schema(alloc)?,
         params: List::new(alloc),
@@ -136,10 +137,15 @@ fn question(alloc: Global, width: u32, number: i64) -> Result<Shared<Query>, All
 // ---- its template
 
 /// Any fault is told as want of memory, here and below.
-fn problem(alloc: Global, width: u32, number: i64) -> Result<Problem, AllocError>
+fn problem(
+    alloc: Global,
+    policy: &Shared<Policy>,
+    width: u32,
+    number: i64,
+) -> Result<Problem, AllocError>
     ensures { IfOk result ProblemFits }
 {
-    let policy = policy(alloc)?;
+    let policy = policy.copy(alloc)?;
     if !is_checked(&policy) {
         return Err(AllocError);
     }
@@ -182,12 +188,22 @@ fn template_of(alloc: Global, proved: Proved) -> Result<Template, AllocError> {
     }
 }
 
-/// The template of `SELECT ..` a column so many times `FROM` table 1 `WHERE 0 =` the number. Its shape goes by the width.
+/// The template of `SELECT ..` a column so many times `FROM` table 1 `WHERE 0 =` the number, over the policy. Its shape goes by the width.
+pub(super) fn template_over(
+    alloc: Global,
+    policy: &Shared<Policy>,
+    width: u32,
+    number: i64,
+) -> Result<Shared<Template>, AllocError> {
+    let proved = proof_of(alloc, problem(alloc, policy, width, number)?, step(alloc)?)?;
+    Shared::new(alloc, template_of(alloc, proved)?)
+}
+
+/// The same over a policy of its own.
 pub(super) fn template(
     alloc: Global,
     width: u32,
     number: i64,
 ) -> Result<Shared<Template>, AllocError> {
-    let proved = proof_of(alloc, problem(alloc, width, number)?, step(alloc)?)?;
-    Shared::new(alloc, template_of(alloc, proved)?)
+    template_over(alloc, &policy(alloc)?, width, number)
 }
