@@ -36,7 +36,6 @@ use Rattle.ba_top.specs.declared.report.Task.TheVariants as task
 use Rattle.ba_top.specs.declared.report.Told.TheVariants.{Lines, Summary}
 use Rattle.ba_workload.specs.Files.{File, files_of}
 use Rattle.ba_workload.specs.Requests.{script_text}
-use Rattle.ba_workload.specs.declared.files.TheConstants.{POLICY_FILE, SCHEMA_FILE, SCRIPT_FILE, TABLE_SET}
 
 -- ---- a run
 
@@ -130,7 +129,7 @@ bytes_of [] name = []
 bytes_of (file ∷ files) name = if bytes_eq file.0 name then file.1 else bytes_of files name
 
 abbrev pub workload_names : ℕ → Names
-workload_names workers = record { schema = codes SCHEMA_FILE; policy = codes POLICY_FILE; tables = codes TABLE_SET; script = codes SCRIPT_FILE; workers = workers; budget = BUDGET }
+workload_names workers = record { schema = codes "schema.sql"; policy = codes "policy.sql"; tables = codes "tables"; script = codes "script.jsonl"; workers = workers; budget = BUDGET }
 
 -- the input of a workload: its files are read as those of a run
 abbrev pub workload_reading : ℕ → ℕ → ℕ → Plan Refusal Input
