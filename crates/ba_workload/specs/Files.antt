@@ -1,0 +1,42 @@
+-- The files of a workload: their names and their bytes.
+use Rattle.std.specs.Prelude.{ℕ, List, [], ◌∷◌, ◌++◌, codes, string_bytes}
+use Rattle.ba_outside.specs.declared.mem_files.Held.{Held}
+use Rattle.ba_workload.specs.Requests.{script_text}
+use Rattle.ba_workload.specs.Tables.{attendances_text, events_text, users_text}
+
+unfoldable pub schema_text : List ℕ
+schema_text =
+    codes "CREATE TABLE Users (UId INT PRIMARY KEY, Name TEXT NOT NULL);\n"
+    ++ (codes "CREATE TABLE Events (EId INT PRIMARY KEY, Title TEXT NOT NULL, Duration INT NOT NULL);\n"
+    ++ (codes "CREATE TABLE Attendances (UId INT NOT NULL REFERENCES Users (UId),\n"
+    ++ codes "  EId INT NOT NULL REFERENCES Events (EId), At INT NOT NULL, PRIMARY KEY (UId, EId));\n"))
+
+-- users may see all names, their own attendances, and the events that they attend
+unfoldable pub policy_text : List ℕ
+policy_text =
+    codes "PARAM MyUId INT;\n"
+    ++ (codes "CREATE VIEW V1 AS SELECT UId, Name FROM Users;\n"
+    ++ (codes "CREATE VIEW V2 AS SELECT UId, EId, At FROM Attendances WHERE UId = ?MyUId;\n"
+    ++ (codes "CREATE VIEW V3 AS SELECT e.EId, e.Title, e.Duration FROM Events e\n"
+    ++ codes "  JOIN Attendances a ON a.EId = e.EId WHERE a.UId = ?MyUId;\n")))
+
+-- a file's name and its bytes
+abbrev pub File : Type 0
+File = List ℕ × List ℕ
+
+abbrev pub file_of : Held → File
+file_of held = (string_bytes held.name, held.bytes.items)
+
+-- the standard schema, policy and tables
+abbrev pub standard_files : List File
+standard_files =
+    (codes "schema.sql", schema_text)
+    ∷ (codes "policy.sql", policy_text)
+    ∷ (codes "tables/Users.csv", users_text)
+    ∷ (codes "tables/Events.csv", events_text)
+    ∷ (codes "tables/Attendances.csv", attendances_text)
+    ∷ []
+
+-- and a script for them
+abbrev pub files_of : ℕ → ℕ → List File
+files_of seed requests = standard_files ++ (codes "script.jsonl", script_text seed requests) ∷ []

@@ -1,0 +1,6 @@
+pub mod Chosen
+pub mod Draws
+pub mod Files
+pub mod Lines
+pub mod Requests
+pub mod Tables
