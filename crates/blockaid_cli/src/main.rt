@@ -1,5 +1,6 @@
 //! `blockaid run --schema S --policy P --tables D --script F`: answers the questions of F over the tables of D that the
 //! policy P lets through, and blocks the others. `blockaid check --schema S --policy P --proof F`: says whether the proof F is accepted.
+//! `blockaid gen --seed N --requests R`: serves a generated workload, and prints the summary; with `--print` prints its script.
 #![tactic(auto)]
 
 use ba_outside::{DiskFiles, FreeGate, StdSink};
