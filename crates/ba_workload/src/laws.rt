@@ -1,0 +1,7 @@
+//! Laws of the definitions.
+ghost use Rattle.ba_workload.specs.Script.{ScriptReadsBack};
+
+/// The text of a script of at most 8192 requests is read as that script, where the policy has the one parameter `MyUId`.
+pub fn script_reads_back()
+    ensures { ScriptReadsBack }
+{}
