@@ -133,7 +133,9 @@ const OPTIONS: &str = "--budget 100000 => S P D F 1 100000
 --budget 4294967316
 --budget 16 --budget 16
 --budge 20
---workers 2
+--workers 2 => S P D F 2 2000
+--workers 16 => S P D F 16 2000
+--workers 17
 --workers 0
 --workers one
 --workers 1 --workers 1
