@@ -10,7 +10,7 @@ use Rattle.clap.specs.declared.ArgMatches.{ArgMatches}
 use Rattle.clap.specs.declared.Error.{Error}
 use Rattle.clap.specs.declared.error.ErrorKind.TheVariants.{OutOfMemory}
 use Rattle.clap.proofs.WalkLemmas.{first_value-rows}
-use Rattle.ba_command.specs.Words.{check_app, check_from, check_of, command_from, run_app, run_of, unless_fault}
+use Rattle.ba_command.specs.Words.{check_app, check_from, check_of, command_from, gen_app, gen_from, gen_of, run_app, run_of, unless_fault}
 use Rattle.ba_command.specs.declared.command.Command.{Command}
 use Rattle.ba_command.specs.declared.command.WordsFault.{WordsFault}
 use Rattle.ba_command.specs.declared.command.WordsFault.TheVariants.{NoForm}
@@ -96,3 +96,25 @@ pub check_refused : (app : App) (words : List Text) (e : Error) (x : Failure Wor
     → Gives (Err x) (check_of words)
 unfolding check_of
 check_refused app words e x is has other = form_refuses check_app app words e x _ is has other
+
+-- ---- gen
+
+gen_plain : is_simple gen_app ≡ true
+gen_plain = refl
+
+pub gen_free : is_simple_and_free gen_app ≡ true
+gen_free = refl
+
+gen_values : AreValues gen_from
+gen_values f g same = rw (same (codes "seed"), same (codes "requests"), same (codes "workers"), same (codes "print")) refl
+
+pub gen_ok : (app : App) (words : List Text) (m : ArgMatches) → app ≡ gen_app → HasMatchesOf app words m → fault_of app words ≡ []
+    → gen_from (first_value (found_of m)) ≡ gen_of words
+unfolding gen_of
+gen_ok app words m is has none = form_reads gen_app app gen_from words m gen_plain gen_values is has none
+
+pub gen_refused : (app : App) (words : List Text) (e : Error) (x : Failure WordsFault) → app ≡ gen_app → HasKind (fault_of app words) e
+    → (x ≡ Fault NoForm → kind_of e ≢ OutOfMemory)
+    → Gives (Err x) (gen_of words)
+unfolding gen_of
+gen_refused app words e x is has other = form_refuses gen_app app words e x _ is has other

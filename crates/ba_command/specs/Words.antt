@@ -1,5 +1,5 @@
 -- The command that words ask for, over what `clap` says of a simple command.
-use Rattle.std.specs.Prelude.{ℕ, ◌≤◌, ◌&&◌, List, [], ◌∷◌, true, nat_le, codes, Option, Some, None, Result, Ok, Err, if◌then◌else◌}
+use Rattle.std.specs.Prelude.{ℕ, ◌≤◌, ◌&&◌, List, [], ◌∷◌, Bool, true, false, nat_le, codes, Option, Some, None, unwrap_or, Result, Ok, Err, if◌then◌else◌}
 use Rattle.std.specs.Str.{bytes_eq}
 use Rattle.std.specs.Str.Parse.{digits_value, without_leading_plus}
 use Rattle.clap.specs.Faults.{fault_of}
@@ -7,13 +7,13 @@ use Rattle.clap.specs.Kinds.{Kinds}
 use Rattle.clap.specs.Simple.{App, matches_of, new_app, new_rule, on_top, with_rule}
 use Rattle.clap.specs.ValueTests.{is_numeral}
 use Rattle.clap.specs.Walk.{Rule, Text, first_of}
-use Rattle.clap.specs.declared.builder.action.ArgAction.TheVariants.{Set}
+use Rattle.clap.specs.declared.builder.action.ArgAction.TheVariants.{Set, SetTrue}
 use Rattle.clap.specs.declared.builder.value_parser.ValueParser.TheVariants as parser
 use Rattle.ba_command.specs.declared.command.Command.{Command}
-use Rattle.ba_command.specs.declared.command.Command.TheVariants.{Run, Check}
+use Rattle.ba_command.specs.declared.command.Command.TheVariants.{Run, Check, Gen}
 use Rattle.ba_command.specs.declared.command.WordsFault.{WordsFault}
 use Rattle.ba_command.specs.declared.command.WordsFault.TheVariants.{NoForm}
-use Rattle.ba_model.specs.declared.limits.TheConstants.{BUDGET, MAX_BUDGET, MAX_WORKERS, MIN_BUDGET, MIN_WORKERS, WORKERS}
+use Rattle.ba_model.specs.declared.limits.TheConstants.{BUDGET, MAX_BUDGET, MAX_REQUESTS, MAX_SEED, MAX_WORKERS, MIN_BUDGET, MIN_WORKERS, WORKERS}
 
 -- an option with one value: `--id VALUE` or `--id=VALUE`
 abbrev pub option_rule : Text → Rule
@@ -22,6 +22,10 @@ option_rule id = record (new_rule id) { long = Some id; action = Some Set }
 -- one whose value is a number between two
 abbrev pub number_rule : Text → ℕ → ℕ → Rule
 number_rule id least most = record (option_rule id) { parser = Some (parser.Unsigned least most) }
+
+-- one that has no value: `--id`
+abbrev pub flag_rule : Text → Rule
+flag_rule id = record (new_rule id) { long = Some id; action = Some SetTrue }
 
 -- one that must be given
 abbrev pub needed : Rule → Rule
@@ -48,12 +52,29 @@ check_app = with_rule (with_rule (with_rule (bare (codes "check"))
     (needed (option_rule (codes "policy"))))
     (needed (option_rule (codes "proof")))
 
--- the number between two that a text spells, or another
-abbrev pub number_or : ℕ → ℕ → ℕ → Option Text → ℕ
-number_or least most other None = other
-number_or least most other (Some text) =
+-- gen --seed N --requests R [--workers N] [--print]
+abbrev pub gen_app : App
+gen_app = with_rule (with_rule (with_rule (with_rule (bare (codes "gen"))
+    (needed (number_rule (codes "seed") 0 MAX_SEED)))
+    (needed (number_rule (codes "requests") 0 MAX_REQUESTS)))
+    (number_rule (codes "workers") MIN_WORKERS MAX_WORKERS))
+    (flag_rule (codes "print"))
+
+-- the number between two that a text spells, if it spells one
+abbrev pub number_in : ℕ → ℕ → Option Text → Option ℕ
+number_in least most None = None
+number_in least most (Some text) =
     let n = digits_value 10 (without_leading_plus text) in
-    if is_numeral (without_leading_plus text) && (nat_le least n && nat_le n most) then n else other
+    if is_numeral (without_leading_plus text) && (nat_le least n && nat_le n most) then Some n else None
+
+-- the same, or another
+abbrev pub number_or : ℕ → ℕ → ℕ → Option Text → ℕ
+number_or least most other given = unwrap_or (number_in least most given) other
+
+-- `clap` gives an option that has no value the text `true` where it stands, else `false`
+abbrev pub is_set : Option Text → Bool
+is_set None = false
+is_set (Some text) = bytes_eq text (codes "true")
 
 abbrev pub with_texts : Option Text → Option Text → Option Text → Option Text → ℕ → ℕ → Result Command WordsFault
 with_texts (Some schema) (Some policy) (Some tables) (Some script) workers budget = Ok (Run schema policy tables script workers budget)
@@ -77,6 +98,16 @@ with_files (Some schema) (Some policy) None = Err NoForm
 abbrev pub check_from : (Text → Option Text) → Result Command WordsFault
 check_from given = with_files (given (codes "schema")) (given (codes "policy")) (given (codes "proof"))
 
+abbrev pub with_numbers : Option ℕ → Option ℕ → ℕ → Bool → Result Command WordsFault
+with_numbers (Some seed) (Some requests) workers print = Ok (Gen seed requests workers print)
+with_numbers None requests workers print = Err NoForm
+with_numbers (Some seed) None workers print = Err NoForm
+
+-- the workload that the values of the options ask for
+abbrev pub gen_from : (Text → Option Text) → Result Command WordsFault
+gen_from given = with_numbers (number_in 0 MAX_SEED (given (codes "seed"))) (number_in 0 MAX_REQUESTS (given (codes "requests")))
+    (number_or MIN_WORKERS MAX_WORKERS WORKERS (given (codes "workers"))) (is_set (given (codes "print")))
+
 -- where `clap` finds no fault
 abbrev pub unless_fault : Kinds → Result Command WordsFault → Result Command WordsFault
 unless_fault [] found = found
@@ -86,15 +117,23 @@ unless_fault (kind ∷ kinds) found = Err NoForm
 abbrev pub budget_of : Command → ℕ
 budget_of (Run schema policy tables script workers budget) = budget
 budget_of (Check schema policy proof) = 0
+budget_of (Gen seed requests workers print) = BUDGET
 
 -- how many workers serve a script; a check has none
 abbrev pub workers_of : Command → Option ℕ
 workers_of (Run schema policy tables script workers budget) = Some workers
 workers_of (Check schema policy proof) = None
+workers_of (Gen seed requests workers print) = Some workers
 
 -- at least one, and at most as many as may be
 abbrev pub AreWorkers : ℕ → Type 0
 AreWorkers n = (MIN_WORKERS ≤ n) × (n ≤ MAX_WORKERS)
+
+-- a workload that is generated has a seed and a number of requests within the limits
+abbrev pub WorkloadFits : Command → Type 0
+WorkloadFits (Run schema policy tables script workers budget) = Unit {0}
+WorkloadFits (Check schema policy proof) = Unit {0}
+WorkloadFits (Gen seed requests workers print) = (seed ≤ MAX_SEED) × (requests ≤ MAX_REQUESTS)
 
 -- what the words behind `run` ask for
 unfoldable pub run_of : List Text → Result Command WordsFault
@@ -104,7 +143,15 @@ run_of words = unless_fault (fault_of run_app words) (command_from (λ id. first
 unfoldable pub check_of : List Text → Result Command WordsFault
 check_of words = unless_fault (fault_of check_app words) (check_from (λ id. first_of id (matches_of check_app words)))
 
+-- what the words behind `gen` ask for
+unfoldable pub gen_of : List Text → Result Command WordsFault
+gen_of words = unless_fault (fault_of gen_app words) (gen_from (λ id. first_of id (matches_of gen_app words)))
+
 -- the command that the words ask for, or that they are no command's form
 abbrev pub command_of : List Text → Result Command WordsFault
 command_of [] = Err NoForm
-command_of (name ∷ words) = if bytes_eq name (codes "run") then run_of words else (if bytes_eq name (codes "check") then check_of words else Err NoForm)
+command_of (name ∷ words) =
+    if bytes_eq name (codes "run") then run_of words
+    else (if bytes_eq name (codes "check") then check_of words
+    else (if bytes_eq name (codes "gen") then gen_of words
+    else Err NoForm))

@@ -15,7 +15,7 @@ pub enum Command {
         tables: Str,
         /// The name of the script's file.
         script: Str,
-        /// How many workers answer. It is 1 so far, which is its default.
+        /// How many workers answer, from 1 to 16; 1 where the words don't say.
         workers: u32,
         /// How many steps a search may take, from 16 to 100,000; 2000 where the words don't say.
         budget: u32,
@@ -28,6 +28,17 @@ pub enum Command {
         policy: Str,
         /// The name of the proof's file.
         proof: Str,
+    },
+    /// `gen --seed N --requests R [--workers N] [--print]`
+    Gen {
+        /// The seed of the workload's script, from 0 to 2^63 - 1.
+        seed: u64,
+        /// How many requests the script has, from 0 to 8192.
+        requests: u32,
+        /// How many workers answer, from 1 to 16; 1 where the words don't say.
+        workers: u32,
+        /// Whether the script is to be printed, and not to be run.
+        print: bool,
     },
 }
 

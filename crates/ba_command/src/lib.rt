@@ -4,6 +4,8 @@
 mod check;
 mod command;
 mod form;
+mod generate;
+mod number;
 mod run;
 mod words;
 

@@ -1,24 +1,16 @@
 //! The options of the command `run`, read by `clap`.
-ghost use Rattle.std.specs.Prelude.{◌≡◌, ◌≤◌, false, map, string_bytes, IfOk, IfSome};
-ghost use Rattle.clap.specs.Words.{app_of, first_value, found_of, rule_of};
+ghost use Rattle.std.specs.Prelude.{◌≡◌, ◌≤◌, map, string_bytes, IfOk, IfSome};
+ghost use Rattle.clap.specs.Words.{app_of, first_value, found_of};
 ghost use Rattle.ba_model.specs.Readings.{Gives};
 ghost use Rattle.ba_model.specs.declared.limits.TheConstants.{MAX_BUDGET as most_budget};
-ghost use Rattle.ba_command.specs.Words.{AreWorkers, budget_of, command_from, number_or, number_rule, run_app, run_of, workers_of};
+ghost use Rattle.ba_command.specs.Words.{AreWorkers, WorkloadFits, budget_of, command_from, run_app, run_of, workers_of};
 
 use crate::command::{Command, WordsFault};
-use crate::form::{bare, needed, option, refusal, text_of};
+use crate::form::{bare, needed, refusal, text_of};
+use crate::number::{number, number_or};
 use ba_model::{BUDGET, Failure, MAX_BUDGET, MAX_WORKERS, MIN_BUDGET, MIN_WORKERS, WORKERS};
-use clap::builder::ValueParser;
-use clap::{Arg, ArgMatches, Command as Form};
+use clap::{ArgMatches, Command as Form};
 use std::alloc::{AllocError, Global};
-
-// An option whose value is a number of a range.
-fn number<'a>(alloc: Global, id: &'a str, least: u64, most: u64) -> Arg<'a>
-    ensures rule { rule_of result ≡ number_rule id.entry.now least most }
-    ensures local { result.global ≡ false }
-{
-    option(alloc, id).value_parser(ValueParser::Unsigned(least, most))
-}
 
 fn run_form<'a>(alloc: Global) -> Result<Form<'a>, AllocError>
     ensures { IfOk result (λ form. app_of form ≡ run_app) }
@@ -32,32 +24,18 @@ fn run_form<'a>(alloc: Global) -> Result<Form<'a>, AllocError>
         .arg(number(alloc, "budget", MIN_BUDGET, MAX_BUDGET))
 }
 
-// The number between two that is given under an id, or another of these.
-fn number_of(matches: &ArgMatches<'_>, id: &str, least: u32, most: u32, other: u32) -> u32
-    requires { (least ≤ other) × (other ≤ most) }
-    ensures is { result ≡ number_or least most other (first_value (found_of matches.now) id.now) }
-    ensures within { (least ≤ result) × (result ≤ most) }
-{
-    match matches.get_str(id) {
-        Some(text) => match text.parse::<u32>() {
-            Ok(number) => { if least <= number && number <= most { number } else { other } }
-            Err(_) => other,
-        },
-        None => other,
-    }
-}
-
 fn command_of(alloc: Global, matches: &ArgMatches<'_>) -> Result<Command, Failure<WordsFault>>
     ensures reads { Gives result (command_from (first_value (found_of matches.now))) }
     ensures budget { IfOk result (λ command. budget_of command ≤ most_budget) }
     ensures workers { IfOk result (λ command. IfSome (workers_of command) AreWorkers) }
+    ensures workload { IfOk result WorkloadFits }
 {
     let schema = text_of(alloc, matches, "schema")?;
     let policy = text_of(alloc, matches, "policy")?;
     let tables = text_of(alloc, matches, "tables")?;
     let script = text_of(alloc, matches, "script")?;
-    let workers = number_of(matches, "workers", MIN_WORKERS as u32, MAX_WORKERS as u32, WORKERS);
-    let budget = number_of(matches, "budget", MIN_BUDGET as u32, MAX_BUDGET as u32, BUDGET);
+    let workers = number_or(matches, "workers", MIN_WORKERS, MAX_WORKERS, WORKERS as u64) as u32;
+    let budget = number_or(matches, "budget", MIN_BUDGET, MAX_BUDGET, BUDGET as u64) as u32;
     match (schema, policy, tables, script) {
         (Some(schema), Some(policy), Some(tables), Some(script)) => Ok(Command::Run {
             schema,
@@ -76,6 +54,7 @@ pub(crate) fn read_run(alloc: Global, words: &[String]) -> Result<Command, Failu
     ensures reads { Gives result (run_of (map string_bytes words.now)) }
     ensures budget { IfOk result (λ command. budget_of command ≤ most_budget) }
     ensures workers { IfOk result (λ command. IfSome (workers_of command) AreWorkers) }
+    ensures workload { IfOk result WorkloadFits }
 {
     let form = run_form(alloc)?;
     match form.try_get_matches_from(words) {

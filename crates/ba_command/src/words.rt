@@ -2,22 +2,24 @@
 ghost use Rattle.std.specs.Prelude.{◌≡◌, ◌≤◌, IfOk, IfSome, map, string_bytes};
 ghost use Rattle.ba_model.specs.Readings.{Gives};
 ghost use Rattle.ba_model.specs.declared.limits.TheConstants.{MAX_BUDGET};
-ghost use Rattle.ba_command.specs.Words.{AreWorkers, budget_of, command_of, workers_of};
+ghost use Rattle.ba_command.specs.Words.{AreWorkers, WorkloadFits, budget_of, command_of, workers_of};
 
 use crate::check::read_check;
 use crate::command::{Command, WordsFault};
+use crate::generate::read_gen;
 use crate::run::read_run;
 use ba_model::Failure;
 use std::alloc::Global;
 
-/// The command that the words ask for, without the program's name: `run` or `check` and its options, in any order, each once and with
-/// one value, as `--option VALUE` or `--option=VALUE`. Numbers are in decimal, and within their ranges.
+/// The command that the words ask for, without the program's name: `run`, `check` or `gen` and its options, in any order, each once and with
+/// one value, as `--option VALUE` or `--option=VALUE`; `--print` has none. Numbers are in decimal, and within their ranges.
 ///
-/// All else is `NoForm`: other commands, no words, a missing or repeated option or one of the other command, an abbreviation, a word left over.
+/// All else is `NoForm`: other commands, no words, a missing or repeated option or one of another command, an abbreviation, a word left over.
 pub fn read_words(alloc: Global, words: &[String]) -> Result<Command, Failure<WordsFault>>
     ensures exact { Gives result (command_of (map string_bytes words.now)) }
     ensures budget { IfOk result (λ command. budget_of command ≤ MAX_BUDGET) }
     ensures workers { IfOk result (λ command. IfSome (workers_of command) AreWorkers) }
+    ensures workload { IfOk result WorkloadFits }
 {
     let [name, rest @ ..] = words else {
         return Err(Failure::Fault(WordsFault::NoForm));
@@ -26,6 +28,8 @@ pub fn read_words(alloc: Global, words: &[String]) -> Result<Command, Failure<Wo
         read_run(alloc, rest)
     } else if name.as_str() == "check" {
         read_check(alloc, rest)
+    } else if name.as_str() == "gen" {
+        read_gen(alloc, rest)
     } else {
         Err(Failure::Fault(WordsFault::NoForm))
     }

@@ -5,8 +5,8 @@ ghost use Rattle.ba_lanes.specs.Legal.{IsInput};
 ghost use Rattle.ba_lanes.specs.Serving.{HasLeft, HaveSplit, IsDone, IsReady, lines_in};
 ghost use Rattle.ba_lanes.specs.Working.{AreGathered, AreMerged, IsWork};
 
-use crate::lane::Lane;
 use crate::journal::{Entry, Input};
+use crate::lane::Lane;
 use crate::share::{Share, lane_of, requests_in};
 use ba_outside::Gate;
 use ba_session::{Passes, Service};

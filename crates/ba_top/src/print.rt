@@ -122,11 +122,7 @@ fn summary_line(alloc: Global, journal: &Journal) -> Result<String, WriteFail>
 }
 
 // Writes the summary alone.
-fn print_summary<S: Sink>(
-    alloc: Global,
-    journal: &Journal,
-    sink: &mut S,
-) -> Result<(), WriteFail>
+fn print_summary<S: Sink>(alloc: Global, journal: &Journal, sink: &mut S) -> Result<(), WriteFail>
     ensures { SentLines (total_bytes journal.now.entries ∷ [])
         (S.seen sink.old) (S.seen sink.new) result }
 {

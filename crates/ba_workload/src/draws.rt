@@ -3,6 +3,7 @@ ghost use Rattle.std.specs.Prelude.{◌≡◌, ◌<◌};
 ghost use Rattle.ba_workload.specs.Draws.{drawn, next};
 
 const FACTOR: u64 = 6_364_136_223_846_793_005;
+
 const STEP: u64 = 1_442_695_040_888_963_407;
 
 /// A generator that is at some state.

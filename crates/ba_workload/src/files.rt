@@ -34,11 +34,26 @@ fn standard_files(alloc: Global) -> Result<Vec<Held>, AllocError>
     ensures { IfOk result (λ files. map file_of files.items ≡ standard_files) }
 {
     let mut files = Vec::new(alloc);
-    add(alloc, &mut files, SCHEMA_FILE, String::from_str(alloc, SCHEMA)?)?;
-    add(alloc, &mut files, POLICY_FILE, String::from_str(alloc, POLICY)?)?;
+    add(
+        alloc,
+        &mut files,
+        SCHEMA_FILE,
+        String::from_str(alloc, SCHEMA)?,
+    )?;
+    add(
+        alloc,
+        &mut files,
+        POLICY_FILE,
+        String::from_str(alloc, POLICY)?,
+    )?;
     add(alloc, &mut files, "tables/Users.csv", users_text(alloc)?)?;
     add(alloc, &mut files, "tables/Events.csv", events_text(alloc)?)?;
-    add(alloc, &mut files, "tables/Attendances.csv", attendances_text(alloc)?)?;
+    add(
+        alloc,
+        &mut files,
+        "tables/Attendances.csv",
+        attendances_text(alloc)?,
+    )?;
     Ok(files)
 }
 

@@ -1,7 +1,6 @@
 //! The schema and the policy.
 
-pub(crate) const SCHEMA: &str =
-    "CREATE TABLE Users (UId INT PRIMARY KEY, Name TEXT NOT NULL);
+pub(crate) const SCHEMA: &str = "CREATE TABLE Users (UId INT PRIMARY KEY, Name TEXT NOT NULL);
 CREATE TABLE Events (EId INT PRIMARY KEY, Title TEXT NOT NULL, Duration INT NOT NULL);
 CREATE TABLE Attendances (UId INT NOT NULL REFERENCES Users (UId),
   EId INT NOT NULL REFERENCES Events (EId), At INT NOT NULL, PRIMARY KEY (UId, EId));

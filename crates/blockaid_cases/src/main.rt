@@ -72,7 +72,13 @@ where
     }
     let end = case.run(rt, place, "--workers\n4\n")?;
     let name = format!(in rt.alloc(); "{name} by 4 workers")?;
-    tells(rt, name.as_str(), &case.wanted, &end, end.is_like(&case.wanted))
+    tells(
+        rt,
+        name.as_str(),
+        &case.wanted,
+        &end,
+        end.is_like(&case.wanted),
+    )
 }
 
 // Runs the case of that name, and gives whether it ended as it must.

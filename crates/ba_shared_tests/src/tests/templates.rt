@@ -7,8 +7,8 @@ ghost use Rattle.ba_kernel.specs.Drafts.{IsChecked};
 
 use ba_kernel::{Problem, ProblemDraft, Proved, Step, replay};
 use ba_model::{
-    Atom, Column, Duplicate, Kind, List, MAX_BUDGET, Op, Operand, Part, Policy, Query, Schema, Shared, Str,
-    Table, Value,
+    Atom, Column, Duplicate, Kind, List, MAX_BUDGET, Op, Operand, Part, Policy, Query, Schema,
+    Shared, Str, Table, Value,
 };
 use ba_template::{Template, each_var_stands};
 use std::alloc::{AllocError, Global};

@@ -2,8 +2,8 @@
 
 use super::{held, words};
 use crate::sure_run;
-use ba_session::{By, Reply};
 use ba_lanes::{Entry, Journal};
+use ba_session::{By, Reply};
 use std::test::Fail;
 
 // The names of the files of a run and their texts.

@@ -1,0 +1,84 @@
+//! The options of the command `gen`, read by `clap`.
+ghost use Rattle.std.specs.Prelude.{◌≡◌, ◌≤◌, false, map, string_bytes, IfOk, IfSome};
+ghost use Rattle.clap.specs.Words.{app_of, first_value, found_of, rule_of};
+ghost use Rattle.ba_model.specs.Readings.{Gives};
+ghost use Rattle.ba_model.specs.declared.limits.TheConstants.{MAX_BUDGET};
+ghost use Rattle.ba_command.specs.Words.{AreWorkers, WorkloadFits, budget_of, flag_rule, gen_app, gen_from, gen_of, is_set, needed, number_rule, workers_of};
+
+use crate::command::{Command, WordsFault};
+use crate::form::{bare, refusal};
+use crate::number::{number, number_of, number_or};
+use ba_model::{Failure, MAX_REQUESTS, MAX_SEED, MAX_WORKERS, MIN_WORKERS, WORKERS};
+use clap::{Arg, ArgAction, ArgMatches, Command as Form};
+use std::alloc::{AllocError, Global};
+
+// An option that has no value.
+fn flag<'a>(alloc: Global, id: &'a str) -> Arg<'a>
+    ensures rule { rule_of result ≡ flag_rule id.entry.now }
+    ensures local { result.global ≡ false }
+{
+    Arg::new(alloc, id).long(id).action(ArgAction::SetTrue)
+}
+
+// An option that must be given, whose value is a number of a range.
+fn needed_number<'a>(alloc: Global, id: &'a str, least: u64, most: u64) -> Arg<'a>
+    ensures rule { rule_of result ≡ needed (number_rule id.entry.now least most) }
+    ensures local { result.global ≡ false }
+{
+    number(alloc, id, least, most).required(true)
+}
+
+fn gen_form<'a>(alloc: Global) -> Result<Form<'a>, AllocError>
+    ensures { IfOk result (λ form. app_of form ≡ gen_app) }
+{
+    bare(alloc, "gen")
+        .arg(needed_number(alloc, "seed", 0, MAX_SEED))?
+        .arg(needed_number(alloc, "requests", 0, MAX_REQUESTS as u64))?
+        .arg(number(alloc, "workers", MIN_WORKERS, MAX_WORKERS))?
+        .arg(flag(alloc, "print"))
+}
+
+// Whether an option that has no value is given.
+fn is_set(matches: &ArgMatches<'_>, id: &str) -> bool
+    ensures { result ≡ is_set (first_value (found_of matches.now) id.now) }
+{
+    match matches.get_str(id) {
+        Some(text) => text == "true",
+        None => false,
+    }
+}
+
+fn command_of(matches: &ArgMatches<'_>) -> Result<Command, Failure<WordsFault>>
+    ensures reads { Gives result (gen_from (first_value (found_of matches.now))) }
+    ensures budget { IfOk result (λ command. budget_of command ≤ MAX_BUDGET) }
+    ensures workers { IfOk result (λ command. IfSome (workers_of command) AreWorkers) }
+    ensures workload { IfOk result WorkloadFits }
+{
+    let seed = number_of(matches, "seed", 0, MAX_SEED);
+    let requests = number_of(matches, "requests", 0, MAX_REQUESTS as u64);
+    let workers = number_or(matches, "workers", MIN_WORKERS, MAX_WORKERS, WORKERS as u64) as u32;
+    let print = is_set(matches, "print");
+    match (seed, requests) {
+        (Some(seed), Some(requests)) => Ok(Command::Gen {
+            seed,
+            requests: requests as u32,
+            workers,
+            print,
+        }),
+        _ => Err(Failure::Fault(WordsFault::NoForm)),
+    }
+}
+
+/// What the words behind `gen` ask for.
+pub(crate) fn read_gen(alloc: Global, words: &[String]) -> Result<Command, Failure<WordsFault>>
+    ensures reads { Gives result (gen_of (map string_bytes words.now)) }
+    ensures budget { IfOk result (λ command. budget_of command ≤ MAX_BUDGET) }
+    ensures workers { IfOk result (λ command. IfSome (workers_of command) AreWorkers) }
+    ensures workload { IfOk result WorkloadFits }
+{
+    let form = gen_form(alloc)?;
+    match form.try_get_matches_from(words) {
+        Ok(matches) => command_of(&matches),
+        Err(e) => Err(refusal(&e)),
+    }
+}
