@@ -70,7 +70,9 @@ fn tell_pairing(page: &mut Page, places: &List<usize>) -> Result<(), AllocError>
         return Ok(());
     }
     let places = places_text(page.alloc, places)?;
-    let text = format!(in page.alloc; "whose tables, in this order, are the question's tables {places}")?;
+    let text = format!(in page.alloc;
+        "whose tables, in this order, are the question's tables {places}"
+    )?;
     page.say(4, text.as_str())
 }
 

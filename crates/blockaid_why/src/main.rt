@@ -43,7 +43,7 @@ const WORDS: u8 = 2;
 const MEMORY: u8 = 6;
 
 // The words behind the program's name.
-fn words(alloc: Global, args: Args) -> Result<Vec<String>, AllocError> {
+fn words_of(alloc: Global, args: Args) -> Result<Vec<String>, AllocError> {
     args.skip(1).collect(alloc)
 }
 
@@ -51,7 +51,7 @@ fn main(rt: HostRuntime) -> ExitCode {
     let alloc = rt.alloc();
     // Arguments that are no text are no words of a run.
     let read = match env::args(&rt) {
-        Ok(args) => words(alloc, args),
+        Ok(args) => words_of(alloc, args),
         Err(e) if e.kind() == ErrorKind::OutOfMemory => Err(AllocError),
         Err(_) => Ok(Vec::new(alloc)),
     };
@@ -78,7 +78,9 @@ where
 }
 
 fn tell_usage(rt: &impl Eprint) -> u8 {
-    let _ = eprintln!(rt; "usage: blockaid_why run --schema S --policy P --tables D --script F [--workers N] [--budget B] [--line L]");
+    let _ = eprintln!(rt;
+        "usage: blockaid_why run --schema S --policy P --tables D --script F [--workers N] [--budget B] [--line L]"
+    );
     WORDS
 }
 
@@ -134,11 +136,7 @@ fn tell_all<R: Print + AllocGlobal>(
 }
 
 // Explains each reply, with an empty line between two.
-fn tell_each<R: Print + AllocGlobal>(
-    rt: &R,
-    given: &Given,
-    journal: &Journal,
-) -> io::Result<()> {
+fn tell_each<R: Print + AllocGlobal>(rt: &R, given: &Given, journal: &Journal) -> io::Result<()> {
     let mut is_first = true;
     for place in 0..journal.entries.len() {
         let mut page = Page::new(rt.alloc());

@@ -13,8 +13,13 @@ use ba_template::{Match, Shape};
 use std::alloc::{AllocError, Global};
 
 // What a proof speaks of.
-const PREMISE: &str = "Take any two databases where each row that a view shows of the first it shows of the second too, and where the first \
-     gives the earlier questions the rows that were told. Where the question gives a row in the first:";
+const PREMISE: &str =
+    "Take any two databases of the schema where each row that a view shows of the first it shows of the second too, and where the first \
+     gives the earlier questions the rows that were told. Where the question gives a row in the first (x1, x2, .. stand for values):";
+
+// What it comes to, since each of two such databases may be the first.
+const END: &str =
+    "So all databases of the schema where the views show the same and the earlier questions have the same answers give this question one answer.";
 
 /// Tells the steps of a proof, and what became of its template.
 pub fn tell_proof(
@@ -31,6 +36,7 @@ pub fn tell_proof(
     };
     tell_start(page, given, &search)?;
     tell_steps(page, given, scene, &mut search, steps.as_slice(), 0)?;
+    page.say(2, END)?;
     tell_keeping(page, query, keeping)
 }
 
@@ -40,12 +46,16 @@ fn tell_keeping(page: &mut Page, query: &Query, keeping: Keeping) -> Result<(), 
     match keeping {
         Keeping::Stored(Admit::Added(id)) => {
             let shard = shard_of(alloc, query)?;
-            let text = format!(in alloc; "Made general, it is kept as template {id} of shard {shard}.")?;
+            let text = format!(in alloc;
+                "Made general, it is kept as template {id} of shard {shard}."
+            )?;
             page.say(2, text.as_str())
         }
         Keeping::Stored(Admit::Known(id)) => {
             let shard = shard_of(alloc, query)?;
-            let text = format!(in alloc; "Made general, it is template {id} of shard {shard}, which was kept before.")?;
+            let text = format!(in alloc;
+                "Made general, it is template {id} of shard {shard}, which was kept before."
+            )?;
             page.say(2, text.as_str())
         }
         Keeping::Wide => page.say(2, "It is too wide to be made general."),
@@ -72,7 +82,9 @@ pub fn tell_template(
     let maker = maker_of(alloc, journal, shard, id)?;
     let text = match maker {
         Some(line) => {
-            format!(in alloc; "Template {id} of shard {shard}, made of the proof at line {line}, proves it with its values.")?
+            format!(in alloc;
+                "Template {id} of shard {shard}, made of the proof at line {line}, proves it with its values."
+            )?
         }
         None => format!(in alloc; "Template {id} of shard {shard} proves it with its values.")?,
     };
@@ -112,12 +124,11 @@ fn maker_of(
 // Whether it is the proof of which a template was made.
 fn is_maker(alloc: Global, entry: &Entry, shard: u32, id: u32) -> Result<bool, AllocError> {
     let Entry::Ask {
-        reply:
-            Reply::Answer {
-                query,
-                by: By::Proof(_, Keeping::Stored(Admit::Added(added))),
-                ..
-            },
+        reply: Reply::Answer {
+            query,
+            by: By::Proof(_, Keeping::Stored(Admit::Added(added))),
+            ..
+        },
         ..
     } = entry
     else {

@@ -10,10 +10,12 @@ use ba_refute::Counterexample;
 use std::alloc::{AllocError, Global};
 
 // What is said where the views and the earlier answers are the same in both databases.
-const ALIKE: &str = "Who sees the policy's views and the earlier answers can't tell the two apart, but the question's answers differ.";
+const ALIKE: &str =
+    "Who sees the policy's views and the earlier answers can't tell the two apart, but the question's answers differ.";
 
 // What is said where they aren't.
-const WITHIN: &str = "Each row that a view shows of the first it shows of the second too, and the first gives the earlier questions the rows \
+const WITHIN: &str =
+    "Each row that a view shows of the first it shows of the second too, and the first gives the earlier questions the rows \
      that were told; but this row is in the first answer alone. So the question isn't strongly compliant. Whether its answer would tell more than \
      the views isn't known.";
 
@@ -24,11 +26,16 @@ pub fn tell_refuted(
     scene: &Scene,
     pair: &Counterexample,
 ) -> Result<(), AllocError> {
-    page.say(2, "Two databases refute it (* marks a row that the other lacks):")?;
+    page.say(
+        2,
+        "Two databases refute it (* marks a row that the other lacks):",
+    )?;
     tell_database(page, given, "first database", &pair.one, &pair.two)?;
     tell_database(page, given, "second database", &pair.two, &pair.one)?;
     let row = row_text(page.alloc, pair.row.as_slice())?;
-    let text = format!(in page.alloc; "The question gives {row} in the first, and not in the second.")?;
+    let text = format!(in page.alloc;
+        "The question gives {row} in the first, and not in the second."
+    )?;
     page.say(2, text.as_str())?;
     let are_alike = are_alike(page.alloc, given, scene, pair)?;
     page.say(2, if are_alike { ALIKE } else { WITHIN })

@@ -85,7 +85,10 @@ pub fn cause_text(
             format!(in alloc; "{told}, so ")
         }
         Step::Key {
-            branch, key, left, ..
+            branch,
+            key,
+            left,
+            ..
         } => key_text(alloc, given, search.branch(*branch), *key, *left),
         Step::Link { branch, link, fact } => {
             link_text(alloc, given, search.branch(*branch), *link, *fact)

@@ -6,6 +6,7 @@ use crate::page::Page;
 use crate::proof::{tell_proof, tell_template};
 use crate::refuted::tell_refuted;
 use crate::scene::Scene;
+use crate::text::context_text;
 use crate::undecided::{tell_spent, tell_stuck};
 use crate::unread::tell_unread;
 use ba_lanes::{Entry, Journal};
@@ -29,11 +30,12 @@ pub fn tell(
     };
     match entry {
         Entry::Ask { request, reply, .. } => {
-            tell_head(page, place, name, query, verdict(reply))?;
             let scene = Scene::at(page.alloc, given.script(), journal, *request, place)?;
+            let context = context_text(page.alloc, given.policy(), &scene.context)?;
+            tell_head(page, place, name, context.as_str(), verdict(reply), query)?;
             tell_reply(page, given, journal, &scene, query.as_str(), reply)?;
         }
-        _ => tell_head(page, place, name, query, "no memory")?,
+        _ => tell_head(page, place, name, "", "no memory", query)?,
     }
     Ok(true)
 }
@@ -61,11 +63,12 @@ fn tell_head(
     page: &mut Page,
     place: usize,
     name: &Str,
-    query: &Str,
+    context: &str,
     verdict: &str,
+    query: &Str,
 ) -> Result<(), AllocError> {
     let line = place.saturating_add(1);
-    let text = format!(in page.alloc; "line {line}, request {name}: {verdict}")?;
+    let text = format!(in page.alloc; "line {line}, request {name}{context}: {verdict}")?;
     page.say(0, text.as_str())?;
     page.say(4, query.as_str())
 }

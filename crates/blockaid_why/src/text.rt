@@ -3,7 +3,7 @@ ghost use Rattle.ba_model.specs.Fit.{PolicyFits};
 
 use crate::page::{VALUE_BYTES, shown};
 use ba_facts::{Branch, Fact, Side, Term, TermAtom};
-use ba_model::{List, Op, Policy, Schema, Table, Value};
+use ba_model::{Context, List, Op, Policy, Schema, Table, Value};
 use ba_sql_print::print_query;
 use std::alloc::{AllocError, Global};
 
@@ -28,6 +28,27 @@ pub fn row_text(alloc: Global, row: &[Value]) -> Result<String, AllocError> {
     }
     let inside = texts.join(alloc, ", ")?;
     format!(in alloc; "({inside})")
+}
+
+/// The values of a policy's parameters in a context, between brackets behind a blank, if there are any.
+pub fn context_text(
+    alloc: Global,
+    policy: &Policy,
+    context: &Context,
+) -> Result<String, AllocError> {
+    let mut texts = Vec::new(alloc);
+    for (number, value) in context.values.as_slice().iter().enumerate() {
+        if let Some(param) = policy.params.find(number) {
+            let value = value_text(alloc, value)?;
+            let text = format!(in alloc; "{} = {value}", param.name)?;
+            texts.push(text)?;
+        }
+    }
+    if texts.is_empty() {
+        return Ok(String::new(alloc));
+    }
+    let inside = texts.join(alloc, ", ")?;
+    format!(in alloc; " ({inside})")
 }
 
 /// The name of a table.

@@ -24,7 +24,9 @@ pub fn tell_spent(
     let alloc = page.alloc;
     let count = steps.len();
     let kinds = kinds_text(alloc, steps.as_slice())?;
-    let text = format!(in alloc; "The search took all {count} steps of its budget, and could have gone on: {kinds}. The last ones are:")?;
+    let text = format!(in alloc;
+        "The search took all {count} steps of its budget, and could have gone on: {kinds}. The last ones are (x1, x2, .. stand for values):"
+    )?;
     page.say(2, text.as_str())?;
     let Some(mut search) = start(alloc, given, scene, query)? else {
         return Ok(());
@@ -37,9 +39,14 @@ pub fn tell_spent(
 // Says what gives a search more steps.
 fn tell_budget(page: &mut Page, count: u64) -> Result<(), AllocError> {
     if count >= MAX_BUDGET {
-        return page.say(2, "Nothing is shown of the question. There is no greater budget.");
+        return page.say(
+            2,
+            "Nothing is shown of the question. There is no greater budget.",
+        );
     }
-    let text = format!(in page.alloc; "Nothing is shown of the question. --budget gives the search more steps, up to {MAX_BUDGET}; they may not suffice.")?;
+    let text = format!(in page.alloc;
+        "Nothing is shown of the question. --budget gives the search more steps, up to {MAX_BUDGET}; they may not suffice."
+    )?;
     page.say(2, text.as_str())
 }
 
@@ -88,9 +95,14 @@ pub fn tell_stuck(page: &mut Page, leaf: &Leaf, clause: Clause) -> Result<(), Al
     let steps = leaf.steps.len();
     let facts = leaf.branch.facts.len();
     let why = clause_text(clause);
-    let text = format!(in page.alloc; "The search ended after {steps} steps, at a branch with {facts} facts where no step is new. The two databases that were made of it don't refute the question: {why}.")?;
+    let text = format!(in page.alloc;
+        "The search ended after {steps} steps, at a branch with {facts} facts where no step is new. The two databases that were made of it don't refute the question: {why}."
+    )?;
     page.say(2, text.as_str())?;
-    page.say(2, "Nothing is shown of the question; more steps would change nothing.")
+    page.say(
+        2,
+        "Nothing is shown of the question; more steps would change nothing.",
+    )
 }
 
 // What two databases don't meet.

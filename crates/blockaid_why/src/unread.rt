@@ -44,8 +44,10 @@ fn fault_text(fault: &ReadQueryFault) -> &'static str {
         }
         ReadQueryFault::UnknownParam => "A parameter in it isn't one of the policy.",
         ReadQueryFault::KindDiffers => "It compares a number with a text.",
-        ReadQueryFault::OrderOnText => "It asks for an order of texts: <, <=, > and >= are for numbers.",
-        ReadQueryFault::HeadDiffers => "Two of its selects give rows of different lengths or kinds.",
+        ReadQueryFault::OrderOnText =>
+            "It asks for an order of texts: <, <=, > and >= are for numbers.",
+        ReadQueryFault::HeadDiffers =>
+            "Two of its selects give rows of different lengths or kinds.",
         ReadQueryFault::TooMany => {
             "It has more than 32 parts, or a part with more than 8 tables, 64 conditions or 256 columns."
         }
