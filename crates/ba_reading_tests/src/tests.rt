@@ -12,3 +12,4 @@ mod standard;
 mod tables;
 mod tokens;
 mod verdicts;
+mod workload;

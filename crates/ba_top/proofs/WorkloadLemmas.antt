@@ -1,10 +1,9 @@
 -- What the files of a workload come to.
-use Rattle.std.proofs.Common.{◌≡◌, ◌⊎◌, ◌∙◌, inl, inr, refl, sym, ap, subst, ℕ, ◌<◌, ◌^◌, List, [], ◌∷◌, Bool, true, false, length, map, cond, Option, Some, None, Result, Ok, Err, arith, nat_lt, string_bytes}
+use Rattle.std.proofs.Common.{◌≡◌, ◌⊎◌, ◌∙◌, inl, inr, refl, sym, ap, subst, ℕ, ◌<◌, ◌^◌, List, [], ◌∷◌, Bool, true, false, length, map, cond, Option, Some, None, Result, Ok, Err, arith, nat_lt}
 use Rattle.std.specs.Prelude.{unwrap_or}
-use Rattle.std.specs.Str.{bytes_eq}
 use Rattle.ba_model.specs.declared.limits.Counted.TheVariants.{FileBytes}
 use Rattle.ba_outside.specs.Causes.{Rose, last_count}
-use Rattle.ba_outside.specs.MemFiles.{held_in, held_or_empty}
+use Rattle.ba_outside.specs.MemFiles.{held_or_empty}
 use Rattle.ba_outside.specs.Seen.{Contents, FilesSeen}
 use Rattle.ba_outside.specs.declared.mem_files.Held.{Held}
 use Rattle.ba_plan.proofs.Causes.{read_fault}
@@ -14,22 +13,10 @@ use Rattle.ba_plan.specs.Follows.{Follows}
 use Rattle.ba_plan.specs.Plan.{Plan, done, refuse, ask, comes_of, outcome_of}
 use Rattle.ba_plan.specs.declared.stop.Stop.{Stop}
 use Rattle.ba_plan.specs.declared.stop.Stop.TheVariants.{Refused, Read, TooLong, NoMemory}
-use Rattle.ba_top.specs.Reading.{bytes_of, over}
+use Rattle.ba_top.specs.Reading.{over}
 use Rattle.ba_top.specs.declared.report.Refusal.{Refusal}
 use Rattle.ba_top.specs.declared.report.Refusal.TheVariants.{Limit}
-use Rattle.ba_workload.specs.Files.{File, file_of}
-
--- what files in memory hold by their names and bytes
-held_bytes : (files : List Held) (name : List ℕ) → unwrap_or (held_in files name) [] ≡ bytes_of (map file_of files) name
-held_bytes [] name = refl
-held_bytes (file ∷ files) name = by (bytes_eq (string_bytes file.name) name)
-  where
-    rest : unwrap_or (held_in files name) [] ≡ bytes_of (map file_of files) name
-    rest = held_bytes files name
-
-    by : (t : Bool) → unwrap_or (cond t (Some file.bytes.items) (held_in files name)) [] ≡ cond t file.bytes.items (bytes_of (map file_of files) name)
-    by true = refl
-    by false = rest
+use Rattle.ba_workload.specs.Files.{File, FilesHoldTheirBytes, bytes_in, file_of}
 
 -- what comes of a stop where a file that is too long is a count above its limit
 pub told_stop : {X : Type 0} → Result X (Stop Refusal) → Result X (Stop Refusal)
@@ -76,8 +63,8 @@ calm (inl less) = omega (arith, less)
 calm (inr last) = omega (arith, last)
 
 -- what was read of files in memory that never fail is what the plan over them gives
-pub workload_follows : {X : Type 0} (held : List Held) (files : List File) → map file_of held ≡ files → (p : Plan Refusal X) (f g s : FilesSeen) (r : Result X (Stop Refusal)) → f.held ≡ Some (held_or_empty held) →
-    f.faults ≡ 0 → g.faults ≡ 0 → Follows p f g r → Follows (over (bytes_of files) p) s s (told_stop r)
-workload_follows held files are p f g s r told none still follows =
-    over_follows (bytes_of files) (held_or_empty held) (λ name. ap (λ z. Some z) (held_bytes held name ∙ ap (λ z. bytes_of z name) are)) p f g s r told
+pub workload_follows : {X : Type 0} (held : List Held) (files : List File) → FilesHoldTheirBytes → map file_of held ≡ files → (p : Plan Refusal X) (f g s : FilesSeen) (r : Result X (Stop Refusal)) → f.held ≡ Some (held_or_empty held) →
+    f.faults ≡ 0 → g.faults ≡ 0 → Follows p f g r → Follows (over (λ name. unwrap_or (bytes_in files name) []) p) s s (told_stop r)
+workload_follows held files hold are p f g s r told none still follows =
+    over_follows (λ name. unwrap_or (bytes_in files name) []) (held_or_empty held) (λ name. ap (λ z. Some (unwrap_or (z name) [])) (hold held ∙ ap bytes_in are)) p f g s r told
     (subst (λ n. ¬ Rose n g.faults) (sym none) (subst (λ n. ¬ Rose 0 n) (sym still) calm)) follows

@@ -1,7 +1,6 @@
 -- How what the words name is read.
-use Rattle.std.specs.Prelude.{ℕ, List, [], ◌∷◌, ◌++◌, Bool, true, false, Option, Some, None, Result, Ok, Err, codes, if◌then◌else◌, length, nat_lt}
+use Rattle.std.specs.Prelude.{ℕ, List, [], ◌∷◌, ◌++◌, Bool, true, false, Option, Some, None, Result, Ok, Err, codes, if◌then◌else◌, length, nat_lt, unwrap_or}
 use Rattle.std.specs.Option.{option_to_list}
-use Rattle.std.specs.Str.{bytes_eq}
 use Rattle.ba_command.specs.Words.{command_of}
 use Rattle.ba_command.specs.declared.command.Command.{Command}
 use Rattle.ba_command.specs.declared.command.Command.TheVariants.{Run, Check, Gen}
@@ -34,7 +33,7 @@ use Rattle.ba_top.specs.declared.report.Refusal.TheVariants.{Limit, Words}
 use Rattle.ba_top.specs.declared.report.Task.{Task}
 use Rattle.ba_top.specs.declared.report.Task.TheVariants as task
 use Rattle.ba_top.specs.declared.report.Told.TheVariants.{Lines, Summary}
-use Rattle.ba_workload.specs.Files.{File, files_of}
+use Rattle.ba_workload.specs.Files.{bytes_in, files_of}
 use Rattle.ba_workload.specs.Requests.{script_text}
 
 -- ---- a run
@@ -123,17 +122,12 @@ over bytes (done x) = done x
 over bytes (refuse e) = refuse e
 over bytes (ask name limit next) = if nat_lt limit (length (bytes name)) then refuse (Limit FileBytes limit) else over bytes (next (bytes name))
 
--- the bytes of the first file of that name, or none
-abbrev pub bytes_of : List File → List ℕ → List ℕ
-bytes_of [] name = []
-bytes_of (file ∷ files) name = if bytes_eq file.0 name then file.1 else bytes_of files name
-
 abbrev pub workload_names : ℕ → Names
 workload_names workers = record { schema = codes "schema.sql"; policy = codes "policy.sql"; tables = codes "tables"; script = codes "script.jsonl"; workers = workers; budget = BUDGET }
 
 -- the input of a workload: its files are read as those of a run
 abbrev pub workload_reading : ℕ → ℕ → ℕ → Plan Refusal Input
-workload_reading seed requests workers = over (bytes_of (files_of seed requests)) (reading_of (workload_names workers))
+workload_reading seed requests workers = over (λ name. unwrap_or (bytes_in (files_of seed requests) name) []) (reading_of (workload_names workers))
 
 -- ---- a check
 

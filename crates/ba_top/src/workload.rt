@@ -1,7 +1,7 @@
 //! Reads a workload.
 ghost use Rattle.std.specs.Prelude.{◌<◌, ◌≤◌, IfOk};
 ghost use Rattle.ba_lanes.specs.Legal.{IsInput};
-ghost use Rattle.ba_model.specs.declared.limits.TheConstants.{MAX_REQUESTS as most_requests, MAX_SEED as most_seed, MAX_WORKERS as most_workers};
+ghost use Rattle.ba_model.specs.declared.limits.TheConstants.{MAX_WORKERS as most_workers};
 ghost use Rattle.ba_outside.specs.Seen.{FilesSeen};
 ghost use Rattle.ba_plan.specs.Follows.{Follows};
 ghost use Rattle.ba_top.specs.Checking.{IsTask};
@@ -13,6 +13,7 @@ use ba_lanes::Input;
 use ba_model::{BUDGET, Counted, Str};
 use ba_outside::SureFiles;
 use ba_plan::Stop;
+use ba_workload::laws::files_hold_their_bytes;
 use ba_workload::{POLICY_FILE, SCHEMA_FILE, SCRIPT_FILE, TABLE_SET, script_text, workload};
 use std::alloc::Global;
 
@@ -23,12 +24,11 @@ fn workload_input(
     requests: u32,
     workers: u32,
 ) -> Result<Input, Stop<Refusal>>
-    requires seed { seed ≤ most_seed }
-    requires requests { requests ≤ most_requests }
     requires workers { (0 < workers) × (workers ≤ most_workers) }
     ensures follows { (s : FilesSeen) → Follows (workload_reading seed requests workers) s s result }
     ensures input { IfOk result IsInput }
 {
+    files_hold_their_bytes();
     let held = workload(alloc, seed, requests)?;
     let mut files = SureFiles::new(alloc, held);
     let named = Named {
@@ -56,8 +56,6 @@ pub(crate) fn read_workload(
     workers: u32,
     print: bool,
 ) -> Result<Task, Stop<Refusal>>
-    requires seed { seed ≤ most_seed }
-    requires requests { requests ≤ most_requests }
     requires workers { (0 < workers) × (workers ≤ most_workers) }
     ensures follows { (s : FilesSeen) → Follows (workload_plan seed requests workers print) s s result }
     ensures task { IfOk result IsTask }

@@ -1,2 +1,5 @@
+pub mod ByteLemmas
+pub mod EntryLemmas
 pub mod FileLemmas
+pub mod JsonLemmas
 pub mod TextLemmas

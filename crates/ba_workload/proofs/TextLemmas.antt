@@ -4,7 +4,7 @@ use Rattle.std.specs.List.{flat_map, range_with_len}
 use Rattle.std.proofs.lemmas.List.Concat.{flat_map-append}
 use Rattle.ba_workload.specs.Chosen.{attended, event_at, event_of, other_event, user_of, users}
 use Rattle.ba_workload.specs.Draws.{drawn, next, state_after}
-use Rattle.ba_workload.specs.Lines.{ended, text_of, texts_of}
+use Rattle.ba_workload.specs.Lines.{text_of, texts_of}
 use Rattle.ba_workload.specs.Requests.{ask_line, attendance_query, begin_line, end_line, name_of, request_of, request_text, title_query}
 
 pub range-more : (a n : ℕ) → range_with_len a (suc n) ≡ range_with_len a n ++ (a + n) ∷ []

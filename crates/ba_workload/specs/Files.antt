@@ -1,5 +1,7 @@
 -- The files of a workload: their names and their bytes.
-use Rattle.std.specs.Prelude.{ℕ, List, [], ◌∷◌, ◌++◌, codes, string_bytes}
+use Rattle.std.specs.Prelude.{◌≡◌, ℕ, List, [], ◌∷◌, ◌++◌, map, codes, Option, Some, None, if◌then◌else◌, string_bytes}
+use Rattle.std.specs.Str.{bytes_eq}
+use Rattle.ba_outside.specs.MemFiles.{held_in}
 use Rattle.ba_outside.specs.declared.mem_files.Held.{Held}
 use Rattle.ba_workload.specs.Requests.{script_text}
 use Rattle.ba_workload.specs.Tables.{attendances_text, events_text, users_text}
@@ -40,3 +42,12 @@ standard_files =
 -- and a script for them
 abbrev pub files_of : ℕ → ℕ → List File
 files_of seed requests = standard_files ++ (codes "script.jsonl", script_text seed requests) ∷ []
+
+-- the bytes of the first file of that name
+abbrev pub bytes_in : List File → List ℕ → Option (List ℕ)
+bytes_in [] name = None
+bytes_in (file ∷ files) name = if bytes_eq file.0 name then Some file.1 else bytes_in files name
+
+-- files in memory hold, name by name, what their names and bytes say
+abbrev pub FilesHoldTheirBytes : Type 0
+FilesHoldTheirBytes = (files : List Held) → held_in files ≡ bytes_in (map file_of files)

@@ -3,4 +3,5 @@ pub mod Draws
 pub mod Files
 pub mod Lines
 pub mod Requests
+pub mod Script
 pub mod Tables

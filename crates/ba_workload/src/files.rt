@@ -57,8 +57,8 @@ fn standard_files(alloc: Global) -> Result<Vec<Held>, AllocError>
     Ok(files)
 }
 
-/// The files of a workload: the schema, the policy, the table files, and the script of so many requests that the seed draws, in this order.
-/// Want of memory is the only error.
+/// The files of a workload, by name and bytes: the schema, the policy, the table files, and the script of so many requests that the seed
+/// draws, in this order. Each name stands once. Want of memory is the only error.
 pub fn workload(alloc: Global, seed: u64, requests: u32) -> Result<Vec<Held>, AllocError>
     ensures { IfOk result (λ files. map file_of files.items ≡ files_of seed requests) }
 {

@@ -4,6 +4,7 @@
 mod choice;
 mod draws;
 mod files;
+pub mod laws;
 mod request;
 mod script;
 mod standard;

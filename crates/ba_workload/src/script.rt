@@ -7,9 +7,11 @@ use crate::draws::Draws;
 use crate::request::request_text;
 use std::alloc::{AllocError, Global};
 
-/// The script of so many requests, byte for byte: five lines for each, which begin it, ask three questions and end it.
+/// The script of so many requests that the seed draws, byte for byte: five lines for each request, which begin it, ask three questions
+/// and end it. Under the workload's policy the first two questions may be answered, and the third may not.
 ///
-/// Of the questions of a request the first two may be answered under the workload's policy, and the third may not. Want of memory is the only error.
+/// Any seed and any number of requests has a script; one of more than 8192 requests is refused by its reader. Want of memory is the only
+/// error.
 pub fn script_text(alloc: Global, seed: u64, requests: u32) -> Result<String, AllocError>
     ensures { IfOk result (λ text. string_bytes text ≡ script_text seed requests) }
 {

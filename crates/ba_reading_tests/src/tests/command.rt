@@ -33,6 +33,12 @@ fn write_command(told: &mut String, command: &Command) -> Told {
             policy,
             proof,
         } => write!(told, "check {schema} {policy} {proof}"),
+        Command::Gen {
+            seed,
+            requests,
+            workers,
+            print,
+        } => write!(told, "gen {seed} {requests} {workers} {print}"),
     }
 }
 
@@ -87,7 +93,33 @@ check --schema S --policy P --proof F G
 check --schema S --policy P --proof F --proof F
 check --schema S --policy P --proof F --budget 16
 check --schema S --policy P --script F
-gen --seed 0 --requests 1";
+
+gen --seed 0 --requests 1 => gen 0 1 1 false
+gen --seed 0 --requests 1 --print => gen 0 1 1 true
+gen --seed 7 --requests 1000 --workers 4 => gen 7 1000 4 false
+gen --print --workers=16 --requests=8192 --seed=9223372036854775807 => gen 9223372036854775807 8192 16 true
+gen --seed +007 --requests 0 => gen 7 0 1 false
+
+gen
+gen --seed 7
+gen --requests 1
+gen --seed --requests 1
+gen --seed 7 --requests
+gen --seed 9223372036854775808 --requests 1
+gen --seed 18446744073709551623 --requests 1
+gen --seed -1 --requests 1
+gen --seed 7 --requests 8193
+gen --seed 7 --requests 4294967297
+gen --seed 7 --requests 1 --workers 0
+gen --seed 7 --requests 1 --workers 17
+gen --seed 7 --requests 1 --print true
+gen --seed 7 --requests 1 --print=true
+gen --seed 7 --requests 1 --print --print
+gen --seed 7 --requests 1 --budget 16
+gen --seed 7 --seed 7 --requests 1
+gen --seed 7 --requests 1 --schema S
+gen gen --seed 7 --requests 1
+generate --seed 7 --requests 1";
 
 /// Options behind the four names.
 const OPTIONS: &str = "--budget 100000 => S P D F 1 100000
@@ -101,7 +133,9 @@ const OPTIONS: &str = "--budget 100000 => S P D F 1 100000
 --budget 4294967316
 --budget 16 --budget 16
 --budge 20
---workers 2
+--workers 2 => S P D F 2 2000
+--workers 16 => S P D F 16 2000
+--workers 17
 --workers 0
 --workers one
 --workers 1 --workers 1
