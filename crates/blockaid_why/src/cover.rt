@@ -7,7 +7,7 @@ use ba_direct::{Cover, PartCover};
 use ba_model::List;
 use ba_sql_print::print_query;
 use ba_sql_query::read_query;
-use std::alloc::{AllocError, Global};
+use std::alloc::AllocError;
 
 /// Says which views cover a question.
 pub fn tell_cover(
@@ -64,24 +64,19 @@ fn tell_part(
     tell_pairing(page, &part.places)
 }
 
-// Says which tables of the question those of the view are, where there are several.
+// Says which tables of the question, from 1, those of the view are, where there are several.
 fn tell_pairing(page: &mut Page, places: &List<usize>) -> Result<(), AllocError> {
     if places.len() <= 1 {
         return Ok(());
     }
-    let places = places_text(page.alloc, places)?;
+    let mut texts = Vec::new(page.alloc);
+    for place in places.as_slice() {
+        let text = place.saturating_add(1).to_string(page.alloc)?;
+        texts.push(text)?;
+    }
+    let places = texts.join(page.alloc, ", ")?;
     let text = format!(in page.alloc;
         "whose tables, in this order, are the question's tables {places}"
     )?;
     page.say(4, text.as_str())
-}
-
-// The numbers of tables, from 1.
-fn places_text(alloc: Global, places: &List<usize>) -> Result<String, AllocError> {
-    let mut texts = Vec::new(alloc);
-    for place in places.as_slice() {
-        let text = place.saturating_add(1).to_string(alloc)?;
-        texts.push(text)?;
-    }
-    texts.join(alloc, ", ")
 }

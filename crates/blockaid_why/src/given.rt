@@ -57,11 +57,6 @@ impl Given {
         &self.policy
     }
 
-    /// The schema.
-    pub fn schema(&self) -> &Schema {
-        &self.policy.schema
-    }
-
     /// The script.
     pub fn script(&self) -> &Script {
         &self.script

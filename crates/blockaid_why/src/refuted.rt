@@ -5,7 +5,7 @@ use crate::page::{MOST_ROWS, Page};
 use crate::scene::Scene;
 use crate::text::{row_text, table_text};
 use ba_eval::answer;
-use ba_model::{Query, Row, RowSet, Same, Table};
+use ba_model::{Row, RowSet, Same, Table};
 use ba_refute::Counterexample;
 use std::alloc::{AllocError, Global};
 
@@ -70,7 +70,7 @@ fn tell_database(
     if is_empty(set) {
         return page.say(6, "no rows");
     }
-    for (number, table) in given.schema().tables.as_slice().iter().enumerate() {
+    for (number, table) in given.policy().schema.tables.as_slice().iter().enumerate() {
         tell_table(page, table, rows_of(set, number), rows_of(other, number))?;
     }
     Ok(())
@@ -106,52 +106,37 @@ fn has(rows: &[Row], row: &Row) -> bool {
     false
 }
 
-// Whether the views show the same of the two databases, and both give the earlier answers just the rows that were told.
+// Whether the views show the same of the two databases, and both give the earlier questions just the rows that were told.
 fn are_alike(
     alloc: Global,
     given: &Given,
     scene: &Scene,
     pair: &Counterexample,
 ) -> Result<bool, AllocError> {
-    let views = show_the_same(alloc, given, scene, pair)?;
-    if !views {
-        return Ok(false);
+    for view in given.policy().views.as_slice() {
+        let one = answer(alloc, &pair.one, &scene.context, &view.query)?;
+        let two = answer(alloc, &pair.two, &scene.context, &view.query)?;
+        if !one.same(&two) {
+            return Ok(false);
+        }
     }
+    gives_the_told(alloc, scene, &pair.one, &pair.two)
+}
+
+// Whether both databases give the earlier questions just the rows that were told.
+fn gives_the_told(
+    alloc: Global,
+    scene: &Scene,
+    one: &RowSet,
+    two: &RowSet,
+) -> Result<bool, AllocError> {
     for number in 0..scene.trace.len() {
         let told = scene.trace.entry(number);
-        let one = answer(alloc, &pair.one, &scene.context, &told.query)?;
-        let two = answer(alloc, &pair.two, &scene.context, &told.query)?;
+        let one = answer(alloc, one, &scene.context, &told.query)?;
+        let two = answer(alloc, two, &scene.context, &told.query)?;
         if !one.same(&told.rows) || !two.same(&told.rows) {
             return Ok(false);
         }
     }
     Ok(true)
-}
-
-// Whether the views show the same of the two databases.
-fn show_the_same(
-    alloc: Global,
-    given: &Given,
-    scene: &Scene,
-    pair: &Counterexample,
-) -> Result<bool, AllocError> {
-    for view in given.policy().views.as_slice() {
-        let is_same = shows_the_same(alloc, scene, pair, &view.query)?;
-        if !is_same {
-            return Ok(false);
-        }
-    }
-    Ok(true)
-}
-
-// Whether a view's query shows the same of the two databases.
-fn shows_the_same(
-    alloc: Global,
-    scene: &Scene,
-    pair: &Counterexample,
-    query: &Query,
-) -> Result<bool, AllocError> {
-    let one = answer(alloc, &pair.one, &scene.context, query)?;
-    let two = answer(alloc, &pair.two, &scene.context, query)?;
-    Ok(one.same(&two))
 }

@@ -3,7 +3,7 @@
 use crate::given::Given;
 use crate::scene::Scene;
 use crate::text::{atom_text, columns_text, fact_text, view_name};
-use ba_facts::{Branch, Fact, TermAtom};
+use ba_facts::{Branch, TermAtom};
 use ba_kernel::{Search, Step};
 use ba_model::{Duplicate, List, Table};
 use std::alloc::{AllocError, Global};
@@ -114,18 +114,10 @@ pub fn cause_text(
     }
 }
 
-// The fact of a number, if it is there.
-fn fact_of(branch: Option<&Branch>, number: u32) -> Option<&Fact> {
-    match branch?.facts.find(number as usize) {
-        Some(fact) => Some(fact),
-        None => None,
-    }
-}
-
 // The table of the fact of a number, if it is there.
-fn table_of<'a>(given: &'a Given, branch: Option<&Branch>, number: u32) -> Option<&'a Table> {
-    let table = fact_of(branch, number)?.table;
-    given.schema().tables.find(table as usize)
+fn table_of<'a>(given: &'a Given, branch: &Branch, number: u32) -> Option<&'a Table> {
+    let table = branch.facts.find(number as usize)?.table;
+    given.policy().schema.tables.find(table as usize)
 }
 
 // Two rows are one by a key: the columns of the key, and the row.
@@ -137,7 +129,7 @@ fn key_text(
     number: u32,
 ) -> Result<String, AllocError> {
     if let Some(branch) = branch
-        && let Some(table) = table_of(given, Some(branch), number)
+        && let Some(table) = table_of(given, branch, number)
         && let Some(columns) = table.keys.find(key as usize)
         && let Some(fact) = branch.facts.find(number as usize)
     {
@@ -176,7 +168,7 @@ fn link_text(
     number: u32,
 ) -> Result<String, AllocError> {
     if let Some(branch) = branch
-        && let Some(table) = table_of(given, Some(branch), number)
+        && let Some(table) = table_of(given, branch, number)
         && let Some(link) = table.links.find(link as usize)
         && let Some(fact) = branch.facts.find(number as usize)
     {

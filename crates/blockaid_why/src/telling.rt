@@ -10,7 +10,7 @@ use crate::text::context_text;
 use crate::undecided::{tell_spent, tell_stuck};
 use crate::unread::tell_unread;
 use ba_lanes::{Entry, Journal};
-use ba_model::{Query, Shared, Str};
+use ba_model::Str;
 use ba_script::ScriptEntry;
 use ba_session::{By, Reply, Why};
 use std::alloc::AllocError;
@@ -73,6 +73,7 @@ fn tell_head(
     page.say(4, query.as_str())
 }
 
+// Says why that became of it.
 fn tell_reply(
     page: &mut Page,
     given: &Given,
@@ -82,43 +83,19 @@ fn tell_reply(
     reply: &Reply,
 ) -> Result<(), AllocError> {
     match reply {
-        Reply::Answer { query, by, .. } => {
-            tell_answer(page, given, journal, scene, question, query, by)
-        }
-        Reply::Blocked { query, why } => tell_block(page, given, scene, query, why),
+        Reply::Answer { query, by, .. } => match by {
+            By::Cover(cover) => tell_cover(page, given, question, cover),
+            By::Template { shard, id, found } => {
+                tell_template(page, journal, scene, *shard, *id, found)
+            }
+            By::Proof(steps, keeping) => tell_proof(page, given, scene, query, steps, *keeping),
+        },
+        Reply::Blocked { query, why } => match why {
+            Why::Refuted(pair) => tell_refuted(page, given, scene, pair),
+            Why::Spent(steps) => tell_spent(page, given, scene, query, steps),
+            Why::Stuck(leaf, clause) => tell_stuck(page, leaf, *clause),
+        },
         Reply::Unread(fault) => tell_unread(page, fault),
         Reply::NoMemory => page.say(2, "There was no memory for it."),
-    }
-}
-
-fn tell_answer(
-    page: &mut Page,
-    given: &Given,
-    journal: &Journal,
-    scene: &Scene,
-    question: &str,
-    query: &Shared<Query>,
-    by: &By,
-) -> Result<(), AllocError> {
-    match by {
-        By::Cover(cover) => tell_cover(page, given, question, cover),
-        By::Template { shard, id, found } => {
-            tell_template(page, journal, scene, *shard, *id, found)
-        }
-        By::Proof(steps, keeping) => tell_proof(page, given, scene, query, steps, *keeping),
-    }
-}
-
-fn tell_block(
-    page: &mut Page,
-    given: &Given,
-    scene: &Scene,
-    query: &Shared<Query>,
-    why: &Why,
-) -> Result<(), AllocError> {
-    match why {
-        Why::Refuted(pair) => tell_refuted(page, given, scene, pair),
-        Why::Spent(steps) => tell_spent(page, given, scene, query, steps),
-        Why::Stuck(leaf, clause) => tell_stuck(page, leaf, *clause),
     }
 }

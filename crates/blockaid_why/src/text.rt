@@ -3,7 +3,7 @@ ghost use Rattle.ba_model.specs.Fit.{PolicyFits};
 
 use crate::page::{VALUE_BYTES, shown};
 use ba_facts::{Branch, Fact, Side, Term, TermAtom};
-use ba_model::{Context, List, Op, Policy, Schema, Table, Value};
+use ba_model::{Context, List, Op, Policy, Table, Value};
 use ba_sql_print::print_query;
 use std::alloc::{AllocError, Global};
 
@@ -13,7 +13,8 @@ pub fn value_text(alloc: Global, value: &Value) -> Result<String, AllocError> {
         Value::Null => String::from_str(alloc, "NULL"),
         Value::Int(number) => number.to_string(alloc),
         Value::Text(text) => {
-            let inside = shown(alloc, text.as_str(), VALUE_BYTES)?;
+            let front = shown(alloc, text.as_str(), VALUE_BYTES)?;
+            let inside = front.as_str().replace(alloc, '\'', "''")?;
             format!(in alloc; "'{inside}'")
         }
     }
@@ -49,14 +50,6 @@ pub fn context_text(
     }
     let inside = texts.join(alloc, ", ")?;
     format!(in alloc; " ({inside})")
-}
-
-/// The name of a table.
-pub fn table_name(schema: &Schema, table: u32) -> &str {
-    match schema.tables.find(table as usize) {
-        Some(table) => table.name.as_str(),
-        None => "?",
-    }
 }
 
 /// A table with its columns.
@@ -155,8 +148,10 @@ pub fn fact_text(
     fact: &Fact,
 ) -> Result<String, AllocError> {
     let terms = terms_text(alloc, policy, branch, fact.terms.as_slice())?;
-    let table = table_name(&policy.schema, fact.table);
-    format!(in alloc; "{table} {terms}")
+    match policy.schema.tables.find(fact.table as usize) {
+        Some(table) => format!(in alloc; "{} {terms}", table.name),
+        None => Ok(terms),
+    }
 }
 
 /// The facts of a branch from a number on: which database has them. Nothing, where there are none.
@@ -183,17 +178,6 @@ pub fn facts_text(
     }
 }
 
-fn op_text(op: Op) -> &'static str {
-    match op {
-        Op::Eq => "=",
-        Op::Ne => "<>",
-        Op::Lt => "<",
-        Op::Le => "<=",
-        Op::IsNull => "is null, as",
-        Op::NotNull => "isn't null, as",
-    }
-}
-
 /// A comparison of terms of a branch.
 pub fn atom_text(
     alloc: Global,
@@ -203,5 +187,12 @@ pub fn atom_text(
 ) -> Result<String, AllocError> {
     let left = term_text(alloc, policy, branch, &atom.left)?;
     let right = term_text(alloc, policy, branch, &atom.right)?;
-    format!(in alloc; "{left} {} {right}", op_text(atom.op))
+    match atom.op {
+        Op::Eq => format!(in alloc; "{left} = {right}"),
+        Op::Ne => format!(in alloc; "{left} <> {right}"),
+        Op::Lt => format!(in alloc; "{left} < {right}"),
+        Op::Le => format!(in alloc; "{left} <= {right}"),
+        Op::IsNull => format!(in alloc; "{left} is NULL"),
+        Op::NotNull => format!(in alloc; "{left} isn't NULL"),
+    }
 }

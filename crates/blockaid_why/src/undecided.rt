@@ -87,7 +87,13 @@ fn kinds_text(alloc: Global, steps: &[Step]) -> Result<String, AllocError> {
 }
 
 fn count_of(steps: &[Step], kind: &str) -> usize {
-    steps.iter().filter(|step| kind_of(step) == kind).count()
+    let mut count = 0usize;
+    for step in steps {
+        if kind_of(step) == kind {
+            count = count.saturating_add(1);
+        }
+    }
+    count
 }
 
 /// Says at what a search is stuck.

@@ -8,7 +8,6 @@ use std::alloc::AllocError;
 /// Says why a text reads as no query.
 pub fn tell_unread(page: &mut Page, fault: &ReadQueryFault) -> Result<(), AllocError> {
     match fault {
-        ReadQueryFault::Lex(fault) => page.say(2, lex_text(*fault)),
         ReadQueryFault::Unsupported(word) => {
             let text = format!(in page.alloc; "It isn't supported: {word}.")?;
             page.say(2, text.as_str())
@@ -17,20 +16,14 @@ pub fn tell_unread(page: &mut Page, fault: &ReadQueryFault) -> Result<(), AllocE
     }
 }
 
-fn lex_text(fault: LexFault) -> &'static str {
-    match fault {
-        LexFault::TooLong => "It has more than 65536 bytes.",
-        LexFault::BadByte => {
-            "A character in it begins no word, number, text or sign, a quoted name is empty, or a ? has no name behind it."
-        }
-        LexFault::OpenQuote => "A quote in it has no end.",
-        LexFault::NumberTooLarge => "A number in it is past 64 bits.",
-    }
-}
-
 fn fault_text(fault: &ReadQueryFault) -> &'static str {
     match fault {
-        ReadQueryFault::Lex(_) => "It has no words.",
+        ReadQueryFault::Lex(LexFault::TooLong) => "It has more than 65536 bytes.",
+        ReadQueryFault::Lex(LexFault::BadByte) => {
+            "A character in it begins no word, number, text or sign, a quoted name is empty, or a ? has no name behind it."
+        }
+        ReadQueryFault::Lex(LexFault::OpenQuote) => "A quote in it has no end.",
+        ReadQueryFault::Lex(LexFault::NumberTooLarge) => "A number in it is past 64 bits.",
         ReadQueryFault::Unsupported(_) => "Something in it isn't supported.",
         ReadQueryFault::Syntax => "Its words aren't those of a query.",
         ReadQueryFault::UnknownTable => {
