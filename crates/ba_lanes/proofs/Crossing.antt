@@ -32,3 +32,22 @@ lane_send = declared_send Lane.the_type (
     ),
   ),
 )
+
+-- a lane's work may go to a thread of its own
+pub work_send : (l : _) (R : _) → IsSync R → IsSend (Work.the_row l R)
+work_send l R shared = declared_send (Work.the_type l R) (
+  search sendable,
+  (
+    search (sendable, heap.the_send),
+    (
+      search (sendable, input.the_sync),
+      (
+        search (sendable, service_sync),
+        (
+          lane_send,
+          tt,
+        ),
+      ),
+    ),
+  ),
+)

@@ -7,5 +7,6 @@ pub mod ServeLemmas
 pub mod MergeLemmas
 pub mod HistoryLemmas
 pub mod WorkLemmas
+pub mod LegalLemmas
 pub mod HeadlineLemmas
 pub mod Crossing

@@ -2,7 +2,7 @@
 use Rattle.std.proofs.Common.{◌≡◌, ◌≢◌, ◌∙◌, refl, sym, ap, ap₂, subst, ℕ, ◌+◌, ◌<◌, ◌%◌, ◌⊎◌, inl, inr, List, [], ◌∷◌, ◌++◌, length, map, arith}
 use Rattle.std.proofs.lemmas.List.{length-map}
 use Rattle.std.proofs.lemmas.List.Elements.{Contains-append_left, Contains-push, Contains-push_cases}
-use Rattle.std.specs.Prelude.{Contains, VecDeque, slice_index_or}
+use Rattle.std.specs.Prelude.{Contains}
 use native.Mathlib.Nat.{mod-lt}
 use Rattle.ba_script.specs.declared.entry.ScriptEntry.{ScriptEntry}
 use Rattle.ba_script.specs.declared.entry.ScriptEntry.TheVariants as said
@@ -34,8 +34,7 @@ quiet_other input earlier (said.Publish n set) it number (inl h) differ = ap (λ
 quiet_other input earlier (said.Publish n set) it number (inr h) differ = ap (λ (z : LineDone). answer_of number z.entry) h
 
 begins_no_other : (input : Input) (earlier : List LineDone) (line : ScriptEntry) (it : LineDone) (number : ℕ) → IsServed input earlier line it → number ≢ number_in line → BeginsNot it number
-begins_no_other input earlier (said.Begin request name context) it number (inl h) differ version tables same =
-    other_begins_not request h.version h.tables number differ version tables (sym h.is ∙ same)
+begins_no_other input earlier (said.Begin request name context) it number (inl h) differ = λ version tables same. other_begins_not request h.version h.tables number differ version tables (sym h.is ∙ same)
 begins_no_other input earlier (said.Begin request name context) it number (inr h) differ = unbegun_begins_not it request number h.0
 begins_no_other input earlier (said.Ask request name text) it number (inl h) differ = ask_begins_not it request h.asker.version h.reply number (ap (λ (z : LineDone). z.entry) h.is)
 begins_no_other input earlier (said.Ask request name text) it number (inr h) differ = memory_begins_not it number (ap (λ (z : LineDone). z.entry) h.1)
@@ -47,16 +46,16 @@ begins_no_other input earlier (said.Publish n set) it number (inr h) differ = me
 -- ---- what a lane sees of all lines
 
 -- for the requests of the lane k, the earlier lines of the lane tell what all earlier lines tell
-record Sees (input : Input) (k : ℕ) (own all : List LineDone) : Type 0 where
-  traces : (number : ℕ) → number % input.workers ≡ k → trace_of number all ≡ trace_of number own
-  begun : (number version : ℕ) (tables : TableSet) → number % input.workers ≡ k → Contains own (begins number version tables) → Contains all (begins number version tables)
-  lost : (number : ℕ) → number % input.workers ≡ k → IsLost own number → IsLost all number
+pub record Sees (input : Input) (k : ℕ) (own all : List LineDone) : Type 0 where
+  pub traces : (number : ℕ) → number % input.workers ≡ k → trace_of number all ≡ trace_of number own
+  pub begun : (number version : ℕ) (tables : TableSet) → number % input.workers ≡ k → Contains own (begins number version tables) → Contains all (begins number version tables)
+  pub lost : (number : ℕ) → number % input.workers ≡ k → IsLost own number → IsLost all number
 
 sees_none : (input : Input) (k : ℕ) → Sees input k [] []
 sees_none input k = record { traces = λ number mine. refl; begun = λ number version tables mine h. h; lost = λ number mine h. h }
 
 module _ (input : Input) where
-  lift : (own all : List LineDone) (line : ScriptEntry) (it : LineDone) → Sees input (lane_of input.workers line) own all → IsServed input own line it → IsServed input all line it
+  pub lift : (own all : List LineDone) (line : ScriptEntry) (it : LineDone) → Sees input (lane_of input.workers line) own all → IsServed input own line it → IsServed input all line it
   lift own all (said.Begin request name context) it sees h = h
   lift own all (said.Ask request name text) it sees (inl h) = inl (record {
     asker = h.asker;
@@ -75,7 +74,7 @@ module _ (input : Input) where
   lift own all (said.End request name) it sees (inr h) = inr (sees.lost request refl h.0, h.1)
   lift own all (said.Publish n set) it sees h = h
 
-  sees_own : (own all : List LineDone) (line : ScriptEntry) (it : LineDone) → Sees input (lane_of input.workers line) own all → IsServed input own line it →
+  pub sees_own : (own all : List LineDone) (line : ScriptEntry) (it : LineDone) → Sees input (lane_of input.workers line) own all → IsServed input own line it →
       Sees input (lane_of input.workers line) (own ++ it ∷ []) (all ++ it ∷ [])
   sees_own own all line it sees h = record {
     traces = λ number mine. trace_more number all it ∙ ap (λ z. z ++ answer_of number it.entry) (sees.traces number mine) ∙ sym (trace_more number own it);
@@ -92,7 +91,7 @@ module _ (input : Input) where
       lost number mine none version tables (inl there) = sees.lost number mine (λ v t inside. none v t (Contains-append_left own (it ∷ []) (begins number v t) inside)) version tables there
       lost number mine none version tables (inr same) = none version tables (subst (Contains (own ++ it ∷ [])) same (Contains-push own it))
 
-  sees_other : (k : ℕ) (own all earlier : List LineDone) (line : ScriptEntry) (it : LineDone) → Sees input k own all → lane_of input.workers line ≢ k → IsServed input earlier line it → Sees input k own (all ++ it ∷ [])
+  pub sees_other : (k : ℕ) (own all earlier : List LineDone) (line : ScriptEntry) (it : LineDone) → Sees input k own all → lane_of input.workers line ≢ k → IsServed input earlier line it → Sees input k own (all ++ it ∷ [])
   sees_other k own all earlier line it sees differ h = record {
     traces = λ number mine.
         trace_more number all it ∙ ap₂ (λ y z. y ++ z) (sees.traces number mine) (quiet_other input earlier line it number h (other number mine)) ∙ lines.nothing_more (trace_of number own);
@@ -113,12 +112,12 @@ module _ (input : Input) where
     all_lines = lines.merged (lane_of input.workers) input.workers (lane_low input some) (IsServed input) (Sees input) lift sees_own sees_other input.script.entries [] (λ k. []) done (λ k low. sees_none input k) served
 
     -- the entries of all lines are those that their lanes had
-    module _ (queues : List (VecDeque Entry)) (entries : List Entry) (merged : AreMerged input queues entries) (d : VecDeque Entry)
-        (queues_are : (k : ℕ) → k < input.workers → (slice_index_or queues k d).items ≡ map (λ (it : LineDone). it.entry) (done k)) where
+    module _ (entries_of : ℕ → List Entry) (entries : List Entry) (merged : AreMerged input entries_of entries)
+        (are : (k : ℕ) → k < input.workers → entries_of k ≡ map (λ (it : LineDone). it.entry) (done k)) where
       pub all_entries : entries ≡ map (λ (it : LineDone). it.entry) all_lines.its
       all_entries =
           lines.determined (lane_of input.workers) input.workers input.script.entries entries (map (λ (it : LineDone). it.entry) all_lines.its) merged.many
-          (length-map (λ (it : LineDone). it.entry) all_lines.its ∙ same_length input [] input.script.entries all_lines.its all_lines.served) (lane_low input some)
+          (length-map all_lines.its (λ (it : LineDone). it.entry) ∙ same_length input [] input.script.entries all_lines.its all_lines.served) (lane_low input some)
           (λ k low.
-          merged.each k d low ∙ queues_are k low ∙ ap (map (λ (it : LineDone). it.entry)) (sym (all_lines.each k low))
+          merged.each k low ∙ are k low ∙ ap (map (λ (it : LineDone). it.entry)) (sym (all_lines.each k low))
           ∙ sym (lines.of_lane_map (lane_of input.workers) (λ (it : LineDone). it.entry) k input.script.entries all_lines.its))

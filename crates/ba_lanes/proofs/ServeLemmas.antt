@@ -300,7 +300,7 @@ module _ (input : Input) (u n : ℕ) (earlier : List LineDone) (requests : List 
   -- the requests after a line of another lane
   pub skipped_on : (line : ScriptEntry) → Comes input n line → Stand input u (n + length (context_in line)) earlier (requests ++ map (λ context. None) (context_in line))
   skipped_on (said.Begin request name context) comes = record {
-    many = omega (arith, length-append requests (None {X = Request} ∷ []), stand.many);
+    many = let none : Option Request = None in let many = stand.many in omega (arith, length-append requests (none ∷ []), many);
     places = λ number place there. at number place (at_end requests None number place there);
     untold = λ number past. stand.untold number (omega (arith, past));
     unbegun = λ number past. stand.unbegun number (omega (arith, past));

@@ -33,3 +33,7 @@ begin_most (said.Begin r name c) = omega arith
 begin_most (said.Ask r name text) = omega arith
 begin_most (said.End r name) = omega arith
 begin_most (said.Publish n set) = omega arith
+
+pub begun_short : (lines : List ScriptEntry) → length (contexts_of lines) ≤ length lines
+begun_short [] = omega arith
+begun_short (line ∷ lines) = let rest = begun_short lines in let one = begin_most line in omega (arith, rest, one, length-append (context_in line) (contexts_of lines))

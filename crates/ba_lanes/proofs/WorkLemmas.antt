@@ -1,10 +1,10 @@
 -- The lanes of a run before, while and after they are joined.
-use Rattle.std.proofs.Common.{◌≡◌, ◌≢◌, ◌∙◌, refl, sym, ap, subst, ℕ, suc, zero, ◌+◌, ◌<◌, ◌≤◌, ◌⊎◌, inl, inr, Bool, true, false, List, [], ◌∷◌, ◌++◌, length, map, take, drop, get_or, drop-cons, add-one, length-append, append_assoc, arith}
+use Rattle.std.proofs.Common.{◌≡◌, ◌≢◌, ◌∙◌, refl, sym, ap, subst, ℕ, suc, zero, ◌+◌, ◌<◌, ◌≤◌, ◌⊎◌, inl, inr, Bool, true, false, List, [], ◌∷◌, ◌++◌, length, map, take, drop, get_or, drop-cons, add-one, length-append, append_assoc, Result, Ok, Err, arith}
 use Rattle.std.proofs.Math.ListN.{get_or-append}
 use Rattle.std.proofs.Math.Seq.{get_or-append_seam}
 use Rattle.std.proofs.lemmas.Bool.Decides.{nat_tests}
 use Rattle.std.proofs.lemmas.List.{take_all, take_more}
-use Rattle.std.specs.Prelude.{VecDeque, nat_lt, slice_index_or, slice_set}
+use Rattle.std.specs.Prelude.{OnOk, nat_lt, slice_set}
 use Rattle.ba_session.specs.Passing.{AreJoined, AreOf}
 use Rattle.ba_session.specs.declared.service.Passes.{Passes}
 use Rattle.ba_session.specs.declared.service.Service.{Service}
@@ -168,23 +168,40 @@ module _ {L X Q : Type 0} (items : Q → List X) (lane : L → ℕ) (w : ℕ) (l
 
 -- ---- lanes that are joined
 
-get_any : {X : Type 0} (xs : List X) (k : ℕ) (d e : X) → k < length xs → get_or xs k d ≡ get_or xs k e
+-- what is left of a list begins with its next element
+pub next_of : {X : Type 0} (xs : List X) (n : ℕ) (x : X) (rest : List X) → drop n xs ≡ x ∷ rest → (n < length xs) × ((d : X) → x ≡ get_or xs n d) × (rest ≡ drop (suc n) xs)
+next_of [] zero x rest e = absurd (cc)
+next_of [] (suc n) x rest e = absurd (cc)
+next_of (y ∷ xs) zero x rest e = let first : y ≡ x = cc in let behind : xs ≡ rest = cc in (omega arith, λ d. sym first, sym behind)
+next_of (y ∷ xs) (suc n) x rest e = let h = next_of xs n x rest e in let low = h.0 in (omega (arith, low), h.1, h.2)
+
+pub none_of : {X : Type 0} (xs : List X) (n : ℕ) → length (drop n xs) ≡ 0 → length xs ≤ n
+none_of [] n e = omega arith
+none_of (y ∷ xs) zero e = absurd (omega (arith, e))
+none_of (y ∷ xs) (suc n) e = let h = none_of xs n e in omega (arith, h)
+
+pub get_any : {X : Type 0} (xs : List X) (k : ℕ) (d e : X) → k < length xs → get_or xs k d ≡ get_or xs k e
 get_any [] k d e low = absurd (omega (arith, low))
 get_any (x ∷ xs) zero d e low = refl
 get_any (x ∷ xs) (suc k) d e low = get_any xs k d e (omega (arith, low))
 
-some_of : {X : Type 0} (xs : List X) → 0 < length xs → X
+-- a call that went well, of whatever it gives
+pub on_ok : {X E : Type 0} (r : Result X E) (P : Type 0) → P → OnOk r P
+on_ok (Ok x) P p = p
+on_ok (Err e) P p = tt
+
+pub some_of : {X : Type 0} (xs : List X) → 0 < length xs → X
 some_of [] low = absurd (omega (arith, low))
 some_of (x ∷ xs) low = x
 
-module _ {R : Type 0} (input : Input) (service : Service) (works : List (Work R)) where
+module _ {R Q : Type 0} (items : Q → List Entry) (input : Input) (service : Service) (works : List (Work R)) where
   -- what is known once the first i lanes are joined
-  pub record Gathering (i : ℕ) (queues : List (VecDeque Entry)) (p : Passes) : Type 0 where
+  pub record Gathering (i : ℕ) (queues : List Q) (p : Passes) : Type 0 where
     pub done : ℕ → List LineDone
     pub all : (k : ℕ) (d : Work R) → k < input.workers → HasDone input service k (done k) (get_or works k d).lane
     pub at_most : i ≤ input.workers
     pub many : length queues ≡ i
-    pub entries : (k : ℕ) (d : VecDeque Entry) → k < i → (get_or queues k d).items ≡ map (λ it. it.entry) (done k)
+    pub entries : (k : ℕ) (d : Q) → k < i → items (get_or queues k d) ≡ map (λ it. it.entry) (done k)
     pub joined : HaveJoined input.workers i done p
     pub of : AreOf service p
     pub sums : 0 < i → SumUp p
@@ -207,14 +224,14 @@ module _ {R : Type 0} (input : Input) (service : Service) (works : List (Work R)
       family : Chosen input.workers (λ k served. HasDone input service k served (get_or works k one).lane) []
       family = chosen input.workers (λ k served. HasDone input service k served (get_or works k one).lane) [] (λ k low. let it = dones k one low in (it.served, it.has))
 
-  pub gathering_more : (i : ℕ) (queues more : List (VecDeque Entry)) (old new : Passes) (work : Work R) (queue : VecDeque Entry) → i < input.workers → ((d : Work R) → work ≡ get_or works i d) → Gathering i queues old →
-      AreJoined old work.lane.passes new → AreOf service new → queue.items ≡ work.lane.entries.items → more ≡ queues ++ queue ∷ [] → Gathering (i + 1) more new
+  pub gathering_more : (i : ℕ) (queues more : List Q) (old new : Passes) (work : Work R) (queue : Q) → i < input.workers → ((d : Work R) → work ≡ get_or works i d) → Gathering i queues old →
+      AreJoined old work.lane.passes new → AreOf service new → items queue ≡ work.lane.entries.items → more ≡ queues ++ queue ∷ [] → Gathering (i + 1) more new
   gathering_more i queues more old new work queue low work_is h joined of queue_is more_is = record {
     done = h.done;
     all = h.all;
     at_most = omega (arith, low);
     many = let m = h.many in omega (arith, m, ap length more_is, length-append queues (queue ∷ []));
-    entries = each_more (λ k it. it.items ≡ map (λ it. it.entry) (h.done k)) queues more i queue h.entries more_is h.many (queue_is ∙ own.entries);
+    entries = each_more (λ k it. items it ≡ map (λ it. it.entry) (h.done k)) queues more i queue h.entries more_is h.many (queue_is ∙ own.entries);
     joined = have_joined_more input.workers i h.done old work.lane.passes new joined h.joined own.versions own.shelves;
     of = of;
     sums = λ some. sum_up input.workers i h.done old work.lane.passes new joined;
@@ -223,11 +240,10 @@ module _ {R : Type 0} (input : Input) (service : Service) (works : List (Work R)
       own : HasDone input service i (h.done i) work.lane
       own = subst (λ z. HasDone input service i (h.done i) z.lane) (sym (work_is work)) (h.all i work low)
 
-  pub gathered : (i : ℕ) (queues : List (VecDeque Entry)) (p : Passes) → length works ≡ input.workers → 0 < input.workers → input.workers ≤ i → Gathering i queues p → AreGathered input queues p
-  gathered i queues p long some past h = record {
+  pub gathered : (i : ℕ) (queues : List Q) (p : Passes) (d : Q) → length works ≡ input.workers → 0 < input.workers → input.workers ≤ i → Gathering i queues p → AreGathered input (λ k. items (get_or queues k d)) p
+  gathered i queues p d long some past h = record {
     done = h.done;
-    many = h.many ∙ all;
-    entries = λ k d low. h.entries k d (omega (arith, low, past));
+    entries = λ k low. h.entries k d (omega (arith, low, past));
     lines = λ k low. (h.all k (some_of works (omega (arith, some, long))) low).lines_are;
     joined = subst (λ n. HaveJoined input.workers n h.done p) all h.joined;
     sums = h.sums (omega (arith, some, past));

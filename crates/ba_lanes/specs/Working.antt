@@ -1,5 +1,5 @@
 -- What all lanes have to do, and what becomes of it.
-use Rattle.std.specs.Prelude.{◌≡◌, ℕ, ◌<◌, List, [], length, map, slice_index_or, VecDeque}
+use Rattle.std.specs.Prelude.{◌≡◌, ℕ, ◌<◌, List, [], length, map}
 use Rattle.ba_session.specs.declared.service.Passes.{Passes}
 use Rattle.ba_session.specs.declared.service.Service.{Service}
 use Rattle.ba_lanes.specs.Lanes.{of_lane}
@@ -16,15 +16,14 @@ pub record IsWork {R : Type 0} (input : Input) (service : Service) (k : ℕ) (it
   pub ready : IsReady input service k it.lane
 
 -- All lanes are done: the entries of each, and the passes that have joined those of all.
-pub record AreGathered (input : Input) (queues : List (VecDeque Entry)) (p : Passes) : Type 0 where
+pub record AreGathered (input : Input) (entries_of : ℕ → List Entry) (p : Passes) : Type 0 where
   pub done : ℕ → List LineDone
-  pub many : length queues ≡ input.workers
-  pub entries : (k : ℕ) (d : VecDeque Entry) → k < input.workers → (slice_index_or queues k d).items ≡ map (λ it. it.entry) (done k)
+  pub entries : (k : ℕ) → k < input.workers → entries_of k ≡ map (λ it. it.entry) (done k)
   pub lines : (k : ℕ) → k < input.workers → AreServed input [] (lines_in input k input.script.entries) (done k)
   pub joined : HaveJoined input.workers input.workers done p
   pub sums : SumUp p
 
 -- an entry for each line, and those of the lines of each lane are the lane's, in their order
-pub record AreMerged (input : Input) (queues : List (VecDeque Entry)) (entries : List Entry) : Type 0 where
+pub record AreMerged (input : Input) (entries_of : ℕ → List Entry) (entries : List Entry) : Type 0 where
   pub many : length entries ≡ length input.script.entries
-  pub each : (k : ℕ) (d : VecDeque Entry) → k < input.workers → of_lane (lane_of input.workers) k input.script.entries entries ≡ (slice_index_or queues k d).items
+  pub each : (k : ℕ) → k < input.workers → of_lane (lane_of input.workers) k input.script.entries entries ≡ entries_of k

@@ -3,9 +3,9 @@
 
 mod journal;
 mod lane;
-mod serve;
+mod lanes;
 mod share;
 mod work;
 
 pub use journal::{Entry, Input, Journal};
-pub use serve::serve;
+pub use lanes::serve;

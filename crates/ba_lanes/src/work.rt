@@ -111,7 +111,9 @@ pub(crate) fn join<R: Wait>(
     requires done { (k : ℕ) (d : _) → k < input.now.workers
         → IsDone input.now service.now k (slice_index_or works.items k d).lane }
     ensures of { AreOf service.now passes.new }
-    ensures gathered { IfOk result (λ queues. AreGathered input.now queues.items passes.new) }
+    ensures many { IfOk result (λ queues. length queues.items ≡ input.now.workers) }
+    ensures gathered { IfOk result (λ queues. (d : _)
+        → AreGathered input.now (λ k. (slice_index_or queues.items k d).items) passes.new) }
 {
     let mut queues = Vec::with_capacity(alloc, works.len())?;
     for work in works {
@@ -136,7 +138,8 @@ pub(crate) fn merge(
     requires many { length queues.items ≡ input.now.workers }
     requires long { (k : ℕ) (d : _) → k < input.now.workers
         → length (slice_index_or queues.items k d).items ≡ length (lines_in input.now k input.now.script.entries) }
-    ensures { IfOk result (λ entries. AreMerged input.now queues.entry.items entries.items) }
+    ensures { (d : _) → IfOk result (λ entries.
+        AreMerged input.now (λ k. (slice_index_or queues.items k d).items) entries.items) }
 {
     let mut entries = Vec::with_capacity(alloc, input.script.entries.len())?;
     for said in input.script.entries.as_slice() {

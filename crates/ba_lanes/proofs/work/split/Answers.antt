@@ -1,4 +1,51 @@
-use Rattle.std.proofs.Common.{arith, length, ap, refl, sym}
+use Rattle.std.proofs.Common.{◌≡◌, ◌∙◌, ◌∷◌, [], ap, arith, length, length-append, refl, subst}
 use Rattle.ba_lanes.proofs.WorkLemmas.{each_more}
+use Rattle.ba_lanes.specs.Serving.{HaveSplit}
 use Rattle.ba_lanes.specs.Working.{IsWork}
+use Rattle.ba_lanes.specs.declared.work.Work.{Work}
 use Rattle.ba_lanes.proofs.work.split.Goals as goal
+
+pub loop-number-init : goal.loop-number-init
+loop-number-init g c = record {
+  of = c.requires.of;
+  split = c.requires.split;
+  left = c.requires.left;
+  many = ap length c.in_ok-works.ensures.items;
+  room = c.in_ok-works.ensures.capacity;
+  ready = λ k d low. absurd (omega (arith, low));
+}
+
+pub push_reserved-requires : goal.push_reserved-requires
+push_reserved-requires g c =
+    let many = c.loop-number.invariant.many in
+    let room = c.loop-number.invariant.room in
+    let ok = c.loop-number.works.ok.0 in
+    let below = c.loop-number-test.true in
+    omega (arith, many, room, ok, below)
+
+pub loop-number-preserved : goal.loop-number-preserved
+loop-number-preserved g c =
+    let so_far = c.loop-number.invariant in
+    let pushed = c.push_reserved.ensures.items in
+    let lane = c.in_ok-lane.ensures in
+    let work : Work g.row.R.Denot = record { rt = c.args.rt; alloc = c.args.alloc; input = c.args.input; service = c.args.service; lane = c.in_ok-lane.lane } in record {
+      of = lane.of;
+      split = lane.split;
+      left = lane.left;
+      many = let many = so_far.many in omega (arith, many, ap length pushed, length-append c.loop-number.works.items (work ∷ []));
+      room = let room = so_far.room in let same = c.push_reserved.ensures.capacity in omega (arith, room, same);
+      ready = each_more (λ k it. IsWork c.args.input.now c.args.service.now k it) c.loop-number.works.items c.push_reserved.new.self.items c.loop-number.number work so_far.ready pushed so_far.many
+          (record { input_is = refl; service_is = refl; ready = lane.ready });
+    }
+
+pub returns : goal.returns
+returns g c =
+    let all = c.loop-number.invariant in
+    let past = c.loop-number-test.false in
+    let end = c.loop-number.auto.number-end in
+    let is : c.loop-number.number ≡ c.args.input.now.workers = omega (arith, past, end) in record {
+      of = all.of;
+      split = subst (λ n. HaveSplit n c.loop-number.passes) is all.split;
+      many = all.many ∙ is;
+      ready = λ k d low. all.ready k d (omega (arith, low, past));
+    }

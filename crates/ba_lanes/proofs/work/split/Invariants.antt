@@ -1,4 +1,4 @@
-use Rattle.std.proofs.Common.{◌≡◌, ℕ, ◌<◌, get_or, length, vec_capacity}
+use Rattle.std.proofs.Common.{◌≡◌, ℕ, ◌<◌, ◌≤◌, get_or, length, vec_capacity}
 use Rattle.ba_session.specs.Passing.{AreOf}
 use Rattle.ba_lanes.specs.Serving.{HasLeft, HaveSplit}
 use Rattle.ba_lanes.specs.Working.{IsWork}
@@ -11,6 +11,6 @@ invariant-loop-number g l = record {
   split : HaveSplit l.number l.passes;
   left : HasLeft l.input l.number l.passes;
   many : length l.works.items ≡ l.number;
-  room : vec_capacity l.works ≡ l.input.workers;
+  room : l.input.workers ≤ vec_capacity l.works;
   ready : (k : ℕ) (d : _) → k < l.number → IsWork l.input l.service k (get_or l.works.items k d);
 }

@@ -1,4 +1,4 @@
-use Rattle.std.proofs.Common.{◌∙◌, ap, arith, length, subst, sym, take}
+use Rattle.std.proofs.Common.{◌∙◌, ◌++◌, ◌∷◌, [], ap, arith, length, subst, sym, take}
 use Rattle.std.proofs.lemmas.List.{length-take, take_all, take_more}
 use Rattle.ba_lanes.proofs.ShareLemmas.{share_more, share_small}
 use Rattle.ba_lanes.specs.Serving.{IsShare}
