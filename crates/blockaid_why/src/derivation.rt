@@ -11,7 +11,7 @@ use ba_kernel::{Problem, ProblemDraft, Search, Step};
 use ba_model::{Failure, MAX_BUDGET, Query, Shared};
 use std::alloc::{AllocError, Global};
 
-/// The problem of a question after what its request was told.
+// The problem of a question after what its request was told.
 fn problem_of(
     alloc: Global,
     given: &Given,
@@ -35,8 +35,8 @@ fn problem_of(
     }
 }
 
-/// The start of the derivation of a question. There is none where the question isn't one for the policy.
-pub fn start(
+// The start of the derivation of a question. There is none where the question isn't one for the policy.
+fn start(
     alloc: Global,
     given: &Given,
     scene: &Scene,
@@ -47,6 +47,36 @@ pub fn start(
         Some(problem) => Ok(Some(Search::start(alloc, problem)?)),
         None => Ok(None),
     }
+}
+
+/// Tells the steps of a question's derivation from a number on, as many as are shown, and with what it begins where that is the first.
+pub fn tell_derivation(
+    page: &mut Page,
+    given: &Given,
+    scene: &Scene,
+    query: &Shared<Query>,
+    steps: &[Step],
+    from: usize,
+) -> Result<(), AllocError> {
+    let started = start(page.alloc, given, scene, query)?;
+    match started {
+        Some(mut search) => tell_search(page, given, scene, &mut search, steps, from),
+        None => Ok(()),
+    }
+}
+
+fn tell_search(
+    page: &mut Page,
+    given: &Given,
+    scene: &Scene,
+    search: &mut Search,
+    steps: &[Step],
+    from: usize,
+) -> Result<(), AllocError> {
+    if from == 0 {
+        tell_start(page, given, search)?;
+    }
+    tell_steps(page, given, scene, search, steps, from)
 }
 
 // Takes a step, and gives whether it is accepted.
@@ -62,8 +92,8 @@ fn take(alloc: Global, search: &mut Search, step: &Step) -> Result<bool, AllocEr
     }
 }
 
-/// Says with what the cases of a derivation begin.
-pub fn tell_start(page: &mut Page, given: &Given, search: &Search) -> Result<(), AllocError> {
+// Says with what the cases of a derivation begin.
+fn tell_start(page: &mut Page, given: &Given, search: &Search) -> Result<(), AllocError> {
     for number in 0..search.branches() {
         tell_begin(page, given, search, number)?;
     }
@@ -88,8 +118,8 @@ fn tell_begin(
     page.say(4, text.as_str())
 }
 
-/// Takes the steps, and tells those from a number on, as many as are shown.
-pub fn tell_steps(
+// Takes the steps, and tells those from a number on, as many as are shown.
+fn tell_steps(
     page: &mut Page,
     given: &Given,
     scene: &Scene,
@@ -111,7 +141,7 @@ pub fn tell_steps(
     Ok(())
 }
 
-/// How much there is before a step: the facts of its branch, and the numbers of branches.
+// How much there is before a step: the facts of its branch, and the numbers of branches.
 #[derive(Clone, Copy)]
 struct Before {
     facts: usize,

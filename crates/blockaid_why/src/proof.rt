@@ -1,6 +1,6 @@
 //! Answers by a proof, and by the template of one.
 
-use crate::derivation::{start, tell_start, tell_steps};
+use crate::derivation::tell_derivation;
 use crate::given::Given;
 use crate::page::Page;
 use crate::scene::Scene;
@@ -31,11 +31,7 @@ pub fn tell_proof(
     keeping: Keeping,
 ) -> Result<(), AllocError> {
     page.say(2, PREMISE)?;
-    let Some(mut search) = start(page.alloc, given, scene, query)? else {
-        return Ok(());
-    };
-    tell_start(page, given, &search)?;
-    tell_steps(page, given, scene, &mut search, steps.as_slice(), 0)?;
+    tell_derivation(page, given, scene, query, steps.as_slice(), 0)?;
     page.say(2, END)?;
     tell_keeping(page, query, keeping)
 }

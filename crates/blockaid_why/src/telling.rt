@@ -22,20 +22,37 @@ pub fn tell(
     journal: &Journal,
     place: usize,
 ) -> Result<bool, AllocError> {
-    let Some(ScriptEntry::Ask { name, query, .. }) = given.script().entries.find(place) else {
+    let Some(
+        ScriptEntry::Ask {
+            request,
+            name,
+            query,
+        },
+    ) = given.script().entries.find(place)
+    else {
         return Ok(false);
     };
-    let Some(entry) = journal.entries.find(place) else {
-        return Ok(false);
-    };
-    match entry {
-        Entry::Ask { request, reply, .. } => {
-            let scene = Scene::at(page.alloc, given.script(), journal, *request, place)?;
-            let context = context_text(page.alloc, given.policy(), &scene.context)?;
+    let scene = Scene::at(page.alloc, given.script(), journal, *request, place)?;
+    tell_asked(page, given, journal, &scene, place, name, query)
+}
+
+// Explains the reply to a question of that name and text at a place.
+fn tell_asked(
+    page: &mut Page,
+    given: &Given,
+    journal: &Journal,
+    scene: &Scene,
+    place: usize,
+    name: &Str,
+    query: &Str,
+) -> Result<bool, AllocError> {
+    let context = context_text(page.alloc, given.policy(), &scene.context)?;
+    match journal.entries.find(place) {
+        Some(Entry::Ask { reply, .. }) => {
             tell_head(page, place, name, context.as_str(), verdict(reply), query)?;
-            tell_reply(page, given, journal, &scene, query.as_str(), reply)?;
+            tell_reply(page, given, journal, scene, query.as_str(), reply)?;
         }
-        _ => tell_head(page, place, name, "", "no memory", query)?,
+        _ => tell_head(page, place, name, context.as_str(), "no memory", query)?,
     }
     Ok(true)
 }
