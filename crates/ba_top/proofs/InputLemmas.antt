@@ -1,5 +1,5 @@
 -- How the input is read, stage by stage.
-use Rattle.std.proofs.Common.{◌≡◌, ◌∙◌, ◌<◌, ◌≤◌, ◌+◌, [], ◌∷◌, ◌++◌, inr, refl, sym, ap, subst, ℕ, suc, List, Result, Ok, Err, length, drop, take, get_or, add-one, drop-cons, Option, Some, None, length-append, arith}
+use Rattle.std.proofs.Common.{false, ◌≡◌, ◌∙◌, ◌<◌, ◌≤◌, ◌+◌, [], ◌∷◌, ◌++◌, inr, refl, sym, ap, subst, ℕ, suc, List, Result, Ok, Err, length, drop, take, get_or, add-one, drop-cons, Option, Some, None, length-append, arith}
 use Rattle.std.proofs.lemmas.List.{take_more}
 use Rattle.std.proofs.lemmas.List.Elements.{All-append, All-cons, All-nil}
 use Rattle.std.specs.List.{All, AllZip}

@@ -13,21 +13,19 @@ use Rattle.ba_plan.specs.Follows.{Follows}
 use Rattle.ba_plan.specs.Plan.{Plan, done, refuse, ask, comes_of, outcome_of}
 use Rattle.ba_plan.specs.declared.stop.Stop.{Stop}
 use Rattle.ba_plan.specs.declared.stop.Stop.TheVariants.{Refused, Read, TooLong, NoMemory}
-use Rattle.ba_top.specs.Reading.{over}
+use Rattle.ba_top.specs.Reading.{given_stop, over, reading_of, workload_names, workload_reading}
+use Rattle.ba_lanes.specs.declared.journal.Input.{Input}
 use Rattle.ba_top.specs.declared.report.Refusal.{Refusal}
 use Rattle.ba_top.specs.declared.report.Refusal.TheVariants.{Limit}
-use Rattle.ba_workload.specs.Files.{File, FilesHoldTheirBytes, bytes_in, file_of}
+use Rattle.ba_workload.specs.Files.{File, FilesHoldTheirBytes, bytes_in, file_of, files_of}
 
--- what comes of a stop where a file that is too long is a count above its limit
-pub told_stop : {X : Type 0} → Result X (Stop Refusal) → Result X (Stop Refusal)
+-- what comes of a reading of given files
+abbrev pub told_stop : {X : Type 0} → Result X (Stop Refusal) → Result X (Stop Refusal)
 told_stop (Ok x) = Ok x
-told_stop (Err (Refused e)) = Err (Refused e)
-told_stop (Err (Read file)) = Err (Read file)
-told_stop (Err (TooLong file limit)) = Err (Refused (Limit FileBytes limit))
-told_stop (Err NoMemory) = Err NoMemory
+told_stop (Err stop) = Err (given_stop stop)
 
 -- a plan over given files never asks, so that want of memory may stand in place of its end
-no_memory : {X : Type 0} (bytes : List ℕ → List ℕ) (p : Plan Refusal X) (s : FilesSeen) → Follows (over bytes p) s s (Err NoMemory)
+pub no_memory : {X : Type 0} (bytes : List ℕ → List ℕ) (p : Plan Refusal X) (s : FilesSeen) → Follows (over bytes p) s s (Err NoMemory)
 no_memory bytes (done x) s = (tt, refl)
 no_memory bytes (refuse e) s = (tt, refl)
 no_memory bytes (ask name limit next) s = by (no_memory bytes (next (bytes name)) s) (nat_lt limit (length (bytes name)))
@@ -68,3 +66,13 @@ pub workload_follows : {X : Type 0} (held : List Held) (files : List File) → F
 workload_follows held files hold are p f g s r told none still follows =
     over_follows (λ name. unwrap_or (bytes_in files name) []) (held_or_empty held) (λ name. ap (λ z. Some (unwrap_or (z name) [])) (hold held ∙ ap bytes_in are)) p f g s r told
     (subst (λ n. ¬ Rose n g.faults) (sym none) (subst (λ n. ¬ Rose 0 n) (sym still) calm)) follows
+
+-- the input of a workload
+pub reads_workload : (held : List Held) (seed requests workers : ℕ) → FilesHoldTheirBytes → map file_of held ≡ files_of seed requests → (f g : FilesSeen) (r : Result Input (Stop Refusal)) → f.held ≡ Some (held_or_empty held) → f.faults ≡ 0 → g.faults ≡ 0 →
+    Follows (reading_of (workload_names workers)) f g r → (s : FilesSeen) → Follows (workload_reading seed requests workers) s s (told_stop r)
+unfolding workload_reading
+reads_workload held seed requests workers hold are f g r told none still follows s = workload_follows held (files_of seed requests) hold are (reading_of (workload_names workers)) f g s r told none still follows
+
+pub no_memory_for : (seed requests workers : ℕ) (s : FilesSeen) → Follows (workload_reading seed requests workers) s s (Err NoMemory)
+unfolding workload_reading
+no_memory_for seed requests workers s = no_memory (λ name. unwrap_or (bytes_in (files_of seed requests) name) []) (reading_of (workload_names workers)) s

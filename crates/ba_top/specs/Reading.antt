@@ -14,6 +14,8 @@ use Rattle.ba_model.specs.declared.value.Value.{Value}
 use Rattle.ba_model.specs.declared.limits.Counted.TheVariants.{FileBytes}
 use Rattle.ba_model.specs.declared.limits.TheConstants.{BUDGET, MAX_FILE_BYTES}
 use Rattle.ba_plan.specs.Plan.{Plan, done, refuse, ask, found, ◌>>=◌}
+use Rattle.ba_plan.specs.declared.stop.Stop.{Stop}
+use Rattle.ba_plan.specs.declared.stop.Stop.TheVariants.{Refused, Read, TooLong, NoMemory}
 use Rattle.ba_policy.specs.Reading.{policy_of}
 use Rattle.ba_proof.specs.Reading.{proof_of}
 use Rattle.ba_proof.specs.declared.proof.Proof.{Proof}
@@ -125,8 +127,15 @@ over bytes (ask name limit next) = if nat_lt limit (length (bytes name)) then re
 abbrev pub workload_names : ℕ → Names
 workload_names workers = record { schema = codes "schema.sql"; policy = codes "policy.sql"; tables = codes "tables"; script = codes "script.jsonl"; workers = workers; budget = BUDGET }
 
+-- what stops a reading of such files
+abbrev pub given_stop : Stop Refusal → Stop Refusal
+given_stop (Refused why) = Refused why
+given_stop (Read file) = Read file
+given_stop (TooLong file limit) = Refused (Limit FileBytes limit)
+given_stop NoMemory = NoMemory
+
 -- the input of a workload: its files are read as those of a run
-abbrev pub workload_reading : ℕ → ℕ → ℕ → Plan Refusal Input
+unfoldable pub workload_reading : ℕ → ℕ → ℕ → Plan Refusal Input
 workload_reading seed requests workers = over (λ name. unwrap_or (bytes_in (files_of seed requests) name) []) (reading_of (workload_names workers))
 
 -- ---- a check

@@ -14,7 +14,7 @@ use Rattle.ba_lanes.specs.declared.journal.Entry.{Entry}
 use Rattle.ba_lanes.specs.declared.journal.Entry.TheVariants.{Begin, Unbegun, Ask, End, Publish, NoMemory as Unserved}
 use Rattle.ba_lanes.specs.declared.journal.Journal.{Journal}
 use Rattle.ba_top.specs.declared.report.Told.{Told}
-use Rattle.ba_top.specs.declared.report.Told.TheVariants.{Lines, Summary}
+use Rattle.ba_top.specs.declared.report.Told.TheVariants as told
 use Rattle.ba_wire.specs.Printed.{Printed, begin, end, publish, answer, block, unread, memory, line_bytes, summary_bytes}
 use Rattle.ba_wire.specs.declared.line.By.{By as PrintedBy}
 use Rattle.ba_wire.specs.declared.line.By.TheVariants as by
@@ -157,5 +157,5 @@ lines_of script journal = lines_from script.entries 1 journal.entries ++ total_b
 
 -- what is told of a run: these, or the summary alone
 abbrev pub told_lines : Told → Script → Journal → List (List ℕ)
-told_lines Lines script journal = lines_of script journal
-told_lines Summary script journal = total_bytes journal.entries ∷ []
+told_lines told.Lines script journal = lines_of script journal
+told_lines told.Summary script journal = total_bytes journal.entries ∷ []

@@ -69,7 +69,7 @@ fn is_unread(entry: &Entry) -> bool
     }
 }
 
-#[tactic(auto, unfolding(crate::specs::Legal::is_memory))]
+#[tactic(auto, unfolding(ba_lanes::specs::Legal::is_memory))]
 fn is_memory(entry: &Entry) -> bool
     ensures { result ≡ is_memory entry.now }
 {

@@ -1,11 +1,11 @@
 //! Reads a workload.
-ghost use Rattle.std.specs.Prelude.{◌<◌, ◌≤◌, IfOk};
+ghost use Rattle.std.specs.Prelude.{◌≡◌, ◌<◌, ◌≤◌, IfOk};
 ghost use Rattle.ba_lanes.specs.Legal.{IsInput};
 ghost use Rattle.ba_model.specs.declared.limits.TheConstants.{MAX_WORKERS as most_workers};
 ghost use Rattle.ba_outside.specs.Seen.{FilesSeen};
 ghost use Rattle.ba_plan.specs.Follows.{Follows};
 ghost use Rattle.ba_top.specs.Checking.{IsTask};
-ghost use Rattle.ba_top.specs.Reading.{workload_plan, workload_reading};
+ghost use Rattle.ba_top.specs.Reading.{given_stop, workload_plan, workload_reading};
 
 use crate::input::{Named, read_named};
 use crate::report::{Refusal, Task, Told};
@@ -16,6 +16,21 @@ use ba_plan::Stop;
 use ba_workload::laws::files_hold_their_bytes;
 use ba_workload::{POLICY_FILE, SCHEMA_FILE, SCRIPT_FILE, TABLE_SET, script_text, workload};
 use std::alloc::Global;
+
+// What stops a reading of files that are given: one that is too long is a count above its limit.
+fn given_stop(stop: Stop<Refusal>) -> Stop<Refusal>
+    ensures { result ≡ given_stop stop }
+{
+    match stop {
+        Stop::Refused(refusal) => Stop::Refused(refusal),
+        Stop::Read(file) => Stop::Read(file),
+        Stop::TooLong(_, limit) => Stop::Refused(Refusal::Limit {
+            what: Counted::FileBytes,
+            limit,
+        }),
+        Stop::NoMemory => Stop::NoMemory,
+    }
+}
 
 // The input that the workload's files come to.
 fn workload_input(
@@ -40,11 +55,8 @@ fn workload_input(
         budget: BUDGET,
     };
     match read_named(alloc, &mut files, &named) {
-        Err(Stop::TooLong(_, limit)) => Err(Stop::Refused(Refusal::Limit {
-            what: Counted::FileBytes,
-            limit,
-        })),
-        read => read,
+        Ok(input) => Ok(input),
+        Err(stop) => Err(given_stop(stop)),
     }
 }
 
