@@ -19,7 +19,7 @@ pub const MOST_ROWS: usize = 12;
 pub struct Page {
     pub alloc: Global,
     text: String,
-    /// How many bytes the last line has.
+    /// How many bytes the last line has at most.
     column: usize,
     /// Whether it has nothing but blanks.
     is_blank: bool,
@@ -89,22 +89,25 @@ impl Page {
 
     // Adds a word to the last line, or to a new one where it doesn't fit.
     fn put_word(&mut self, indent: usize, word: &str) -> Result<(), AllocError> {
-        let after = self.column.saturating_add(word.len().min(VALUE_BYTES));
+        let width = if word.len() > VALUE_BYTES {
+            VALUE_BYTES + 2
+        } else {
+            word.len()
+        };
         if self.is_blank {
-            return self.put(word);
+            return self.put(word, width);
         }
-        if after >= COLUMNS {
+        if self.column.saturating_add(width) >= COLUMNS {
             self.text.push('\n')?;
             self.begin_line(indent.saturating_add(2))?;
-            return self.put(word);
+            return self.put(word, width);
         }
         self.text.push(' ')?;
-        self.column = self.column.saturating_add(1);
-        self.put(word)
+        self.put(word, width.saturating_add(1))
     }
 
-    // Adds a word, or what is shown of it, to the last line.
-    fn put(&mut self, word: &str) -> Result<(), AllocError> {
+    // Adds a word, or what is shown of it, to the last line, which gets so many bytes longer.
+    fn put(&mut self, word: &str, width: usize) -> Result<(), AllocError> {
         self.is_blank = false;
         match front(word, VALUE_BYTES) {
             Some(front) => {
@@ -113,7 +116,7 @@ impl Page {
             }
             None => self.text.push_str(word)?,
         }
-        self.column = self.column.saturating_add(word.len().min(VALUE_BYTES));
+        self.column = self.column.saturating_add(width);
         Ok(())
     }
 
