@@ -90,25 +90,25 @@ fn two_workers_at_a_hold_gate(rt: HostRuntime) -> Result<(), Fail> {
     Ok(())
 }
 
-// Whether a run by sixteen workers whose write of that number fails, each of a single byte, ends with status 5 and leaves
-// just the bytes before it.
-fn fails_at<R: Threads + Wait + Sync>(
+// Whether a run by sixteen workers whose writes take a byte each, and fail behind these, ends with status 5 and leaves just these.
+fn fails_behind<R: Threads + Wait + Sync>(
     rt: &R,
     alloc: Global,
-    number: usize,
+    front: &[u8],
 ) -> Result<bool, AllocError> {
     let words = words(alloc, "16")?;
     let mut files = files(alloc)?;
-    let mut sink = failing_sink(alloc, number, vec![in alloc; 1usize; LINES.len()]?)?;
+    let mut sink = failing_sink(alloc, front.len(), vec![in alloc; 1usize; LINES.len()]?)?;
     let outcome = blockaid(rt, alloc, &words, &mut files, &mut sink, &FreeGate);
-    Ok(outcome.status == 5 && sink.bytes() == &LINES.as_bytes()[..number])
+    Ok(outcome.status == 5 && sink.bytes() == front)
 }
 
 #[test]
 fn each_write_of_sixteen_workers_lines_fails_in_turn(rt: HostRuntime) -> Result<(), Fail> {
     let alloc = rt.alloc();
-    for number in 0..LINES.len() {
-        assert!(rt; fails_at(&rt, alloc, number)?, "{number}");
+    let text = LINES.as_bytes();
+    for number in 0..text.len() {
+        assert!(rt; fails_behind(&rt, alloc, &text[..number])?, "{number}");
     }
     Ok(())
 }
