@@ -1,0 +1,74 @@
+//! What the run read: its policy and its script.
+ghost use Rattle.std.specs.Prelude.{◌≡◌, [], IfOk};
+ghost use Rattle.ba_kernel.specs.Drafts.{IsChecked};
+ghost use Rattle.ba_model.specs.SchemaFaults.{AreTables};
+
+use ba_kernel::laws::checked_links_fit;
+use ba_model::{Policy, Schema, Shared};
+use ba_policy::read_policy;
+use ba_script::{Script, read_script};
+use ba_sql_ddl::read_schema;
+use std::alloc::{AllocError, Global};
+use std::marker::Model;
+
+/// A policy and a script for it. A contract sees the policy, which the type keeps to be a checked one.
+#[derive(Drop)]
+pub struct Given {
+    policy: Shared<Policy>,
+    script: Script,
+}
+
+impl Model for Given {
+    ghost use Rattle.ba_kernel.specs.Drafts.{IsChecked};
+    ghost use Rattle.ba_model.specs.declared.policy.Policy.{Policy as Views};
+
+    ghost Value = { Views };
+
+    ghost view = { λ it. it.policy };
+
+    ghost invariant = { λ it. IsChecked it.policy };
+}
+
+impl Given {
+    /// What these bytes are, as the run read them. They have readings, so that an error is want of memory.
+    pub fn read(
+        alloc: Global,
+        schema: &[u8],
+        policy: &[u8],
+        script: &[u8],
+    ) -> Result<Given, AllocError> {
+        checked_links_fit();
+        let schema = schema_of(alloc, schema)?;
+        let Ok(policy) = read_policy(alloc, &schema, policy) else {
+            return Err(AllocError);
+        };
+        let policy = Shared::new(alloc, policy)?;
+        let Ok(script) = read_script(alloc, &policy.params, script) else {
+            return Err(AllocError);
+        };
+        Ok(Given { policy, script })
+    }
+
+    /// The policy.
+    pub fn policy(&self) -> &Shared<Policy>
+        ensures is { result.now ≡ self.now }
+        ensures checked { IsChecked result.now }
+    {
+        &self.policy
+    }
+
+    /// The script.
+    pub fn script(&self) -> &Script {
+        &self.script
+    }
+}
+
+fn schema_of(alloc: Global, bytes: &[u8]) -> Result<Shared<Schema>, AllocError>
+    ensures tables { IfOk result (λ schema. AreTables schema.tables) }
+    ensures rules { IfOk result (λ schema. schema.rules ≡ []) }
+{
+    match read_schema(alloc, bytes) {
+        Ok(schema) => Shared::new(alloc, schema),
+        Err(_) => Err(AllocError),
+    }
+}

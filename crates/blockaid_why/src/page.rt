@@ -1,0 +1,132 @@
+//! Plain text for a terminal.
+
+use std::alloc::{AllocError, Global};
+
+/// How many columns a line has at most.
+const COLUMNS: usize = 80;
+
+/// How many bytes of a value and of a word are shown.
+pub const VALUE_BYTES: usize = 60;
+
+/// How many bytes of a sentence and of a query are shown.
+const TEXT_BYTES: usize = 600;
+
+/// How many rows of a table, and how many steps, are shown.
+pub const MOST_ROWS: usize = 12;
+
+/// Lines of at most 80 columns.
+#[derive(Drop)]
+pub struct Page {
+    pub alloc: Global,
+    text: String,
+    /// How many bytes the last line has at most.
+    column: usize,
+    /// Whether it has nothing but blanks.
+    is_blank: bool,
+}
+
+// The front of a text of more bytes: its whole characters within so many.
+fn front(text: &str, most: usize) -> Option<&str> {
+    if text.len() <= most {
+        return None;
+    }
+    for back in 0..4usize {
+        let front = text.get(..most.saturating_sub(back));
+        if front.is_some() {
+            return front;
+        }
+    }
+    Some("")
+}
+
+/// The text as it is shown: so many bytes of it, with blanks for its control characters.
+pub fn shown(alloc: Global, text: &str, most: usize) -> Result<String, AllocError> {
+    let cut = front(text, most);
+    let mut plain = String::new(alloc);
+    for c in cut.unwrap_or(text).chars() {
+        plain.push(if c.is_control() { ' ' } else { c })?;
+    }
+    if cut.is_some() {
+        plain.push_str("..")?;
+    }
+    Ok(plain)
+}
+
+impl Page {
+    /// An empty page.
+    pub fn new(alloc: Global) -> Page {
+        Page {
+            alloc,
+            text: String::new(alloc),
+            column: 0,
+            is_blank: true,
+        }
+    }
+
+    /// What is written on it.
+    pub fn text(&self) -> &str {
+        self.text.as_str()
+    }
+
+    /// Adds a text on lines of its own, which begin so many columns in, and two more where they go on.
+    pub fn say(&mut self, indent: usize, text: &str) -> Result<(), AllocError> {
+        let plain = shown(self.alloc, text, TEXT_BYTES)?;
+        self.begin_line(indent)?;
+        for word in plain.as_str().split(' ') {
+            self.put_word(indent, word)?;
+        }
+        self.text.push('\n')
+    }
+
+    /// Says how many more there are than are shown, if there are any.
+    pub fn say_left(&mut self, indent: usize, count: usize) -> Result<(), AllocError> {
+        if count == 0 {
+            return Ok(());
+        }
+        let text = format!(in self.alloc; ".. and {count} more")?;
+        self.say(indent, text.as_str())
+    }
+
+    // Adds a word to the last line, or to a new one where it doesn't fit.
+    fn put_word(&mut self, indent: usize, word: &str) -> Result<(), AllocError> {
+        let width = if word.len() > VALUE_BYTES {
+            VALUE_BYTES + 2
+        } else {
+            word.len()
+        };
+        if self.is_blank {
+            return self.put(word, width);
+        }
+        if self.column.saturating_add(width) >= COLUMNS {
+            self.text.push('\n')?;
+            self.begin_line(indent.saturating_add(2))?;
+            return self.put(word, width);
+        }
+        self.text.push(' ')?;
+        self.put(word, width.saturating_add(1))
+    }
+
+    // Adds a word, or what is shown of it, to the last line, which gets so many bytes longer.
+    fn put(&mut self, word: &str, width: usize) -> Result<(), AllocError> {
+        self.is_blank = false;
+        match front(word, VALUE_BYTES) {
+            Some(front) => {
+                self.text.push_str(front)?;
+                self.text.push_str("..")?;
+            }
+            None => self.text.push_str(word)?,
+        }
+        self.column = self.column.saturating_add(width);
+        Ok(())
+    }
+
+    // Begins a line.
+    fn begin_line(&mut self, indent: usize) -> Result<(), AllocError> {
+        for _ in 0..indent {
+            self.text.push(' ')?;
+        }
+        self.column = indent;
+        self.is_blank = true;
+        Ok(())
+    }
+}

@@ -1,0 +1,198 @@
+//! Steps of a derivation in words.
+
+use crate::given::Given;
+use crate::scene::Scene;
+use crate::text::{atom_text, columns_text, fact_text, view_name};
+use ba_facts::{Branch, TermAtom};
+use ba_kernel::{Search, Step};
+use ba_model::{Duplicate, List, Table};
+use std::alloc::{AllocError, Global};
+
+/// The same step.
+pub fn copy_step(alloc: Global, step: &Step) -> Result<Step, AllocError> {
+    match step {
+        Step::Entry { branch, entry } => Ok(Step::Entry {
+            branch: *branch,
+            entry: *entry,
+        }),
+        Step::Key {
+            branch,
+            key,
+            left,
+            right,
+        } => Ok(Step::Key {
+            branch: *branch,
+            key: *key,
+            left: *left,
+            right: *right,
+        }),
+        Step::Link { branch, link, fact } => Ok(Step::Link {
+            branch: *branch,
+            link: *link,
+            fact: *fact,
+        }),
+        Step::Rule {
+            branch,
+            rule,
+            part,
+            facts,
+        } => Ok(Step::Rule {
+            branch: *branch,
+            rule: *rule,
+            part: *part,
+            facts: facts.copy(alloc)?,
+        }),
+        Step::View {
+            branch,
+            view,
+            part,
+            facts,
+        } => Ok(Step::View {
+            branch: *branch,
+            view: *view,
+            part: *part,
+            facts: facts.copy(alloc)?,
+        }),
+        Step::Split { branch, atom } => Ok(Step::Split {
+            branch: *branch,
+            atom: atom.copy(alloc)?,
+        }),
+        Step::Absurd { branch } => Ok(Step::Absurd { branch: *branch }),
+        Step::Goal {
+            branch,
+            part,
+            facts,
+        } => Ok(Step::Goal {
+            branch: *branch,
+            part: *part,
+            facts: facts.copy(alloc)?,
+        }),
+    }
+}
+
+/// Why a step was taken, after it: what goes before the facts that it adds. `branches` is how many numbers of branches there were before.
+pub fn cause_text(
+    alloc: Global,
+    given: &Given,
+    scene: &Scene,
+    search: &Search,
+    branches: u32,
+    step: &Step,
+) -> Result<String, AllocError> {
+    match step {
+        Step::Entry { entry, .. } => {
+            let told = scene.told_in_all(alloc, *entry)?;
+            format!(in alloc; "{told}, so ")
+        }
+        Step::Key {
+            branch,
+            key,
+            left,
+            ..
+        } => key_text(alloc, given, search.branch(*branch), *key, *left),
+        Step::Link { branch, link, fact } => {
+            link_text(alloc, given, search.branch(*branch), *link, *fact)
+        }
+        Step::Rule { .. } => String::from_str(alloc, "by a rule of the schema "),
+        Step::View {
+            branch,
+            view,
+            facts,
+            ..
+        } => {
+            let name = view_name(given.policy(), *view as usize);
+            let facts = used_text(alloc, given, search.branch(*branch), facts)?;
+            format!(in alloc; "view {name} shows a row of {facts}, so ")
+        }
+        Step::Split { branch, atom } => {
+            split_text(alloc, given, search.branch(*branch), branches, atom)
+        }
+        Step::Absurd { .. } => String::from_str(alloc, "what is known can't be true"),
+        Step::Goal { .. } => {
+            String::from_str(alloc, "so the question gives the row in the second too")
+        }
+    }
+}
+
+// The table of the fact of a number, if it is there.
+fn table_of<'a>(given: &'a Given, branch: &Branch, number: u32) -> Option<&'a Table> {
+    let table = branch.facts.find(number as usize)?.table;
+    given.policy().schema.tables.find(table as usize)
+}
+
+// Two rows are one by a key: the columns of the key, and the row.
+fn key_text(
+    alloc: Global,
+    given: &Given,
+    branch: Option<&Branch>,
+    key: u32,
+    number: u32,
+) -> Result<String, AllocError> {
+    if let Some(branch) = branch
+        && let Some(table) = table_of(given, branch, number)
+        && let Some(columns) = table.keys.find(key as usize)
+        && let Some(fact) = branch.facts.find(number as usize)
+    {
+        let columns = columns_text(alloc, table, columns)?;
+        let fact = fact_text(alloc, given.policy(), branch, fact)?;
+        return format!(in alloc; "by the key {columns} two rows are one: {fact}");
+    }
+    String::from_str(alloc, "by a key two rows are one")
+}
+
+// Facts of these numbers.
+fn used_text(
+    alloc: Global,
+    given: &Given,
+    branch: Option<&Branch>,
+    numbers: &List<u32>,
+) -> Result<String, AllocError> {
+    let mut texts = Vec::new(alloc);
+    for number in numbers.as_slice() {
+        if let Some(branch) = branch
+            && let Some(fact) = branch.facts.find(*number as usize)
+        {
+            let text = fact_text(alloc, given.policy(), branch, fact)?;
+            texts.push(text)?;
+        }
+    }
+    texts.join(alloc, ", ")
+}
+
+// A row has its target by a link: the row, and the columns of the link.
+fn link_text(
+    alloc: Global,
+    given: &Given,
+    branch: Option<&Branch>,
+    link: u32,
+    number: u32,
+) -> Result<String, AllocError> {
+    if let Some(branch) = branch
+        && let Some(table) = table_of(given, branch, number)
+        && let Some(link) = table.links.find(link as usize)
+        && let Some(fact) = branch.facts.find(number as usize)
+    {
+        let fact = fact_text(alloc, given.policy(), branch, fact)?;
+        let columns = columns_text(alloc, table, &link.columns)?;
+        return format!(in alloc; "{fact} links by {columns}, so ");
+    }
+    String::from_str(alloc, "by a link ")
+}
+
+// A comparison holds in one case, and not in the other.
+fn split_text(
+    alloc: Global,
+    given: &Given,
+    branch: Option<&Branch>,
+    branches: u32,
+    atom: &TermAtom,
+) -> Result<String, AllocError> {
+    let other = branches.saturating_add(1);
+    match branch {
+        Some(branch) => {
+            let atom = atom_text(alloc, given.policy(), branch, atom)?;
+            format!(in alloc; "{atom} here, and not in case {other}")
+        }
+        None => String::from_str(alloc, "a comparison holds, or it doesn't"),
+    }
+}

@@ -1,0 +1,122 @@
+//! Blocks that show nothing of the question: a search that was spent, and one that is stuck.
+
+use crate::derivation::tell_derivation;
+use crate::given::Given;
+use crate::page::Page;
+use crate::scene::Scene;
+use ba_instant::Leaf;
+use ba_kernel::Step;
+use ba_model::{List, MAX_BUDGET, Query, Shared};
+use ba_refute::Clause;
+use std::alloc::{AllocError, Global};
+
+// How many of the last steps are told.
+const LAST_STEPS: usize = 3;
+
+/// Says what a search that was spent went on adding.
+pub fn tell_spent(
+    page: &mut Page,
+    given: &Given,
+    scene: &Scene,
+    query: &Shared<Query>,
+    steps: &List<Step>,
+) -> Result<(), AllocError> {
+    let alloc = page.alloc;
+    let count = steps.len();
+    let kinds = kinds_text(alloc, steps.as_slice())?;
+    let text = format!(in alloc;
+        "The search took all {count} steps of its budget, and could have gone on: {kinds}. The last ones are (x1, x2, .. stand for values):"
+    )?;
+    page.say(2, text.as_str())?;
+    let from = count.saturating_sub(LAST_STEPS);
+    tell_derivation(page, given, scene, query, steps.as_slice(), from)?;
+    tell_budget(page, count as u64)
+}
+
+// Says what gives a search more steps.
+fn tell_budget(page: &mut Page, count: u64) -> Result<(), AllocError> {
+    if count >= MAX_BUDGET {
+        return page.say(
+            2,
+            "Nothing is shown of the question. There is no greater budget.",
+        );
+    }
+    let text = format!(in page.alloc;
+        "Nothing is shown of the question. --budget gives the search more steps, up to {MAX_BUDGET}; they may not suffice."
+    )?;
+    page.say(2, text.as_str())
+}
+
+// The kind of a step.
+fn kind_of(step: &Step) -> &'static str {
+    match step {
+        Step::Entry { .. } => "by earlier answers",
+        Step::Key { .. } => "by keys",
+        Step::Link { .. } => "by links",
+        Step::Rule { .. } => "by rules",
+        Step::View { .. } => "by views",
+        Step::Split { .. } => "by cases",
+        Step::Absurd { .. } => "by what can't be true",
+        Step::Goal { .. } => "by the question",
+    }
+}
+
+// How many steps there are of each kind.
+fn kinds_text(alloc: Global, steps: &[Step]) -> Result<String, AllocError> {
+    let mut texts = Vec::new(alloc);
+    for kind in [
+        "by earlier answers",
+        "by keys",
+        "by links",
+        "by rules",
+        "by views",
+        "by cases",
+        "by what can't be true",
+        "by the question",
+    ] {
+        let count = count_of(steps, kind);
+        if count > 0 {
+            let text = format!(in alloc; "{count} {kind}")?;
+            texts.push(text)?;
+        }
+    }
+    texts.join(alloc, ", ")
+}
+
+fn count_of(steps: &[Step], kind: &str) -> usize {
+    let mut count = 0usize;
+    for step in steps {
+        if kind_of(step) == kind {
+            count = count.saturating_add(1);
+        }
+    }
+    count
+}
+
+/// Says at what a search is stuck.
+pub fn tell_stuck(page: &mut Page, leaf: &Leaf, clause: Clause) -> Result<(), AllocError> {
+    let steps = leaf.steps.len();
+    let facts = leaf.branch.facts.len();
+    let why = clause_text(clause);
+    let text = format!(in page.alloc;
+        "The search ended after {steps} steps, at a branch with {facts} facts where no step is new. The two databases that were made of it don't refute the question: {why}."
+    )?;
+    page.say(2, text.as_str())?;
+    page.say(
+        2,
+        "Nothing is shown of the question; more steps would change nothing.",
+    )
+}
+
+// What two databases don't meet.
+fn clause_text(clause: Clause) -> &'static str {
+    match clause {
+        Clause::Value => "a number in them would be past 64 bits",
+        Clause::ConformOne => "the first breaks a key or a link",
+        Clause::ConformTwo => "the second breaks a key or a link",
+        Clause::Within => "a view shows a row of the first that it doesn't show of the second",
+        Clause::Shown => "the first doesn't give an earlier answer all its rows",
+        Clause::Asked => "the question doesn't give the branch's row in the first",
+        Clause::Absent => "the question gives the branch's row in the second too",
+    }
+}
