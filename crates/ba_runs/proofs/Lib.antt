@@ -1,0 +1,12 @@
+pub mod ScriptLemmas
+pub mod TakesLemmas
+pub mod HistoryLemmas
+pub mod BetweenLemmas
+pub mod LineLemmas
+pub mod ComplyLemmas
+pub mod ReadingLemmas
+pub mod RequestLemmas
+pub mod OneLaneLemmas
+pub mod AdditionLemmas
+pub mod OneWorkerLemmas
+pub mod StandingLemmas
