@@ -1,4 +1,6 @@
 mod answers;
 mod compared;
 mod covers;
+mod steps;
+mod tables;
 mod written;

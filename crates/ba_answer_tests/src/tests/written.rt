@@ -25,9 +25,14 @@ fn schema(rt: &impl Handle, text: &str) -> Shared<Schema> {
 
 /// The policy of the view V; its text may go on with further views.
 pub fn policy(rt: &impl Handle, view: &str) -> Policy {
+    policy_over(rt, SCHEMA, view)
+}
+
+/// The policy of the view V over a schema of this text.
+pub fn policy_over(rt: &impl Handle, tables: &str, view: &str) -> Policy {
     let text = format!(in rt.alloc(); "PARAM N INT; CREATE VIEW V AS {view};");
     let text = text.expect(rt, "memory");
-    read_policy(rt.alloc(), &schema(rt, SCHEMA), text.as_bytes()).expect(rt, "a policy")
+    read_policy(rt.alloc(), &schema(rt, tables), text.as_bytes()).expect(rt, "a policy")
 }
 
 /// A policy of one view, which is this query.
