@@ -1,10 +1,13 @@
 /* Refuses requests for memory of the program that it is loaded into, for bench/refused_memory.py: the one of the number in REFUSE_AT,
- * counted from 1, and with REFUSE_ON all later ones too. At the program's end it writes how many there were to the file of REFUSE_TOLD. */
+ * counted from 1, and with REFUSE_ON all later ones too. At the program's end, which is a call of _exit, it writes how many there were to
+ * the file of REFUSE_TOLD. */
+#define _GNU_SOURCE
 #include <errno.h>
 #include <fcntl.h>
 #include <stdatomic.h>
 #include <stdio.h>
 #include <stdlib.h>
+#include <sys/syscall.h>
 #include <unistd.h>
 
 void *__libc_malloc(size_t size);
@@ -43,14 +46,22 @@ void *realloc(void *block, size_t size) {
     return is_refused() ? NULL : __libc_realloc(block, size);
 }
 
-__attribute__((destructor)) static void end(void) {
+/* Whether the count was written, or none is asked for. */
+static int is_told(void) {
     char text[24];
     const char *told = getenv("REFUSE_TOLD");
-    int file = told != NULL ? open(told, O_WRONLY | O_CREAT | O_TRUNC, 0600) : -1;
+    if (told == NULL)
+        return 1;
+    int file = open(told, O_WRONLY | O_CREAT | O_TRUNC, 0600);
     if (file < 0)
-        return;
+        return 0;
     int length = snprintf(text, sizeof text, "%lu", atomic_load(&requests));
-    if (write(file, text, length) != length)
-        _exit(125);
+    int is = write(file, text, length) == length;
     close(file);
+    return is;
+}
+
+void _exit(int status) {
+    syscall(SYS_exit_group, is_told() ? status : 125);
+    __builtin_unreachable();
 }

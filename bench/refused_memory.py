@@ -9,7 +9,9 @@ program is loaded with. Of each run with a refused request it tests that
 - it ends with status 0 or 6, and by no signal;
 - what it wrote is whole lines of compact JSON, each legal, and with status 0 the whole text without a line that says `memory`;
 - each line is what the same script gives where the lines that found no memory don't stand in it, so that later lines of a request are as
-  if such a line had not been. `template` and `proof` are one answer here: a proof whose template found no memory is made once more;
+  if such a line had not been. `template` and `proof` are one answer here: a proof whose template found no memory is made once more. Where
+  several workers serve a script that publishes, a request may begin before the publish line or behind it: each is compared with what it
+  gives alone, over the version that its begin line tells;
 - the summary, where it was written, is that of the lines above it.
 
 Prints a Markdown table, and each run that failed a test. Ends with 1 where there was one. --most bounds how many requests of each run are
@@ -80,21 +82,45 @@ class Case:
 
     def lines_without(self, left_out):
         """What the script gives, by the number of each line that isn't left out, where those lines don't stand in it."""
-        key = tuple(sorted(left_out))
+        return self.lines_in([number for number in range(1, len(self.script) + 1) if number not in left_out])
+
+    def lines_in(self, kept):
+        """What the lines of these numbers give in this order, by one worker, each with its number in the whole script."""
+        key = tuple(kept)
         if key not in self.texts:
-            kept = [number for number in range(1, len(self.script) + 1) if number not in left_out]
             with open(os.path.join(self.folder, "kept"), "w", encoding="utf-8") as it:
                 it.write("".join(self.script[number - 1] + "\n" for number in kept))
-            words = list(self.words)
+            words = self.words[: self.words.index("--workers")] if self.workers != 1 else list(self.words)
             words[words.index("--script") + 1] = "kept"
             status, text, _ = self.run(words=words)
             lines = [json.loads(line) for line in text.splitlines()[:-1]]
             if status != 0 or len(lines) != len(kept):
-                raise ValueError(f"without the lines {key} the script ends with {status}")
+                raise ValueError(f"with the lines {key} alone the script ends with {status}")
             for number, line in zip(kept, lines):
                 line["line"] = number
             self.texts[key] = dict(zip(kept, lines))
         return self.texts[key]
+
+    def publishes(self):
+        return any("publish" in json.loads(line) for line in self.script)
+
+    def lines_by_request(self, left_out, versions):
+        """The same by each request alone, which begins over the version of its begin line. Its script has at most one publish line."""
+        found, requests, publishing = {}, {}, []
+        for number, text in enumerate(self.script, 1):
+            line = json.loads(text)
+            if "publish" in line:
+                publishing.append(number)
+            else:
+                requests.setdefault(line.get("begin", line.get("ask", line.get("end"))), []).append(number)
+        for number in publishing[:1]:
+            found[number] = {"line": number, "publish": json.loads(self.script[number - 1])["publish"], "version": 1}
+        for numbers in requests.values():
+            first = publishing if versions.get(numbers[0]) else []
+            others = set(range(1, len(self.script) + 1)) - set(numbers) - set(first)
+            order = first + [number for number in numbers if number not in left_out]
+            found.update((number, line) for number, line in self.lines_in(order).items() if number not in others | set(first))
+        return found
 
     def unbegun(self, memory):
         """The numbers of the lines whose request found no memory when it began."""
@@ -146,7 +172,11 @@ def fault_of_run(case, status, text):
         return "status 0 with a line that found no memory"
     if not case.unbegun(memory) & set(range(1, len(lines) + 1)) <= memory:
         return "a line of a request that wasn't begun"
-    wanted = case.lines_without(memory | case.unbegun(memory))
+    left_out = memory | case.unbegun(memory)
+    if case.workers != 1 and case.publishes():
+        wanted = case.lines_by_request(left_out, {number: line.get("version") for number, line in enumerate(lines, 1)})
+    else:
+        wanted = case.lines_without(left_out)
     for number, line in enumerate(lines, 1):
         if number not in memory and not same(line, wanted.get(number)):
             return f"line {number} is {compact(line)}, not {compact(wanted.get(number))}"
@@ -190,7 +220,8 @@ def refuse_all(case, most):
         return 0
     with open(os.path.join(case.folder, "expected"), "rb") as it:
         expected = it.read()
-    if whole != expected or count is None:
+    is_as_wanted = whole == expected if case.workers == 1 else fault_of(case, status, whole, whole) is None
+    if not is_as_wanted or count is None:
         print(f"{case.name}: without a refusal it ends with {status} and another text", file=sys.stderr)
         return 1
     failed = 0

@@ -44,9 +44,8 @@ impl End {
 pub struct Case {
     words: String,
     pub wanted: End,
-    /// Whether several workers must end it alike: it is a run that leaves their number open and publishes nothing. Where it gives a
-    /// budget, none is answered by template or spent: within few steps a template may answer what no search proves, and which
-    /// requests find it goes by who comes first.
+    /// Whether several workers must end it alike: it is a run that leaves their number open and publishes nothing, and its folder has
+    /// no file `order`, which tells why its lines go by who comes first.
     pub is_for_many: bool,
 }
 
@@ -57,11 +56,6 @@ fn words_of(alloc: Global, text: &str) -> Result<Vec<String>, AllocError> {
         words.push(String::from_str(alloc, word)?)?;
     }
     Ok(words)
-}
-
-// Whether a question was answered by template, or was spent.
-fn goes_by_steps(text: &str) -> bool {
-    text.contains("\"by\":\"template\"") || text.contains("\"blocked\":\"spent\"")
 }
 
 // The text of a folder's file.
@@ -82,7 +76,7 @@ impl Case {
         let is_for_many = words.starts_with("run\n")
             && !words.contains("--workers")
             && !text.contains("\"publish\":")
-            && !(words.contains("--budget") && goes_by_steps(text.as_str()));
+            && text_in(rt, folder, "order").is_err();
         Ok(Case {
             words,
             wanted: End {

@@ -1,7 +1,7 @@
 //! `blockaid_cases [FOLDER]`: runs the top call on each case of a folder (the one that it is run in, if none is named)
 //! and says of each whether its run ended as it must; and of those that leave the number of workers open and
-//! publish nothing, whether a run by four workers ended so too, but for which answers are by proof and which by template. (A case with a budget
-//! is left out of these where a question is answered by template or spent.)
+//! publish nothing, whether a run by four workers ended so too, but for which answers are by proof and which by template. (Left out is a case with
+//! a file `order`: its lines go by the order in which requests come.)
 //!
 //! A case is a folder: the input files, `words` (a word on each line, without the program's name), `expected` (the bytes
 //! that the run must write) and `status` (the status that it must end with). Names in its words are relative to it.
