@@ -5,12 +5,16 @@
 
 Prints two Markdown tables, which docs/LIMITS.md has. Of each input: how it ended, the processor's seconds of the whole process (the least of the
 runs), its peak memory (the greatest of them), and the least stack of some sizes with which it ends alike. A run is ended after so many seconds, and has at
-most so much memory; one that is ended so isn't measured further. Without --program it has the repository's own `blockaid` proved and built first.
+most so much memory; one that is ended so isn't measured further. It needs /usr/bin/time. Without --program it has the
+repository's own `blockaid` proved and built first.
 """
 import argparse
+import contextlib
 import datetime
 import json
+import mmap
 import os
+import re
 import resource
 import signal
 import subprocess
@@ -142,6 +146,39 @@ def eight_crossed(rows):
     return Input(USERS, view, {"Users": users(rows)}, request(question), answered(rows))
 
 
+def eight_under_views():
+    """The last of 128 views of the same join is the one that covers."""
+    hidden = f"{', '.join(f'{it}.UId, {it}.EId' for it in EIGHT)} {CHAINED}"
+    views = [f"CREATE VIEW V{it} AS SELECT {hidden} AND h.At = {it};\n" for it in range(127)]
+    views.append(f"CREATE VIEW V127 AS SELECT {hidden};\n")
+    tables = {"Users": users(1), "Events": events(1), "Attendances": attendances([(0, 0)])}
+    return Input(USERS + EVENTS + ATTENDANCES, "".join(views), tables, request(f"SELECT h.EId {CHAINED}"), answered(1))
+
+
+def self_join(rows):
+    """All rows of a table meet each other, and one row is the answer."""
+    view = "CREATE VIEW V AS SELECT UId, EId FROM Attendances;\nCREATE VIEW W AS SELECT a.UId, b.UId FROM Attendances a, Attendances b;\n"
+    tables = {"Users": users(1), "Events": events(rows), "Attendances": attendances((0, it) for it in range(rows))}
+    question = "SELECT a.UId FROM Attendances a, Attendances b WHERE a.UId = b.UId"
+    return Input(USERS + EVENTS + ATTENDANCES, view, tables, request(question), answered(1))
+
+
+def repeated_link(pairs, rows):
+    """A link that has one pair of columns so often."""
+    columns, others = ", ".join(["Boss"] * pairs), ", ".join(["Id"] * pairs)
+    schema = f"CREATE TABLE Staff (Id INT PRIMARY KEY, Boss INT NOT NULL, FOREIGN KEY ({columns}) REFERENCES Staff ({others}));\n"
+    return Input(schema, "", {"Staff": ["Id,Boss", *(f"{it},{it}" for it in range(rows))]}, [], {"lines": 0})
+
+
+def scans(asks, rows):
+    """The answers of a script are kept until the last one is found."""
+    question = "SELECT UId, Name FROM Users"
+    script = [line for it in range(asks // ASKS) for line in request(*[question] * ASKS, name=f"r{it}")]
+    policy = "CREATE VIEW V AS SELECT UId, Name FROM Users;\n"
+    asks -= asks % ASKS
+    return Input(USERS, policy, {"Users": users(rows)}, script, answered(asks * rows, asks))
+
+
 def views_covered():
     """The last view is the one that covers."""
     views = [f"CREATE VIEW V{it} AS SELECT UId, Name FROM Users WHERE UId < {it};\n" for it in range(127)]
@@ -244,18 +281,22 @@ def longest_proof(steps):
 INPUTS = {
     "nothing": nothing,
     "256 columns of 10,000 rows": lambda: widest_head(10_000),
+    "256 columns of 100,000 rows": lambda: widest_head(ROWS),
     "256 columns, by proof": widest_head_proved,
     "32 parts, covered": parts_covered,
     "32 parts, refuted": parts_refuted,
     "8 tables joined, covered": eight_covered,
+    "8 tables joined, 128 views": eight_under_views,
     "8 tables joined, searched": eight_searched,
     "8 tables crossed, 5 rows each": lambda: eight_crossed(5),
     "8 tables crossed, 7 rows each": lambda: eight_crossed(7),
+    "5,000 rows joined with themselves": lambda: self_join(5_000),
     "128 views, covered": views_covered,
     "128 views, refuted": views_refuted,
     "255 entries, by proof": trace_proved,
     "255 entries, refuted": trace_refuted,
     "1,000 rows in the trace": lambda: wide_entry(1_000),
+    "9,984 answers of 1,000 rows": lambda: scans(10_000, 1_000),
     "8,192 requests": all_requests,
     "65,536 lines": all_lines,
     "3 tables of 100,000 rows": lambda: all_rows(False),
@@ -263,6 +304,7 @@ INPUTS = {
     "64 conditions 32,000 deep": deep_brackets,
     "a line of 64 MiB": long_line,
     "64 tables, 1,024 keys and links": greatest_schema,
+    "a link of one pair 10,000 times": lambda: repeated_link(10_000, 1_000),
     "2,000 steps spent": lambda: spent(2_000),
     "10,000 steps spent": lambda: spent(10_000),
     "100,000 steps spent": lambda: spent(STEPS),
@@ -272,8 +314,8 @@ INPUTS = {
 
 
 class Ran:
-    """The end of a run: its status (below 0 a signal, None where it took too long), its processor seconds, its memory in KiB, its output's last
-    line."""
+    """The end of a run: its status (below 0 a signal, None where it took too long), its processor seconds, its memory in KiB, the fronts of its
+    output's last lines, the last one first."""
 
     def __init__(self, status, seconds, kib, last):
         self.status, self.seconds, self.kib, self.last = status, seconds, kib, last
@@ -284,15 +326,27 @@ class Ran:
         return signal.Signals(-self.status).name if self.status < 0 else f"status {self.status}"
 
 
-def last_line(path):
-    with open(path, "rb") as it:
-        it.seek(max(0, os.path.getsize(path) - 1_000_000))
-        lines = it.read().splitlines()
-    return lines[-1] if lines else b""
+def last_lines(path):
+    """The fronts of the last two lines, of 64 KiB at most: a line can have half a gigabyte."""
+    size = os.path.getsize(path)
+    with open(path, "rb") as it, mmap.mmap(it.fileno(), 0, prot=mmap.PROT_READ) if size else contextlib.nullcontext(b"") as text:
+        ends = [size]
+        while len(ends) < 3 and ends[-1] > 0:
+            ends.append(text.rfind(b"\n", 0, ends[-1] - 1) + 1)
+        return [bytes(text[start : min(end, start + 65_536)]).rstrip(b"\n") for end, start in zip(ends, ends[1:])]
+
+
+def end_program(timed):
+    """Ends the program that `time` runs."""
+    with open(f"/proc/{timed.pid}/task/{timed.pid}/children", encoding="ascii") as it:
+        for pid in it.read().split():
+            os.kill(int(pid), signal.SIGKILL)
 
 
 def run(program, words, folder, given, stack=None):
-    """Runs the program once, with a stack of so many KiB, or with the caller's."""
+    """Runs the program once, by `time`; or with a stack of so many KiB, and then without its seconds and its memory.
+
+    (The peak that the system tells of a process is never below that of the process which started it, so this script may not be the one.)"""
 
     def limited():
         resource.setrlimit(resource.RLIMIT_AS, (given.memory << 20, given.memory << 20))
@@ -300,17 +354,22 @@ def run(program, words, folder, given, stack=None):
             resource.setrlimit(resource.RLIMIT_STACK, (stack << 10, stack << 10))
 
     late = threading.Event()
+    timing = [] if stack else ["/usr/bin/time", "-f", "%U %S %M", "-o", f"{folder}/told"]
     with open(f"{folder}/out", "wb") as out:
         child = subprocess.Popen(
-            [program, *words], cwd=folder, stdin=subprocess.DEVNULL, stdout=out, stderr=subprocess.DEVNULL, env={}, preexec_fn=limited
+            [*timing, program, *words], cwd=folder, stdin=subprocess.DEVNULL, stdout=out, stderr=subprocess.DEVNULL, env={}, preexec_fn=limited
         )
-        timer = threading.Timer(given.seconds, lambda: (late.set(), child.kill()))
+        timer = threading.Timer(given.seconds, lambda: (late.set(), child.kill() if stack else end_program(child)))
         timer.start()
-        _, status, used = os.wait4(child.pid, 0)
+        status = child.wait()
         timer.cancel()
-    child.returncode = os.waitstatus_to_exitcode(status)
-    seconds = used.ru_utime + used.ru_stime
-    return Ran(None if late.is_set() else child.returncode, seconds, used.ru_maxrss, last_line(f"{folder}/out"))
+    seconds, kib = 0.0, 0
+    if not stack:
+        with open(f"{folder}/told", encoding="ascii") as it:
+            user, system, most = it.read().splitlines()[-1].split()
+        seconds, kib = float(user) + float(system), int(most)
+    last = last_lines(f"{folder}/out")
+    return Ran(None if late.is_set() else status, seconds, kib, last)
 
 
 def least_stack(program, words, folder, given, wanted):
@@ -337,13 +396,12 @@ def measure(program, name, given):
             runs.append(run(program, words, folder, given))
         if runs[-1].status != case.status:
             return [name, runs[-1].end(), f"{runs[-1].seconds:.2f}", f"{runs[-1].kib / 1024:.0f}", ""]
-        last = json.loads(runs[-1].last)
+        last = json.loads(runs[-1].last[0])
         expect({key: last.get(key) for key in case.wanted or {}}, case.wanted or {}, name)
-        with open(f"{folder}/out", encoding="utf-8") as it:
-            said = [json.loads(line) for line in it][-2:-1]
-        end = next((line.get("by") or line.get("blocked") or line.get("unread") for line in said if "request" in line), runs[-1].end())
+        said = re.search(rb'"(?:by|blocked|unread)":"(\w+)"', (runs[-1].last + [b""])[1])
+        end = said[1].decode() if said else runs[-1].end()
         seconds, kib = min(it.seconds for it in runs), max(it.kib for it in runs)
-        return [name, end, f"{seconds:.3f}", f"{kib / 1024:.1f}", least_stack(program, words, folder, given, runs[-1])]
+        return [name, end, f"{seconds:.2f}", f"{kib / 1024:.1f}", least_stack(program, words, folder, given, runs[-1])]
 
 
 # The ways in which an output can't be written: what is done to a program's standard output before it starts.
@@ -388,7 +446,7 @@ def end_over(program, words, folder, prepare):
         status = subprocess.run(
             [program, *words], cwd=folder, stdin=subprocess.DEVNULL, stdout=out, stderr=subprocess.DEVNULL, env={}, preexec_fn=prepare, check=False
         ).returncode
-    return Ran(status, 0, 0, b"").end()
+    return Ran(status, 0, 0, []).end()
 
 
 def table(*columns):
