@@ -1,5 +1,5 @@
 // A case: what the program is run on, how the run ends and how it must end.
-use crate::folder_files::FolderFiles;
+use ba_notice::{FolderFiles, notice};
 use ba_outside::{FreeGate, MemSink};
 use ba_top::blockaid;
 use std::alloc::{AllocError, Global};
@@ -8,11 +8,12 @@ use std::sync::Wait;
 use std::thread::Threads;
 use std::{fs, io};
 
-/// The end of a run: its status, and what it wrote.
+/// The end of a run: its status, what it wrote, and the line on why it ended so, where the case has one.
 #[derive(PartialEq, Eq, Drop)]
 pub struct End {
     pub status: u8,
     pub text: Vec<u8>,
+    pub hint: String,
 }
 
 // A line without the way in which its question was answered, where another order of the workers may find another: a proof, or the template of one.
@@ -44,6 +45,8 @@ impl End {
 pub struct Case {
     words: String,
     pub wanted: End,
+    /// Whether it has a line on why its run ends so.
+    has_hint: bool,
     /// Whether several workers must end it alike: it is a run that leaves their number open and publishes nothing, and its folder has
     /// no file `order`, which tells why its lines go by who comes first.
     pub is_for_many: bool,
@@ -73,6 +76,13 @@ impl Case {
         let Ok(status) = number.trim_end().parse::<u8>() else {
             return Err(io::Error::from(io::ErrorKind::InvalidData));
         };
+        let path = format!(in rt.alloc(); "{folder}/hint")?;
+        let has_hint = fs::exists(rt, path.as_str())?;
+        let hint = if has_hint {
+            text_in(rt, folder, "hint")?
+        } else {
+            String::new(rt.alloc())
+        };
         let is_for_many = words.starts_with("run\n")
             && !words.contains("--workers")
             && !text.contains("\"publish\":")
@@ -82,7 +92,9 @@ impl Case {
             wanted: End {
                 status,
                 text: text.into_bytes(),
+                hint,
             },
+            has_hint,
             is_for_many,
         })
     }
@@ -93,14 +105,22 @@ impl Case {
         R: Files + AllocGlobal + Threads + Wait + Sync + Clone + Drop,
     {
         let alloc = rt.alloc();
-        let mut files = FolderFiles::new(rt.clone()?, alloc, folder);
+        let prefix = format!(in alloc; "{folder}/")?;
+        let mut files = FolderFiles::new(rt.clone()?, alloc, prefix.as_str());
         let mut sink = MemSink::new(alloc, Vec::new(alloc), Vec::new(alloc));
         let text = format!(in alloc; "{}{more}", self.words)?;
         let words = words_of(alloc, text.as_str())?;
         let outcome = blockaid(rt, alloc, &words, &mut files, &mut sink, &FreeGate);
+        let hint = if self.has_hint {
+            let line = notice(rt, &words, prefix.as_str(), files.asked(), &outcome)?;
+            format!(in alloc; "{line}\n")?
+        } else {
+            String::new(alloc)
+        };
         Ok(End {
             status: outcome.status,
             text: sink.bytes().to_vec(alloc)?,
+            hint,
         })
     }
 }

@@ -4,11 +4,11 @@
 //! a file `order`: its lines go by the order in which requests come.)
 //!
 //! A case is a folder: the input files, `words` (a word on each line, without the program's name), `expected` (the bytes
-//! that the run must write) and `status` (the status that it must end with). Names in its words are relative to it.
+//! that the run must write) and `status` (the status that it must end with). It may have `hint`, the line on why the run
+//! ends so that must be told. Names in its words are relative to it.
 #![tactic(auto)]
 
 mod case;
-mod folder_files;
 
 use case::{Case, End};
 use std::process::ExitCode;
@@ -35,11 +35,15 @@ fn text_of(line: &[u8]) -> &str {
     std::str::from_utf8(line).unwrap_or("(no text)")
 }
 
-// Says where the end differs from the wanted one: the status, and the first line that isn't the same.
+// Says where the end differs from the wanted one: the status, the hint, and the first line that isn't the same.
 fn tell(rt: &impl Print, name: &str, wanted: &End, end: &End) -> io::Result<()> {
     let status = end.status;
     let must = wanted.status;
     println!(rt; "{name} differs: it ended with status {status}, and {must} is wanted")?;
+    if end.hint != wanted.hint {
+        print!(rt; "  hint: {}", end.hint)?;
+        print!(rt; "  wanted: {}", wanted.hint)?;
+    }
     let mut lines = end.text.split(|byte| *byte == b'\n');
     for (at, line) in wanted.text.split(|byte| *byte == b'\n').enumerate() {
         let written = lines.next().unwrap_or(b"(none)");

@@ -1,15 +1,18 @@
 //! `blockaid run --schema S --policy P --tables D --script F`: answers the questions of F over the tables of D that the
 //! policy P lets through, and blocks the others. `blockaid check --schema S --policy P --proof F`: says whether the proof F is accepted.
 //! `blockaid gen --seed N --requests R`: serves a generated workload, and prints the summary; with `--print` prints its script.
+//! Where its status isn't 0, one line on standard error says why.
 #![tactic(auto)]
 
-use ba_outside::{DiskFiles, FreeGate, StdSink};
-use ba_top::blockaid;
+use ba_notice::{FolderFiles, notice};
+use ba_outside::{FreeGate, StdSink};
+use ba_top::{Outcome, blockaid};
 use std::alloc::{AllocError, Global};
 use std::env;
 use std::env::Args;
 use std::io::ErrorKind;
 use std::process::ExitCode;
+use std::rt::Files;
 
 // The status for want of memory.
 const MEMORY: u8 = 6;
@@ -17,6 +20,26 @@ const MEMORY: u8 = 6;
 // The words behind the program's name.
 fn words(alloc: Global, args: Args) -> Result<Vec<String>, AllocError> {
     args.skip(1).collect(alloc)
+}
+
+// Says on standard error why the run ended so, if it ended with another status than 0.
+fn tell<R: Files + AllocGlobal + Eprint>(
+    rt: &R,
+    words: &[String],
+    asked: &[String],
+    outcome: &Outcome,
+) {
+    let _ = match notice(rt, words, "", asked, outcome) {
+        Ok(line) if line.is_empty() => Ok(()),
+        Ok(line) => eprintln!(rt; "{line}"),
+        Err(_) => eprintln!(rt; "blockaid: there is no memory to tell why"),
+    };
+}
+
+// Ends a run that found no memory for its words.
+fn end_early(rt: &impl Eprint) -> ExitCode {
+    let _ = eprintln!(rt; "blockaid: memory ran out, and nothing was answered");
+    ExitCode::from(MEMORY)
 }
 
 fn main(rt: HostRuntime) -> ExitCode {
@@ -28,13 +51,14 @@ fn main(rt: HostRuntime) -> ExitCode {
         Err(_) => Ok(Vec::new(alloc)),
     };
     let Ok(words) = read else {
-        return ExitCode::from(MEMORY);
+        return end_early(&rt);
     };
     let Ok(other) = rt.clone() else {
-        return ExitCode::from(MEMORY);
+        return end_early(&rt);
     };
     let mut sink = StdSink::new(rt.stdout());
-    let mut files = DiskFiles::new(other, alloc);
+    let mut files = FolderFiles::new(other, alloc, "");
     let outcome = blockaid(&rt, alloc, &words, &mut files, &mut sink, &FreeGate);
+    tell(&rt, &words, files.asked(), &outcome);
     ExitCode::from(outcome.status)
 }

@@ -20,8 +20,9 @@ mod words;
 
 use ba_lanes::Journal;
 use ba_model::Failure;
+use ba_notice::notice;
 use ba_outside::{FreeGate, Held};
-use ba_top::blockaid;
+use ba_top::{Outcome, blockaid};
 use given::Given;
 use outside::{FirstPiece, KeptFiles};
 use page::Page;
@@ -97,12 +98,24 @@ where
     let outcome = blockaid(rt, alloc, words, &mut files, &mut sink, &FreeGate);
     let told = match &outcome.journal {
         Some(journal) => tell_all(rt, files.kept(), names, journal, wanted),
-        None => eprint!(rt; "{}", sink.text()),
+        None => tell_fault(rt, words, files.asked(), &outcome, sink.text()),
     };
     match told {
         Err(e) if e.kind() == ErrorKind::OutOfMemory => MEMORY,
         _ => outcome.status,
     }
+}
+
+// Says why a run has no journal: its fault line, and what is told of that.
+fn tell_fault<R: Files + AllocGlobal + Eprint>(
+    rt: &R,
+    words: &[String],
+    asked: &[String],
+    outcome: &Outcome,
+    line: &str,
+) -> io::Result<()> {
+    let why = notice(rt, words, "", asked, outcome)?;
+    eprint!(rt; "{line}{why}\n")
 }
 
 // The bytes that were read as the script, behind the schema and the policy.

@@ -2,14 +2,15 @@
 ghost use Rattle.std.specs.Prelude.{◌≡◌};
 
 use crate::words::Names;
-use ba_outside::{DiskFiles, Files, Held, ReadFail, Sink, WriteFail};
+use ba_notice::FolderFiles;
+use ba_outside::{Files, Held, ReadFail, Sink, WriteFail};
 use std::alloc::{AllocError, Global};
 
 /// The files of a file system. What is read under one of the names is kept.
 #[derive(Drop)]
 pub struct KeptFiles<'a, R: std::fs::Files + Drop> {
     names: &'a Names,
-    files: DiskFiles<R>,
+    files: FolderFiles<'a, R>,
     alloc: Global,
     kept: Vec<Held>,
 }
@@ -19,10 +20,15 @@ impl<'a, R: std::fs::Files + Drop> KeptFiles<'a, R> {
     pub fn new(system: R, alloc: Global, names: &'a Names) -> Self {
         KeptFiles {
             names,
-            files: DiskFiles::new(system, alloc),
+            files: FolderFiles::new(system, alloc, ""),
             alloc,
             kept: Vec::new(alloc),
         }
+    }
+
+    /// The names asked for, in order.
+    pub fn asked(&self) -> &[String] {
+        self.files.asked()
     }
 
     /// What was kept, in the order of the reads: the schema, the policy, and behind them the script.
@@ -39,8 +45,8 @@ fn keep(alloc: Global, kept: &mut Vec<Held>, name: &str, bytes: &[u8]) -> Result
     Ok(())
 }
 
-impl<R: std::fs::Files + Drop> Files for KeptFiles<'_, R> {
-    ghost seen = { λ it. ⟦<DiskFiles<R> as Files>⟧.seen it.files };
+impl<'a, R: std::fs::Files + Drop> Files for KeptFiles<'a, R> {
+    ghost seen = { λ it. ⟦<FolderFiles<'a, R> as Files>⟧.seen it.files };
 
     fn read(&mut self, name: &str, limit: u64) -> Result<Vec<u8>, ReadFail> {
         let bytes = match self.files.read(name, limit) {

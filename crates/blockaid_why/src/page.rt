@@ -78,6 +78,13 @@ impl Page {
         self.text.push('\n')
     }
 
+    /// Adds a line as it is, so many columns in.
+    pub fn put_line(&mut self, indent: usize, line: &str) -> Result<(), AllocError> {
+        self.begin_line(indent)?;
+        self.text.push_str(line)?;
+        self.text.push('\n')
+    }
+
     /// Says how many more there are than are shown, if there are any.
     pub fn say_left(&mut self, indent: usize, count: usize) -> Result<(), AllocError> {
         if count == 0 {

@@ -112,7 +112,7 @@ fn tell_reply(
             Why::Spent(steps) => tell_spent(page, given, scene, query, steps),
             Why::Stuck(leaf, clause) => tell_stuck(page, leaf, *clause),
         },
-        Reply::Unread(fault) => tell_unread(page, fault),
+        Reply::Unread(fault) => tell_unread(page, given, question, fault),
         Reply::NoMemory => page.say(2, "There was no memory for it."),
     }
 }

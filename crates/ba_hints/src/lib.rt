@@ -1,0 +1,26 @@
+//! Where a fault of a text stands, and what would mend it.
+//!
+//! A hint says no more than what was found in the text: where a small reader of its own finds none of a fault, it tells no place. Long texts
+//! are cut; control characters and bytes that are no text are shown as `?`.
+#![tactic(auto)]
+
+mod grammar;
+mod hint;
+mod lex;
+mod place;
+mod policy;
+mod query;
+mod rows;
+mod schema;
+mod script;
+mod sight;
+mod walk;
+mod words;
+
+pub use hint::{Hint, Spot};
+pub use place::{Mark, WORD_CHARS, Window, shown};
+pub use policy::policy_hint;
+pub use query::question_hint;
+pub use rows::{key_hint, link_hint, rows_hint};
+pub use schema::schema_hint;
+pub use script::script_hint;

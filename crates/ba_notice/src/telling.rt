@@ -1,0 +1,130 @@
+//! What is told of a run that didn't end well.
+
+use crate::files::{Found, read_again};
+use crate::input::{Part, Reads};
+use crate::proof::check_text;
+use crate::usage::words_text;
+use ba_hints::Hint;
+use ba_lanes::{Entry, Journal};
+use ba_model::Counted;
+use ba_session::Reply;
+use ba_top::{Detail, Outcome};
+use ba_wire::Reason;
+use std::alloc::{AllocError, Global};
+use std::rt::Files;
+
+// How many lines of the script lacked memory.
+fn count_lacking(journal: &Journal) -> u64 {
+    let mut count = 0u64;
+    for entry in journal.entries.as_slice() {
+        let lacks = match entry {
+            Entry::Unbegun { .. } | Entry::NoMemory => true,
+            Entry::Ask { reply, .. } => matches!(reply, Reply::NoMemory),
+            _ => false,
+        };
+        if lacks {
+            count = count.saturating_add(1);
+        }
+    }
+    count
+}
+
+fn memory_text(alloc: Global, outcome: &Outcome) -> Result<String, AllocError> {
+    let count = match &outcome.journal {
+        Some(journal) => count_lacking(journal),
+        None => {
+            return String::from_str(alloc, "blockaid: memory ran out, and nothing was answered");
+        }
+    };
+    if count == 0 {
+        return String::from_str(
+            alloc,
+            "blockaid: memory ran out while the lines were written",
+        );
+    }
+    format!(in alloc; "blockaid: memory ran out for lines of the script, which say so: {count}")
+}
+
+// What is told of a count above its limit.
+fn limit_text<R: Files + AllocGlobal>(
+    reads: &Reads<'_, R>,
+    what: Counted,
+    limit: u64,
+) -> Result<String, AllocError> {
+    let alloc = reads.rt.alloc();
+    match what {
+        Counted::TextBytes | Counted::FileBytes => {
+            let text = format!(in alloc; "it has more than {limit} bytes")?;
+            let hint = Hint::plain(alloc, text.as_str())?;
+            hint.line(alloc, reads.last(), &[])
+        }
+        _ => reads.file_text(Part::of_count(reads.asked.len(), what), reads.last()),
+    }
+}
+
+// What is told of a file that wasn't read.
+fn unread_text<R: Files + AllocGlobal>(
+    reads: &Reads<'_, R>,
+    file: &str,
+) -> Result<String, AllocError> {
+    let alloc = reads.rt.alloc();
+    let found = read_again(reads.rt, reads.prefix, file)?;
+    let text = match found {
+        Found::Nothing if reads.asked.len() > 2 && file.ends_with(".csv") => {
+            "there is no such file; each table of the schema has its own"
+        }
+        Found::Nothing => "there is no such file",
+        Found::Folder => "it is a folder",
+        Found::Bytes(_) | Found::Unread => "it could not be read",
+    };
+    let hint = Hint::plain(alloc, text)?;
+    hint.line(alloc, file, &[])
+}
+
+// What is told of a file that has no reading.
+fn input_text<R: Files + AllocGlobal>(
+    reads: &Reads<'_, R>,
+    file: &str,
+    reason: &Reason,
+) -> Result<String, AllocError> {
+    let part = Part::of_reason(reads.asked.len(), reason);
+    match part {
+        Part::Proof => reads.proof_text(file, reason),
+        _ => reads.file_text(part, file),
+    }
+}
+
+/// One line on why a run ended with another status than 0, for whoever gave the words; nothing of one that ended with 0. The names asked
+/// for, behind a prefix, are those of files that may be read once more for it.
+pub fn notice<R: Files + AllocGlobal>(
+    rt: &R,
+    words: &[String],
+    prefix: &str,
+    asked: &[String],
+    outcome: &Outcome,
+) -> Result<String, AllocError> {
+    let alloc = rt.alloc();
+    let reads = Reads { rt, prefix, asked };
+    match &outcome.detail {
+        Detail::Done => Ok(String::new(alloc)),
+        Detail::NotAccepted(fault) => {
+            let text = check_text(alloc, *fault)?;
+            let hint = Hint::plain(alloc, text.as_str())?;
+            hint.line(alloc, reads.last(), &[])
+        }
+        Detail::Words => words_text(alloc, words),
+        Detail::Input { file, reason } => input_text(&reads, file.as_str(), reason),
+        Detail::Read { file } => unread_text(&reads, file.as_str()),
+        Detail::Write => String::from_str(
+            alloc,
+            "blockaid: standard output took no more: what was written isn't all",
+        ),
+        Detail::Memory => memory_text(alloc, outcome),
+        Detail::Limit { what, limit } => limit_text(&reads, *what, *limit),
+        Detail::Steps { limit } => {
+            let text = format!(in alloc; "it has more than {limit} steps")?;
+            let hint = Hint::plain(alloc, text.as_str())?;
+            hint.line(alloc, reads.last(), &[])
+        }
+    }
+}
