@@ -10,13 +10,12 @@ ghost use Rattle.ba_general.specs.Dropping.{IsAccepted};
 ghost use Rattle.ba_general.specs.Generals.{HasTooMany, IsGeneralised, IsMinimal, IsOfQuestion, IsToldBy, IsTooWide, OwnInstance};
 ghost use Rattle.ba_general.specs.Patterns.{assuming};
 
-use crate::copies::copy_steps;
 use crate::dropping::{condition, is_accepted};
 use crate::leaving::kept_steps;
 use crate::pattern::Pattern;
 use crate::retold::{named_entries, renumbered, with_variables};
 use ba_kernel::{Problem, Proved, Step, replay};
-use ba_model::{Atom, Failure, List};
+use ba_model::{Atom, Duplicate, Failure, List};
 use ba_template::Template;
 use std::alloc::{AllocError, Global};
 
@@ -106,11 +105,7 @@ fn general_steps(
 {
     let steps = with_variables(alloc, kept, pattern.values.as_slice())?;
     let told = is_accepted(alloc, pattern, &steps)?;
-    if told {
-        Ok(steps)
-    } else {
-        copy_steps(alloc, kept)
-    }
+    if told { Ok(steps) } else { kept.copy(alloc) }
 }
 
 /// The template of the pattern under a condition with which the steps are accepted.

@@ -5,11 +5,11 @@ ghost use Rattle.ba_kernel.specs.Courses.{ProblemFits};
 ghost use Rattle.ba_kernel.specs.Replays.{Closes};
 ghost use Rattle.ba_general.specs.Leaving.{AreKept, IsLeftOut, IsTried, Leaves, MaybeIs, made};
 
-use crate::copies::{copy_problem, copy_steps};
+use crate::copies::copy_problem;
 use crate::making::list_made;
 use crate::others::Taken;
 use ba_kernel::{Problem, Step, replay};
-use ba_model::{Failure, List};
+use ba_model::{Duplicate, Failure, List};
 use std::alloc::{AllocError, Global};
 
 /// The steps that stay: all are left out at once, or else half by half, the later half first, where
@@ -26,7 +26,7 @@ pub fn kept_steps(
     ensures closes { IfOk result (Closes problem.now) }
     ensures few { IfOk result (λ it. length it ≤ length steps.now) }
 {
-    let taken = with_made(alloc, problem, copy_steps(alloc, steps)?)?;
+    let taken = with_made(alloc, problem, steps.copy(alloc)?)?;
     let kept = leave(alloc, problem, taken, 0, steps.len())?;
     Ok(kept.steps)
 }

@@ -2,12 +2,11 @@
 ghost use Rattle.std.specs.Prelude.{◌≡◌, ◌<◌, ◌≤◌, ◌++◌, [], IfOk, OnOk, None, Some, length, replicate, slice_set, take};
 ghost use Rattle.ba_general.specs.Leaving.{IsGone, IsMovedBy, IsNext, IsTaken, IsWithout, MaybeIs, gap_on, longer, longer_span};
 
-use crate::copies::copy_step;
 use crate::gap::{Gap, Span};
 use crate::layout::sum;
 use crate::making::Made;
 use ba_kernel::Step;
-use ba_model::List;
+use ba_model::{Duplicate, List};
 use std::alloc::{AllocError, Global};
 
 /// Steps, and what each makes.
@@ -51,7 +50,7 @@ fn front(alloc: Global, steps: &List<Step>, count: usize) -> Result<List<Step>, 
 {
     let mut all = List::new(alloc);
     for step in &steps.as_slice()[..count] {
-        all.push(copy_step(alloc, step)?)?;
+        all.push(step.copy(alloc)?)?;
     }
     Ok(all)
 }
@@ -167,7 +166,7 @@ fn moved(alloc: Global, gap: Option<Gap>, step: &Step) -> Result<Option<Step>, A
 {
     match gap {
         Some(gap) => gap.step(alloc, step),
-        None => Ok(Some(copy_step(alloc, step)?)),
+        None => Ok(Some(step.copy(alloc)?)),
     }
 }
 

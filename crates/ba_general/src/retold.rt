@@ -2,7 +2,6 @@
 ghost use Rattle.std.specs.Prelude.{◌≡◌, ◌++◌, Contains, IfOk, OnOk, Some, slice_get};
 ghost use Rattle.ba_general.specs.Retold.{AreNamed, AreRenumbered, AreWithVariables, IsFirstWith, IsRenumbered, IsStepWith, IsTermWith, NamesOneOf, named};
 
-use crate::copies::copy_step;
 use ba_facts::{Term, TermAtom, number_of};
 use ba_kernel::Step;
 use ba_model::{Duplicate, List, Same, Value};
@@ -55,7 +54,7 @@ fn renumbered_step(alloc: Global, step: &Step, numbers: &[u64]) -> Result<Step, 
             branch: *branch,
             entry: place(numbers, *entry),
         }),
-        _ => copy_step(alloc, step),
+        _ => step.copy(alloc),
     }
 }
 
@@ -104,7 +103,7 @@ fn step_with(alloc: Global, step: &Step, values: &[Value]) -> Result<Step, Alloc
                 },
             })
         }
-        _ => copy_step(alloc, step),
+        _ => step.copy(alloc),
     }
 }
 

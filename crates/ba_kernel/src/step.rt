@@ -4,7 +4,8 @@ ghost use Rattle.std.specs.Prelude.{◌≡◌};
 ghost use Rattle.ba_kernel.specs.Courses.{branch_of};
 
 use ba_facts::TermAtom;
-use ba_model::List;
+use ba_model::{Duplicate, List};
+use std::alloc::{AllocError, Global};
 
 /// A step on an open branch.
 #[derive(Debug, Drop)]
@@ -89,6 +90,69 @@ impl Step {
             Step::Split { branch, .. } => *branch,
             Step::Absurd { branch } => *branch,
             Step::Goal { branch, .. } => *branch,
+        }
+    }
+}
+
+impl Duplicate for Step {
+    fn copy(&self, alloc: Global) -> Result<Step, AllocError> {
+        match self {
+            Step::Entry { branch, entry } => Ok(Step::Entry {
+                branch: *branch,
+                entry: *entry,
+            }),
+            Step::Key {
+                branch,
+                key,
+                left,
+                right,
+            } => Ok(Step::Key {
+                branch: *branch,
+                key: *key,
+                left: *left,
+                right: *right,
+            }),
+            Step::Link { branch, link, fact } => Ok(Step::Link {
+                branch: *branch,
+                link: *link,
+                fact: *fact,
+            }),
+            Step::Rule {
+                branch,
+                rule,
+                part,
+                facts,
+            } => Ok(Step::Rule {
+                branch: *branch,
+                rule: *rule,
+                part: *part,
+                facts: facts.copy(alloc)?,
+            }),
+            Step::View {
+                branch,
+                view,
+                part,
+                facts,
+            } => Ok(Step::View {
+                branch: *branch,
+                view: *view,
+                part: *part,
+                facts: facts.copy(alloc)?,
+            }),
+            Step::Split { branch, atom } => Ok(Step::Split {
+                branch: *branch,
+                atom: atom.copy(alloc)?,
+            }),
+            Step::Absurd { branch } => Ok(Step::Absurd { branch: *branch }),
+            Step::Goal {
+                branch,
+                part,
+                facts,
+            } => Ok(Step::Goal {
+                branch: *branch,
+                part: *part,
+                facts: facts.copy(alloc)?,
+            }),
         }
     }
 }

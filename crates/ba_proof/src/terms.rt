@@ -111,7 +111,7 @@ fn term_at(alloc: Global, params: &[Parameter], value: &Json) -> Result<Term, Fa
     let given = given_value(alloc, value)?;
     match given {
         Given::Int(n) => Ok(Term::Val(Value::Int(n))),
-        Given::Text(text) => Ok(Term::Val(Value::Text(text))),
+        Given::Text(text) => Ok(Term::Val(Value::text(alloc, text)?)),
         Given::Other => {
             let items = list_at(ProofField::Steps, value)?;
             pair_of(params, items)

@@ -6,7 +6,7 @@ ghost use Rattle.ba_model.specs.declared.value.Value.TheVariants.{Text};
 ghost use Rattle.ba_refute.specs.Images.{IsMarks, signs};
 
 use crate::wide::WideValue;
-use ba_model::{Str, Value};
+use ba_model::{Shared, Str, Value};
 use std::alloc::{AllocError, Global};
 
 /// How many signs `~` the value begins with.
@@ -52,5 +52,6 @@ pub(crate) fn text_value(alloc: Global, marks: usize, number: u32) -> Result<Wid
 {
     let signs = "~".repeat(alloc, marks)?;
     let text = format!(in alloc; "{signs}{number}")?;
-    Ok(WideValue::text(Str::from_string(text)))
+    let text = Shared::new(alloc, Str::from_string(text))?;
+    Ok(WideValue::text(text))
 }

@@ -8,7 +8,7 @@ ghost use Rattle.ba_model.specs.declared.value.Value.TheVariants.{Null, Int, Tex
 ghost use Rattle.ba_refute.specs.Counterexamples.{IsStored};
 ghost use Rattle.ba_refute.specs.Wide.{Narrows};
 
-use ba_model::{Duplicate, List, Row, Str, Value};
+use ba_model::{Duplicate, List, Row, Shared, Str, Value};
 use std::alloc::{AllocError, Global};
 use std::cmp::Ordering;
 use std::marker::Model;
@@ -17,7 +17,7 @@ use std::marker::Model;
 enum Content {
     Null,
     Int(i128),
-    Text(Str),
+    Text(Shared<Str>),
 }
 
 /// A value whose number may be past 64 bits. A contract sees the value.
@@ -55,7 +55,7 @@ impl WideValue {
         }
     }
 
-    pub(crate) fn text(text: Str) -> WideValue
+    pub(crate) fn text(text: Shared<Str>) -> WideValue
         ensures { result ≡ Text text }
     {
         WideValue {
@@ -84,7 +84,7 @@ impl WideValue {
             (Content::Int(n), Content::Int(m)) => n.cmp(m),
             (Content::Int(_), Content::Text(_)) => Ordering::Less,
             (Content::Text(_), Content::Int(_)) => Ordering::Greater,
-            (Content::Text(s), Content::Text(t)) => s.cmp(t),
+            (Content::Text(s), Content::Text(t)) => s.as_bytes().cmp(t.as_bytes()),
         }
     }
 

@@ -2,6 +2,7 @@
 ghost use Rattle.std.specs.Prelude.{◌≡◌, IfOk};
 ghost use Rattle.std.specs.List.{list_all, list_any};
 ghost use Rattle.std.specs.Option.{option_copied};
+ghost use Rattle.ba_model.specs.declared.value.Value.TheVariants.{Text};
 ghost use Rattle.ba_script.specs.Contexts.{are_declared, context_of, given_for, is_called, is_declared, is_named, of_kind, value_for, values_for};
 
 use crate::line::{Given, Member};
@@ -45,13 +46,20 @@ fn given_for<'a>(name: &Str, members: &'a [Member]) -> Option<&'a Given>
     None
 }
 
+fn text_value(alloc: Global, text: &Str) -> Result<Value, AllocError>
+    ensures { IfOk result (λ value. value ≡ Text text.now) }
+{
+    let copy = text.copy(alloc)?;
+    Value::text(alloc, copy)
+}
+
 /// The value of the kind that is given, if it is one.
 pub fn of_kind(alloc: Global, kind: Kind, given: &Given) -> Result<Option<Value>, AllocError>
     ensures { IfOk result (λ value. value ≡ of_kind kind given.now) }
 {
     match (kind, given) {
         (Kind::Int, Given::Int(n)) => Ok(Some(Value::Int(*n))),
-        (Kind::Text, Given::Text(text)) => Ok(Some(Value::Text(text.copy(alloc)?))),
+        (Kind::Text, Given::Text(text)) => Ok(Some(text_value(alloc, text)?)),
         _ => Ok(None),
     }
 }

@@ -4,6 +4,7 @@ use super::written::{Handle, context, policy, query};
 use ba_eval::{answer, answer_indexed};
 use ba_index::Indexed;
 use ba_model::{List, Policy, Row, RowSet, Str, Value};
+use std::alloc::{AllocError, Global};
 
 /// A number below 8, of a sequence that looks random.
 fn next(state: &mut u64) -> u64 {
@@ -13,10 +14,15 @@ fn next(state: &mut u64) -> u64 {
     (*state >> 33) % 8
 }
 
+fn text(alloc: Global, text: &str) -> Result<Value, AllocError> {
+    let text = Str::new(alloc, text)?;
+    Value::text(alloc, text)
+}
+
 fn value(rt: &impl Handle, state: &mut u64) -> Value {
     match next(state) {
         0 => Value::Null,
-        1 => Value::Text(Str::new(rt.alloc(), "x").expect(rt, "memory")),
+        1 => text(rt.alloc(), "x").expect(rt, "memory"),
         2 | 3 => Value::Int(5),
         4 => Value::Int(-1),
         n => Value::Int((n % 4) as i64),

@@ -12,7 +12,7 @@ fn text(alloc: Global, text: &str) -> Result<Value, AllocError>
     ensures { IfOk result (λ value. value ≡ Text text.now) }
 {
     let text = Str::new(alloc, text)?;
-    Ok(Value::Text(text))
+    Ok(Value::text(alloc, text)?)
 }
 
 fn user(alloc: Global, number: i64, name: &str) -> Result<Row, AllocError>

@@ -6,6 +6,7 @@ use ba_model::{
 use ba_policy::read_policy;
 use ba_sql_ddl::read_schema;
 use ba_sql_query::read_query;
+use std::alloc::{AllocError, Global};
 use std::process::Abort;
 
 /// What a test has: memory, and an end of the process where there is none.
@@ -85,6 +86,11 @@ pub fn null_query(rt: &impl Handle, op: Op, column: u32) -> Query {
     }
 }
 
+fn text(alloc: Global, text: &str) -> Result<Value, AllocError> {
+    let text = Str::new(alloc, text)?;
+    Value::text(alloc, text)
+}
+
 /// `NULL`, a whole number, or a text.
 fn value(rt: &impl Handle, word: &str) -> Value {
     if word == "NULL" {
@@ -92,7 +98,7 @@ fn value(rt: &impl Handle, word: &str) -> Value {
     }
     match word.parse::<i64>() {
         Ok(n) => Value::Int(n),
-        Err(_) => Value::Text(Str::new(rt.alloc(), word).expect(rt, "memory")),
+        Err(_) => text(rt.alloc(), word).expect(rt, "memory"),
     }
 }
 

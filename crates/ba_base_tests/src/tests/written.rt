@@ -41,7 +41,7 @@ pub fn value(rt: &impl Handle, word: &str) -> Value {
         return Value::Null;
     }
     match word.strip_prefix('\'') {
-        Some(letters) => Value::Text(text(rt, letters)),
+        Some(letters) => { Value::text(rt.alloc(), text(rt, letters)).expect(rt, "memory") }
         None => Value::Int(word.parse::<i64>().expect(rt, "a number")),
     }
 }

@@ -9,6 +9,7 @@ ghost use Rattle.std.specs.Prelude.{◌≡◌};
 
 use ba_facts::{Term, TermAtom};
 use ba_model::{Atom, List, Op, Operand, Shared, Str, Value};
+use std::alloc::{AllocError, Global};
 use std::process::Abort;
 
 /// What a test has: memory, and an end of the process where there is none.
@@ -46,6 +47,11 @@ pub fn numbers(rt: &impl Handle, text: &str) -> List<u32> {
     all
 }
 
+fn text(alloc: Global, text: &str) -> Result<Value, AllocError> {
+    let text = Str::new(alloc, text)?;
+    Value::text(alloc, text)
+}
+
 fn value(rt: &impl Handle, word: &str) -> Value {
     if word == "NULL" {
         return Value::Null;
@@ -54,7 +60,7 @@ fn value(rt: &impl Handle, word: &str) -> Value {
         Ok(n) => Value::Int(n),
         Err(_) => {
             let letters = word.strip_prefix('\'').unwrap_or(word);
-            Value::Text(Str::new(rt.alloc(), letters).expect(rt, "memory"))
+            text(rt.alloc(), letters).expect(rt, "memory")
         }
     }
 }

@@ -17,8 +17,8 @@ returns-then-told-clause-few c = tried_few c.as_slice.result.now c.args.kept.now
 
 pub returns-else-told-clause-told : goal.returns-else-told-clause-told
 returns-else-told-clause-told c =
-    IfOk-weaker c.copy_steps.result (λ it. it ≡ c.args.kept.now) (IsToldBy c.args.pattern.now c.args.kept.now)
+    IfOk-weaker c.copy.result (λ it. it ≡ c.args.kept.now) (IsToldBy c.args.pattern.now c.args.kept.now)
     (λ it e. told_without c.args.pattern.now c.args.kept.now c.in_ok-steps.steps it
     (subst (λ vs. AreWithVariables vs c.args.kept.now c.in_ok-steps.steps) c.as_slice.ensures c.in_ok-steps.ensures)
     (λ h. false≢true (sym c.if-told.false ∙ c.in_ok-told.ensures.1 h)) e)
-    c.copy_steps.ensures
+    c.copy.ensures
