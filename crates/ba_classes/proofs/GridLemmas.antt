@@ -3,7 +3,8 @@ use Rattle.std.proofs.Common.{◌≡◌, ◌≢◌, ℕ, ◌+◌, ◌<◌, ◌�
 use Rattle.std.proofs.lemmas.Bool.{cases_lt, cases_eq, ne_eqb}
 use Rattle.std.proofs.lemmas.List.{get_or-set_same, get_or-set_other, get_or_past, get_or_append_left, get_or_push, length-set, length_push}
 use Rattle.ba_classes.specs.Best.{better, joined, or_nothing}
-use Rattle.ba_classes.specs.Grid.{IsWide, SameCells, cell_at}
+use Rattle.std.specs.Prelude.{Option, Some, None}
+use Rattle.ba_classes.specs.Grid.{IsWide, SameCells, cell_at, cell_between}
 use Rattle.ba_classes.specs.declared.best.Best.{Best}
 use Rattle.ba_classes.specs.declared.best.Best.TheVariants.{Absent}
 
@@ -87,3 +88,11 @@ module _ (start : List (List Best)) (low : ℕ) (by : Best) (onward : List Best)
       let apart : i ≡ low → ⊥ = λ e. absurd (omega (arith, e)) in
       absent rows (omega arith) j ∙ sym (raised_past i j within h (absent start h j) (absent start h low) (ne_eqb i low apart)))
       (cases_lt i (length start))
+
+-- ---- where there are no rows
+
+pub none_between : (rows : List (List Best)) (i j : Option ℕ) → length rows ≡ 0 → cell_between rows i j ≡ Absent
+none_between [] (Some i) (Some j) none = refl
+none_between [] (Some i) None none = refl
+none_between [] None j none = refl
+none_between (row ∷ rows) i j none = absurd (let no : ⊥ = omega (arith, none) in no)

@@ -49,10 +49,14 @@ impl Grid {
         Ok(place)
     }
 
-    /// The best chain of at least one fact from `x` to `y`.
+    /// The best chain of at least one fact from `x` to `y`. Mostly no node was named.
+    #[tactic(auto, using(crate::proofs::GridLemmas::none_between))]
     pub fn between(&self, x: u32, y: u32) -> Best
         ensures { result ≡ between self.now.places self.now.rows.items x y }
     {
+        if self.rows.is_empty() {
+            return Best::Absent;
+        }
         match (self.places.get(&x), self.places.get(&y)) {
             (Some(row), Some(column)) => self.at(*row, *column),
             _ => Best::Absent,

@@ -21,5 +21,6 @@ pub mod UpdateLemmas
 pub mod WebLemmas
 pub mod AddLemmas
 pub mod QueryLemmas
+pub mod LevelLemmas
 pub mod LessonLemmas
 pub mod SortLemmas

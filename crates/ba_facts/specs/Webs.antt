@@ -133,6 +133,15 @@ pub record AnyRise (terms : List Term) (merges : List (ℕ × ℕ)) (marks : Lis
   pub high : PlaceOf terms merges marks b to
   pub rises : RisesBy facts from g to
 
+-- the two terms have places, and each is shown to be at most the other
+pub record IsLevel (terms : List Term) (merges : List (ℕ × ℕ)) (marks : List Mark) (facts : List Difference) (a b : Term) : Type 0 where
+  pub one : Place
+  pub other : Place
+  pub first : PlaceOf terms merges marks a one
+  pub second : PlaceOf terms merges marks b other
+  pub up : RisesBy facts one (pos 0) other
+  pub down : RisesBy facts other (pos 0) one
+
 -- ---- all of it
 
 -- the numbers, the classes and the marks say what is known

@@ -1,6 +1,7 @@
 ghost use Rattle.std.specs.Prelude.{◌≡◌, ◌∷◌, ◌++◌, ◌↔◌, ◌<◌, ◌⊎◌, ℤ, pos, ◌<ℤ◌, [], length, map, IsTrue, IfOk, OnOk, OnErr};
 ghost use Rattle.std.specs.Option.{option_copied};
 ghost use Rattle.ba_facts.specs.Known.{Chain, DifferentLiterals, OneClass, ShownGap, ShownNotNull, ShownNull, seen};
+ghost use Rattle.ba_facts.specs.Shown.{TheSame};
 ghost use Rattle.ba_facts.specs.Knowing.{IsBound, IsLeastOf, IsLiteralIn, IsThere, LessonIsThere, IsClashing, IsRising, sort_of};
 
 use crate::copies::{copy_plain, copy_shared};
@@ -90,6 +91,13 @@ impl Knowledge {
         ensures { IsTrue result ↔ OneClass self.now (seen a.entry) (seen b.entry) }
     {
         self.web.one_class(a, b)
+    }
+
+    /// Whether the two are the same: of one class, or each shown to be at most the other.
+    pub fn same(&self, a: TermRef<'_>, b: TermRef<'_>) -> bool
+        ensures { IsTrue result ↔ TheSame self.now (seen a.entry) (seen b.entry) }
+    {
+        self.web.same(a, b)
     }
 
     /// Whether the term's class has the literal NULL.

@@ -18,6 +18,13 @@ pub(crate) fn rises(order: &SharedOrder, low: Place, gap: u32, high: Place) -> b
         .shows(low.node, between(low, gap, high), high.node)
 }
 
+/// Whether what is at the one place is shown to be at most what is at the other, and back.
+pub(crate) fn are_level(order: &SharedOrder, one: Place, other: Place) -> bool
+    ensures { IsTrue result ↔ (RisesBy order.now one (pos 0) other × RisesBy order.now other (pos 0) one) }
+{
+    rises(order, one, 0, other) && rises(order, other, 0, one)
+}
+
 /// The greatest number by which what is at `low` is shown to be less than what is at `high`, if any
 /// is shown.
 pub(crate) fn most(order: &SharedOrder, low: Place, high: Place) -> Option<i128>
@@ -85,7 +92,7 @@ fn made_equal(
 ) -> Result<Option<SharedOrder>, AllocError>
     ensures { IfOk result (λ it. Agrees order.now (unwrap_or it order.now) left right) }
 {
-    if rises(order, left, 0, right) && rises(order, right, 0, left) {
+    if are_level(order, left, right) {
         return Ok(None);
     }
     let mut equal = order.copy(alloc)?;

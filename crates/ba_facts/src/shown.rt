@@ -8,13 +8,6 @@ use crate::term::{Lesson, TermRef};
 use ba_model::{Op, Same};
 
 impl Knowledge {
-    /// Whether the two are the same: of one class, or each shown to be at most the other.
-    pub fn same(&self, a: TermRef<'_>, b: TermRef<'_>) -> bool
-        ensures { IsTrue result ↔ TheSame self.now (seen a.entry) (seen b.entry) }
-    {
-        self.one_class(a, b) || (self.shown_gap(a, 0, b) && self.shown_gap(b, 0, a))
-    }
-
     fn neither_null(&self, a: TermRef<'_>, b: TermRef<'_>) -> bool
         ensures { IsTrue result ↔ NeitherNull self.now (seen a.entry) (seen b.entry) }
     {
@@ -30,7 +23,7 @@ impl Knowledge {
     fn is_equal(&self, a: TermRef<'_>, b: TermRef<'_>) -> bool
         ensures { IsTrue result ↔ IsEqual self.now (seen a.entry) (seen b.entry) }
     {
-        self.neither_null(a, b) && self.same(a, b)
+        self.same(a, b) && self.neither_null(a, b)
     }
 
     fn is_at_most(&self, a: TermRef<'_>, b: TermRef<'_>) -> bool

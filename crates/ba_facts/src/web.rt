@@ -7,8 +7,9 @@ ghost use Rattle.ba_classes.specs.Merged.{IsLabel};
 ghost use Rattle.ba_facts.specs.Known.{Known, DifferentLiterals, OneClass, ShownGap, ShownNotNull, seen};
 ghost use Rattle.ba_facts.specs.Knowing.{IsBound, IsClashing, IsLiteralIn, IsRising, IsThere, LessonIsThere};
 ghost use Rattle.ba_facts.specs.Marks.{AreLiterals};
+ghost use Rattle.ba_facts.specs.Shown.{TheSame};
 ghost use Rattle.ba_facts.specs.Telling.{AreThere, CanTell, atom, told};
-ghost use Rattle.ba_facts.specs.Webs.{AnyRise, Denies, HasPlace, IsClassMark, IsSomeWeb, IsWeb, Joins, KeepsOrder, PlaceOf, Raises};
+ghost use Rattle.ba_facts.specs.Webs.{AnyRise, Denies, HasPlace, IsClassMark, IsLevel, IsSomeWeb, IsWeb, Joins, KeepsOrder, PlaceOf, Raises};
 ghost use Rattle.ba_facts.specs.Finding.{AreFound, AreNumbered, AreThose};
 ghost use Rattle.ba_facts.specs.declared.marks.Place.{Place};
 ghost use Rattle.ba_facts.specs.declared.term.Lesson.{Lesson};
@@ -22,7 +23,7 @@ use crate::marking::{deny, mark_of, set_mark};
 use crate::marks::{Literals, Mark, Place, own_not_null, own_place};
 use crate::names::Names;
 use crate::number::number_after;
-use crate::rises::{agreed, most, raise, replace, rises};
+use crate::rises::{agreed, are_level, most, raise, replace, rises};
 use crate::shared_order::SharedOrder;
 use crate::term::{Lesson, Sort, TermAtom, TermRef};
 use ba_model::{Op, Value};
@@ -339,6 +340,31 @@ impl Web {
         match self.names.find(b) {
             Some(y) => self.classes.same(x, y),
             None => false,
+        }
+    }
+
+    /// Whether the two terms are the same: of one class, or each shown to be at most the other.
+    pub(crate) fn same(&self, a: TermRef<'_>, b: TermRef<'_>) -> bool
+        requires { IsSomeWeb self.now }
+        ensures { (k : Known) →
+            IsWeb k self.now → IsTrue result ↔ TheSame k (seen a.entry) (seen b.entry) }
+    {
+        if self.one_class(a, b) {
+            true
+        } else {
+            self.is_level(a, b)
+        }
+    }
+
+    // Whether the two terms' places are shown to be one.
+    fn is_level(&self, a: TermRef<'_>, b: TermRef<'_>) -> bool
+        requires { IsSomeWeb self.now }
+        ensures { IsTrue result ↔ IsLevel self.now.names self.now.classes.merges self.now.marks.items self.now.order
+            (seen a.entry) (seen b.entry) }
+    {
+        match (self.place_of(a), self.place_of(b)) {
+            (Some(one), Some(other)) => are_level(&self.order, one, other),
+            _ => false,
         }
     }
 
