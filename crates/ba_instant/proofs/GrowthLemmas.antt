@@ -64,13 +64,13 @@ module _ (k l : Known) (unknowns : List Sort) (lessons : List Lesson) (unknowns_
 
 -- what was learned was told
 module _ (k : Known) where
-  shown_itself : {a : Term} → NotNullTerm k a → ShownNotNull k a
+  pub shown_itself : {a : Term} → NotNullTerm k a → ShownNotNull k a
   shown_itself {a} h = record { other = a; class = itself; not_null = h }
 
   compared : (op : Op) (a b : Term) → IsComparison op → Learned k op a b → NeitherNull k a b
   compared op a b is h = record { left = shown_itself (left h is); right = shown_itself (right h is) }
 
-  atom_told : (op : Op) (a b : Term) → Learned k op a b → IsToldOf k op a b
+  pub atom_told : (op : Op) (a b : Term) → Learned k op a b → IsToldOf k op a b
   atom_told Eq a b h = (compared Eq a b tt h, equated (equal h))
   atom_told Ne a b h = (compared Ne a b tt h, record { x = a; y = b; learned = h; sides = inl (inl itself, inl itself) })
   atom_told Lt a b h = record { not_null = compared Lt a b tt h; gap = gap_of (one_rise (less h)) }

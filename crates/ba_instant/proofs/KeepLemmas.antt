@@ -1,9 +1,9 @@
 -- After a quiet step the branch of its number stays quiet up to each round before the step's.
-use Rattle.std.proofs.Common.{◌≡◌, ◌∙◌, ℕ, zero, suc, ◌+◌, ◌<◌, ◌≤◌, List, [], ◌∷◌, length, map, refl, ap, sym, subst, arith}
+use Rattle.std.proofs.Common.{◌≡◌, ◌∙◌, ℕ, zero, suc, ◌+◌, ◌<◌, ◌≤◌, ◌⊎◌, inl, inr, List, [], ◌∷◌, length, map, refl, ap, sym, subst, arith}
 use Rattle.std.proofs.lemmas.List.{length-set}
 use Rattle.std.proofs.lemmas.List.Elements.{All-weaker}
 use Rattle.std.proofs.lemmas.Option.{same_Some, slice_get_within}
-use Rattle.std.specs.List.{All, AllZip, IsDistinct}
+use Rattle.std.specs.List.{All, AllZip, IsDistinct, zip}
 use Rattle.std.specs.Prelude.{Some, None, nat_eq, slice_get, slice_set}
 use Rattle.ba_model.specs.declared.policy.View.{View}
 use Rattle.ba_model.specs.declared.query.Part.{Part}
@@ -14,18 +14,21 @@ use Rattle.ba_facts.specs.Knowing.{IsThere}
 use Rattle.ba_facts.specs.Matches.{Under, round_of, row_of, term_of}
 use Rattle.ba_facts.specs.declared.branch.Branch.{Branch}
 use Rattle.ba_facts.specs.declared.term.Fact.{Fact}
+use Rattle.ba_facts.specs.declared.term.Lesson.TheVariants.{Same}
 use Rattle.ba_facts.specs.declared.term.Side.TheVariants.{One, Two}
 use Rattle.ba_facts.specs.declared.term.Term.{Term}
 use Rattle.ba_kernel.proofs.BuildNext.{row_there}
 use Rattle.ba_kernel.proofs.StepFits.{All-at}
 use Rattle.ba_kernel.specs.Courses.{IsOpen, ProblemFits, Slots, after, branch_of}
-use Rattle.ba_kernel.specs.Effects.{EntryLeads, IsCase, IsLinkOf, Leads, LinkLeads, RuleLeads, ViewLeads, rows_at, with_fact, with_lessons}
-use Rattle.ba_kernel.specs.News.{IsRound}
+use Rattle.ba_kernel.specs.Effects.{EntryLeads, IsCase, IsLinkOf, KeyLeads, Leads, LinkLeads, RuleLeads, ViewLeads, rows_at, with_fact, with_lessons}
+use Rattle.ba_kernel.specs.News.{IsNewOn, IsRound}
 use Rattle.ba_kernel.specs.declared.problem.Problem.{Problem}
 use Rattle.ba_kernel.specs.declared.problem.ProblemEntry.{ProblemEntry}
 use Rattle.ba_kernel.specs.declared.step.Step.{Step}
 use Rattle.ba_kernel.specs.declared.step.Step.TheVariants as steps
 use Rattle.ba_instant.proofs.FilledRuns.{runs_are_filled}
+use Rattle.ba_instant.proofs.FreshLemmas.{told_of_rows}
+use Rattle.ba_instant.proofs.FreshStepLemmas.{new_before}
 use Rattle.ba_instant.proofs.GivenLemmas.{case_grows}
 use Rattle.ba_instant.proofs.GroundRuns.{runs_are_grounded}
 use Rattle.ba_instant.proofs.LinkRowLemmas.{link_grows}
@@ -34,8 +37,10 @@ use Rattle.ba_instant.proofs.OldSplitLemmas.{get_within_front}
 use Rattle.ba_instant.proofs.QuietLemmas.{new_was_new, quiet_stays}
 use Rattle.ba_instant.proofs.QuietStepLemmas.{yields_gives}
 use Rattle.ba_instant.proofs.RoundLemmas.{round_once}
+use Rattle.ba_instant.specs.Offers.{IsTelling}
+use Rattle.ba_instant.specs.QuietKeys.{AreOne, IsQuietKey}
 use Rattle.ba_instant.specs.QuietSteps.{FactsAreFilled, GivesRow, IsPlain, IsQuietEntry, IsQuietLink, IsQuietRule, IsQuietStep, IsQuietView, NewAfterQuietStep, QuietStepKeeps, TakesQuietly}
-use Rattle.ba_instant.specs.Windows.{GrowsQuietly, IsGrounded}
+use Rattle.ba_instant.specs.Windows.{GrowsQuietly, IsGrounded, IsQuietUpto}
 
 -- ---- the case that keeps the number
 
@@ -83,6 +88,14 @@ at_least bound round b c low h =
     }
 
 -- ---- each kind
+
+-- of the steps that tell the branch of the number something none is new on c that wasn't on b, and each has the round that it had
+abbrev pub NoneIsNew : Problem → Branch → Branch → ℕ → Type 0
+NoneIsNew p b c n = (step : Step) (round : ℕ) → IsTelling n step → IsNewOn p c step × IsRound p c step round → IsNewOn p b step × IsRound p b step round
+
+-- the branch grows quietly, or nothing is new that wasn't
+abbrev pub IsKept : Problem → Branch → Branch → ℕ → ℕ → Type 0
+IsKept p b c n round = GrowsQuietly round b c ⊎ NoneIsNew p b c n
 
 module _ (p : Problem) (b c : Branch) (grounded : IsGrounded b) (filled : FactsAreFilled p.policy.schema b) where
   entry_grows : (branch entry round : ℕ) (cases : List Branch) → EntryLeads p b entry cases → BeginsWith cases c → IsQuietEntry p b entry → IsRound p b (steps.Entry branch entry) round →
@@ -146,15 +159,27 @@ module _ (p : Problem) (b c : Branch) (grounded : IsGrounded b) (filled : FactsA
       subst (GrowsQuietly (1 + round_of b (fact ∷ [])) b) (of_one cases new c leads.cases_are begins)
       (subst (λ r. GrowsQuietly r b new) same (link_grows s b leads.f leads.it there leads.not_null distinct leads.lessons leads.lessons_are))
 
-  step_grows : (step : Step) (cases : List Branch) (round : ℕ) → Leads p b step cases → BeginsWith cases c → IsQuietStep p b step → IsRound p b step round → GrowsQuietly round b c
-  step_grows (steps.Entry branch entry) cases round leads begins quiet round_at = entry_grows branch entry round cases leads begins quiet round_at
-  step_grows (steps.Key branch key left right) cases round leads begins quiet round_at = absurd quiet
+  key_adds : (n key one other : ℕ) (cases : List Branch) → KeyLeads p b key one other cases → BeginsWith cases c → IsQuietKey p b one other → NoneIsNew p b c n
+  key_adds n key one other cases leads begins quiet =
+      let f : quiet.f ≡ leads.f = same_Some quiet.f leads.f (sym quiet.left_is ∙ leads.pair.left_is) in
+      let g : quiet.g ≡ leads.g = same_Some quiet.g leads.g (sym quiet.right_is ∙ leads.pair.right_is) in
+      let rows : AreOne b.known quiet.moves leads.f.terms leads.g.terms =
+      subst (λ (x : Fact). AreOne b.known quiet.moves x.terms leads.g.terms) f (subst (λ (x : Fact). AreOne b.known quiet.moves quiet.f.terms x.terms) g quiet.one) in
+      let lessons = map (λ (two : Term × Term). Same two.0 two.1) (zip leads.f.terms leads.g.terms) in
+      subst (λ (d : Branch). (step : Step) (round : ℕ) → IsTelling n step → IsNewOn p d step × IsRound p d step round → IsNewOn p b step × IsRound p b step round)
+      (of_one cases (with_lessons b lessons) c leads.cases_are begins)
+      (λ step round. new_before p b quiet.moves lessons quiet.little quiet.quiet (told_of_rows b.known quiet.moves leads.f.terms leads.g.terms rows) n step round)
+
+  step_grows : (step : Step) (cases : List Branch) (round : ℕ) → Leads p b step cases → BeginsWith cases c → IsQuietStep p b step → IsRound p b step round → IsKept p b c (branch_of step) round
+  step_grows (steps.Entry branch entry) cases round leads begins quiet round_at =
+      inl (entry_grows branch entry round cases leads begins quiet round_at)
+  step_grows (steps.Key branch key left right) cases round leads begins quiet round_at = inr (key_adds branch key left right cases leads begins quiet)
   step_grows (steps.Link branch link fact) cases round leads begins quiet round_at =
-      subst (λ r. GrowsQuietly r b c) (sym round_at) (link_grows_by link fact cases leads begins quiet)
+      inl (subst (λ r. GrowsQuietly r b c) (sym round_at) (link_grows_by link fact cases leads begins quiet))
   step_grows (steps.Rule branch rule part facts) cases round leads begins quiet round_at =
-      subst (λ r. GrowsQuietly r b c) (sym round_at) (rule_grows rule part facts cases leads begins quiet)
+      inl (subst (λ r. GrowsQuietly r b c) (sym round_at) (rule_grows rule part facts cases leads begins quiet))
   step_grows (steps.View branch view part facts) cases round leads begins quiet round_at =
-      subst (λ r. GrowsQuietly r b c) (sym round_at) (view_grows view part facts cases leads begins quiet)
+      inl (subst (λ r. GrowsQuietly r b c) (sym round_at) (view_grows view part facts cases leads begins quiet))
   step_grows (steps.Split branch atom) cases round leads begins quiet round_at = absurd quiet
   step_grows (steps.Absurd branch) cases round leads begins quiet round_at = absurd quiet
   step_grows (steps.Goal branch part facts) cases round leads begins quiet round_at = absurd quiet
@@ -163,20 +188,33 @@ module _ (p : Problem) (taken : List Step) (step : Step) (old new : Slots) (b c 
   grounded_there : IsGrounded b
   grounded_there = runs_are_grounded p taken old (branch_of step) b fits it.runs it.from
 
-  grows_there : GrowsQuietly round b c
-  grows_there =
+  filled_there : FactsAreFilled p.policy.schema b
+  filled_there = runs_are_filled p taken old (branch_of step) b it.runs it.from
+
+  kept_there : IsKept p b c (branch_of step) round
+  kept_there =
       let n = branch_of step in
       let same : it.takes.branch ≡ b = same_Some it.takes.branch b (same_Some (Some it.takes.branch) (Some b) (sym it.takes.open_ ∙ it.from)) in
       let leads = subst (λ d. Leads p d step it.takes.cases) same it.takes.leads in
       let begins = first_case old n it.takes.cases c (slice_get_within old n (Some b) it.from) (subst (λ slots. IsOpen slots n c) it.takes.new_is it.to) in
-      let filled = runs_are_filled p taken old n b it.runs it.from in
-      step_grows p b c grounded_there filled step it.takes.cases round leads begins it.quiet it.round_is
+      step_grows p b c grounded_there filled_there step it.takes.cases round leads begins it.quiet it.round_is
+
+  pub was_new : (other : Step) (its_round : ℕ) → IsTelling (branch_of step) other → IsNewOn p c other → IsRound p c other its_round → its_round ≤ round →
+      IsNewOn p b other × IsRound p b other its_round
+  was_new other its_round telling is_new its low = elim kept_there as (λ _. IsNewOn p b other × IsRound p b other its_round) [
+    | inl grows ↦ new_was_new p b c (branch_of step) round other its_round grounded_there grows telling low is_new its
+    | inr none ↦ none other its_round telling (is_new, its)
+  ]
+
+  pub stays_quiet : (bound : ℕ) → bound ≤ round → IsQuietUpto p b (branch_of step) bound → IsQuietUpto p c (branch_of step) bound
+  stays_quiet bound low quiet = elim kept_there as (λ _. IsQuietUpto p c (branch_of step) bound) [
+    | inl grows ↦ quiet_stays p b c (branch_of step) (branch_of step) bound grounded_there (at_least bound round b c low grows) quiet
+    | inr none ↦ λ other its_round telling is_new its. let old = none other its_round telling (is_new, its) in quiet other its_round telling old.0 old.1
+  ]
 
 pub new_after_quiet_step : NewAfterQuietStep
 new_after_quiet_step p taken step old new b c round other its_round fits it telling is_new its low =
-    new_was_new p b c (branch_of step) round other its_round (grounded_there p taken step old new b c round fits it) (grows_there p taken step old new b c round fits it) telling low is_new its
+    was_new p taken step old new b c round fits it other its_round telling is_new its low
 
 pub quiet_step_keeps : QuietStepKeeps
-quiet_step_keeps p taken step old new b c round bound fits it low quiet =
-    let n = branch_of step in
-    quiet_stays p b c n n bound (grounded_there p taken step old new b c round fits it) (at_least bound round b c low (grows_there p taken step old new b c round fits it)) quiet
+quiet_step_keeps p taken step old new b c round bound fits it low quiet = stays_quiet p taken step old new b c round fits it bound low quiet

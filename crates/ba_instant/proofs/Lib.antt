@@ -28,6 +28,8 @@ mod GivenLemmas
 mod FilledRuns
 mod QuietStepLemmas
 mod LinkRowLemmas
+mod FreshLemmas
+mod FreshStepLemmas
 mod KeepLemmas
 mod LooseLemmas
 mod LooseStepLemmas

@@ -38,7 +38,7 @@ module _ (b c : Branch) (grounded : IsGrounded b) (growth : IsQuietGrowth b c) w
   -- ---- rows that are the same
 
   two_on : (x y : Option Term) → AreTheSame k x y → AreTheSame l x y
-  two_on x y h = record { left = h.left; right = h.right; left_is = h.left_is; right_is = h.right_is; same = same_on k l growth.stands growth.itself on back h.left h.right h.same }
+  two_on x y h = record { left = h.left; right = h.right; left_is = h.left_is; right_is = h.right_is; same = same_on k l (IsThere k) growth.stands growth.itself on back h.left h.right h.same }
 
   pub same_row_on : (xs ys : List (Option Term)) → AllZip (AreTheSame k) xs ys → AllZip (AreTheSame l) xs ys
   same_row_on [] [] h = tt
@@ -55,7 +55,7 @@ module _ (b c : Branch) (grounded : IsGrounded b) (growth : IsQuietGrowth b c) w
   shown_on facts conds kept h =
       let rows = map (terms_at b) facts in
       subst (λ rows. All (IsShown l rows) conds) (sym (rows_kept b c facts kept))
-      (All-weaker (IsShown k rows) (IsShown l rows) (λ atom. shown_still k l growth.stands growth.itself on back rows atom) conds h)
+      (All-weaker (IsShown k rows) (IsShown l rows) (λ atom. shown_still k l (IsThere k) growth.stands growth.itself on back rows atom) conds h)
 
   answered_on : (side : Side) (part : Part) (row : List (Option Term)) → IsAnswered b side part row → IsAnswered c side part row
   answered_on side part row h =
@@ -76,19 +76,19 @@ module _ (b c : Branch) (grounded : IsGrounded b) (growth : IsQuietGrowth b c) w
     pub shown_back : (facts : List ℕ) (conds : List Atom) → AreKept b c facts → All (IsShown l (map (terms_at c) facts)) conds → All (IsShown k (map (terms_at b) facts)) conds
     shown_back facts conds kept h =
         let rows = map (terms_at b) facts in
-        All-weaker (IsShown l rows) (IsShown k rows) (λ atom. shown_before k l growth.stands growth.itself on back rows (there facts) atom) conds
+        All-weaker (IsShown l rows) (IsShown k rows) (λ atom. shown_before k l (IsThere k) growth.stands growth.itself on back rows (there facts) atom) conds
         (subst (λ rows. All (IsShown l rows) conds) (rows_kept b c facts kept) h)
 
     alive_on : (facts : List ℕ) (conds : List Atom) → AreKept b c facts → All (IsLive k (map (terms_at b) facts)) conds → All (IsLive l (map (terms_at c) facts)) conds
     alive_on facts conds kept h =
         let rows = map (terms_at b) facts in
         subst (λ rows. All (IsLive l rows) conds) (sym (rows_kept b c facts kept))
-        (All-weaker (IsLive k rows) (IsLive l rows) (λ atom. live_still k l growth.stands growth.itself on back rows (there facts) atom) conds h)
+        (All-weaker (IsLive k rows) (IsLive l rows) (λ atom. live_still k l (IsThere k) growth.stands growth.itself on back rows (there facts) atom) conds h)
 
     alive_back : (facts : List ℕ) (conds : List Atom) → AreKept b c facts → All (IsLive l (map (terms_at c) facts)) conds → All (IsLive k (map (terms_at b) facts)) conds
     alive_back facts conds kept h =
         let rows = map (terms_at b) facts in
-        All-weaker (IsLive l rows) (IsLive k rows) (λ atom. live_before k l growth.stands growth.itself on back rows (there facts) atom) conds
+        All-weaker (IsLive l rows) (IsLive k rows) (λ atom. live_before k l (IsThere k) growth.stands growth.itself on back rows (there facts) atom) conds
         (subst (λ rows. All (IsLive l rows) conds) (rows_kept b c facts kept) h)
 
     -- ---- heads
@@ -106,7 +106,7 @@ module _ (b c : Branch) (grounded : IsGrounded b) (growth : IsQuietGrowth b c) w
           right = h.right;
           left_is = h.left_is;
           right_is = h.right_is;
-          same = same_back k l growth.stands growth.itself on back h.left h.right (there facts x h.left h.left_is) right_there h.same;
+          same = same_back k l (IsThere k) growth.stands growth.itself on back h.left h.right (there facts x h.left h.left_is) right_there h.same;
         }
 
     same_row_back : (facts : List ℕ) (head : List Operand) (row : List Term) → All (IsThere k) row → AllZip (AreTheSame l) (row_of b facts head) (map Some row) →

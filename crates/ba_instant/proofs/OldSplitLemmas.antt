@@ -95,10 +95,10 @@ module _ (p : Problem) (b c : Branch) (grounded : IsGrounded b) (growth : IsQuie
   kind_back (Var n) kind inside e = subst (λ ks. slice_get ks n ≡ Some kind) growth.vars e
 
   may_back : (op : Op) (x y : Term) → IsThere k x → IsThere k y → MayBeSplit c op x y → MayBeSplit b op x y
-  may_back Eq x y first second h = neither_back k l growth.stands growth.itself on back x y first second h
-  may_back Ne x y first second h = neither_back k l growth.stands growth.itself on back x y first second h
-  may_back Lt x y first second h = neither_back k l growth.stands growth.itself on back x y first second h
-  may_back Le x y first second h = neither_back k l growth.stands growth.itself on back x y first second h
+  may_back Eq x y first second h = neither_back k l (IsThere k) growth.stands growth.itself on back x y first second h
+  may_back Ne x y first second h = neither_back k l (IsThere k) growth.stands growth.itself on back x y first second h
+  may_back Lt x y first second h = neither_back k l (IsThere k) growth.stands growth.itself on back x y first second h
+  may_back Le x y first second h = neither_back k l (IsThere k) growth.stands growth.itself on back x y first second h
   may_back IsNull x y first second h = h
   may_back NotNull x y first second h = h
 
@@ -114,9 +114,9 @@ module _ (p : Problem) (b c : Branch) (grounded : IsGrounded b) (growth : IsQuie
 
   new_kind_back : (op : Op) (x y : Term) → IsThere k x → IsThere k y → IsOfNewKind l op x y → IsOfNewKind k op x y
   new_kind_back Eq x y first second h = absurd h
-  new_kind_back Ne x y first second h = neither_back k l growth.stands growth.itself on back x y first second h
-  new_kind_back Lt x y first second h = neither_back k l growth.stands growth.itself on back x y first second h
-  new_kind_back Le x y first second h = neither_back k l growth.stands growth.itself on back x y first second h
+  new_kind_back Ne x y first second h = neither_back k l (IsThere k) growth.stands growth.itself on back x y first second h
+  new_kind_back Lt x y first second h = neither_back k l (IsThere k) growth.stands growth.itself on back x y first second h
+  new_kind_back Le x y first second h = neither_back k l (IsThere k) growth.stands growth.itself on back x y first second h
   new_kind_back IsNull x y first second h = tt
   new_kind_back NotNull x y first second h = tt
 
@@ -124,8 +124,8 @@ module _ (p : Problem) (b c : Branch) (grounded : IsGrounded b) (growth : IsQuie
   tells_back atom facts candidate h =
       let both = candidate_there atom facts candidate in
       record {
-        not_shown = λ s. h.not_shown (shows_on k l growth.stands growth.itself on back atom.op atom.left atom.right s);
-        not_refuted = λ s. h.not_refuted (refutes_on k l growth.stands growth.itself on back atom.op atom.left atom.right s);
+        not_shown = λ s. h.not_shown (shows_on k l (IsThere k) growth.stands growth.itself on back atom.op atom.left atom.right s);
+        not_refuted = λ s. h.not_refuted (refutes_on k l (IsThere k) growth.stands growth.itself on back atom.op atom.left atom.right s);
         kind = new_kind_back atom.op atom.left atom.right both.0 both.1 h.kind;
         facts = facts;
         candidate = candidate;

@@ -65,7 +65,7 @@ module _ (p : Problem) (b c : Branch) (grounded : IsGrounded b) (growth : IsQuie
   all_same [] [] h = tt
   all_same [] (u ∷ us) h = absurd h
   all_same (t ∷ ts) [] h = absurd h
-  all_same (t ∷ ts) (u ∷ us) h = (same_on k l growth.stands growth.itself on back t u h.0, all_same ts us h.1)
+  all_same (t ∷ ts) (u ∷ us) h = (same_on k l (IsThere k) growth.stands growth.itself on back t u h.0, all_same ts us h.1)
 
   key_met : (one other : ℕ) → KeyIsMet b one other → KeyIsMet c one other
   key_met one other h =
@@ -84,7 +84,7 @@ module _ (p : Problem) (b c : Branch) (grounded : IsGrounded b) (growth : IsQuie
         c = h.c;
         left_is = h.left_is;
         right_is = h.right_is;
-        equal = shows_on k l growth.stands growth.itself on back Eq h.a h.c h.equal;
+        equal = shows_on k l (IsThere k) growth.stands growth.itself on back Eq h.a h.c h.equal;
       }
 
   link_met : (link fact : ℕ) → LinkIsMet p.policy.schema b link fact → LinkIsMet p.policy.schema c link fact
@@ -155,7 +155,7 @@ module _ (p : Problem) (b c : Branch) (grounded : IsGrounded b) (growth : IsQuie
                 c = at.c;
                 left_is = at.left_is;
                 right_is = at.right_is;
-                equal = shows_back k l growth.stands growth.itself on back Eq at.a at.c (cell_there one h.f column at.a left_is at.left_is)
+                equal = shows_back k l (IsThere k) growth.stands growth.itself on back Eq at.a at.c (cell_there one h.f column at.a left_is at.left_is)
                     (cell_there other h.g column at.c right_is at.right_is) at.equal;
               })
               h.columns h.equal;
@@ -174,7 +174,7 @@ module _ (p : Problem) (b c : Branch) (grounded : IsGrounded b) (growth : IsQuie
               record {
                 a = at.a;
                 there = at.there;
-                not_null = not_null_back k l growth.stands growth.itself on back at.a (cell_there fact h.f column at.a fact_is at.there) at.not_null;
+                not_null = not_null_back k l (IsThere k) growth.stands growth.itself on back at.a (cell_there fact h.f column at.a fact_is at.there) at.not_null;
               })
               h.it.columns h.not_null;
         }

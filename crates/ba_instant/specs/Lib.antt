@@ -3,6 +3,7 @@ pub mod Dues
 pub mod Offers
 pub mod Windows
 pub mod Loose
+pub mod QuietKeys
 pub mod QuietSteps
 pub mod Givens
 pub mod Looks

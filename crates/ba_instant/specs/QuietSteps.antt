@@ -26,6 +26,7 @@ use Rattle.ba_kernel.specs.declared.problem.ProblemEntry.{ProblemEntry}
 use Rattle.ba_kernel.specs.declared.step.Step.{Step}
 use Rattle.ba_kernel.specs.declared.step.Step.TheVariants as steps
 use Rattle.ba_instant.specs.Offers.{IsTelling}
+use Rattle.ba_instant.specs.QuietKeys.{IsQuietKey}
 use Rattle.ba_instant.specs.Windows.{GrowsQuietly, IsQuietUpto, IsToldOf}
 
 -- ---- rows of terms that give a row already, facts or not
@@ -108,7 +109,7 @@ pub record IsQuietRule (p : Problem) (b : Branch) (rule part : ℕ) (facts : Lis
 
 abbrev pub IsQuietStep : Problem → Branch → Step → Type 0
 IsQuietStep p b (steps.Entry branch entry) = IsQuietEntry p b entry
-IsQuietStep p b (steps.Key branch key left right) = ⊥
+IsQuietStep p b (steps.Key branch key left right) = IsQuietKey p b left right
 IsQuietStep p b (steps.Link branch link fact) = IsQuietLink p.policy.schema b link fact
 IsQuietStep p b (steps.Rule branch rule part facts) = IsQuietRule p b rule part facts
 IsQuietStep p b (steps.View branch view part facts) = IsQuietView p b view part facts

@@ -4,10 +4,10 @@ ghost use Rattle.ba_kernel.specs.declared.step.Step.{Step as AStep};
 ghost use Rattle.ba_instant.specs.Agendas.{EndsOld, IsAgendaOf, IsFirstOf, IsInTurn, IsNewHere, IsPast, IsQuietAgenda, IsTrimmed, IsWithoutLast};
 
 use crate::batch::{Batch, is_single};
-use crate::copies::copy_step;
 use crate::found::Found;
 use crate::order::{Pick, compare_steps};
 use ba_kernel::{Search, Step};
+use ba_model::Duplicate;
 use std::alloc::{AllocError, Global};
 
 /// Steps of a round on a branch, those at the end to be picked first. No step of a lesser round that
@@ -66,7 +66,7 @@ impl Agenda {
     {
         match self.steps.last() {
             Some(last) => {
-                let step = copy_step(alloc, last)?;
+                let step = last.copy(alloc)?;
                 Ok(Some(Found {
                     round: self.round,
                     step,

@@ -8,14 +8,13 @@ ghost use Rattle.ba_instant.specs.Nexts.{AreWaiting, IsAhead, IsLeafOf, IsTaken}
 ghost use Rattle.ba_instant.specs.declared.ends.Settled.TheVariants.{Proved as ByProof, Spent};
 ghost use Rattle.ba_instant.specs.declared.order.Pick.TheVariants.{First};
 
-use crate::copies::copy_steps;
 use crate::due::{Due, Next, keep_quiet, next_step};
 use crate::order::Pick;
 use crate::quiet::{left_after, quiet_round};
 use crate::waiting::Waiting;
 use ba_facts::Branch;
 use ba_kernel::{Problem, Proved, Search, Step};
-use ba_model::{Failure, List};
+use ba_model::{Duplicate, Failure, List};
 use std::alloc::{AllocError, Global};
 
 /// The steps that were taken, and an open branch that they leave, on which no step is new.
@@ -167,7 +166,7 @@ fn closed(search: Search) -> Settled
 fn spent(alloc: Global, search: &Search) -> Result<Settled, AllocError>
     ensures { IfOk result (λ it. it ≡ Spent search.now.steps) }
 {
-    let steps = copy_steps(alloc, search.steps())?;
+    let steps = search.steps().copy(alloc)?;
     Ok(Settled::Spent(steps))
 }
 
@@ -178,7 +177,7 @@ fn saturated(alloc: Global, search: &Search, number: u32) -> Result<Settled, All
 {
     match search.branch(number) {
         Some(branch) => {
-            let steps = copy_steps(alloc, search.steps())?;
+            let steps = search.steps().copy(alloc)?;
             let branch = branch.copy(alloc)?;
             Ok(Settled::Saturated(Leaf { steps, branch }))
         }

@@ -13,6 +13,7 @@ ghost use Rattle.ba_instant.specs.QuietSteps.{IsPlain, IsQuietLink, IsQuietStep,
 
 use crate::agenda::Agenda;
 use crate::found::Found;
+use crate::fresh::is_quiet_key;
 use crate::given::is_quiet_entry;
 use crate::loose::is_loose;
 use ba_facts::{Branch, Knowledge, TermAtom, TermRef};
@@ -82,7 +83,7 @@ fn is_quiet_at(
 
 /// Whether the step is sure to leave its branch as quiet as it was: a link adds a row whose unknowns
 /// stand for nothing else, a view shows what was told as it is, an entry says no more than what is
-/// known of its constants.
+/// known of its constants, a key tells of unknowns alone that nothing asks for.
 fn is_quiet_step(
     alloc: Global,
     problem: &Problem,
@@ -100,7 +101,7 @@ fn is_quiet_step(
             facts,
             ..
         } => Ok(is_quiet_view(problem, branch, *view, *part, facts.as_slice())),
-        Step::Key { .. } => Ok(false),
+        Step::Key { left, right, .. } => is_quiet_key(alloc, problem, branch, *left, *right),
         Step::Split { .. } => Ok(false),
         Step::Rule { .. } => Ok(false),
         Step::Absurd { .. } => Ok(false),
