@@ -73,7 +73,7 @@ take_one xs i x e = rw add-one (take_next xs i x e)
 pub none_indexed : (rows : List (List Value)) (columns : List ℕ) (index : BTreeSet (List Value)) → set.IsEmpty index → IsIndex (take 0 rows) columns index
 none_indexed rows columns index e = record { has = λ values. rw e refl }
 
-any_push : {X : Type 0} (p : X → Bool) (xs : List X) (x : X) → list_any p (xs ++ x ∷ []) ≡ (list_any p xs || p x)
+pub any_push : {X : Type 0} (p : X → Bool) (xs : List X) (x : X) → list_any p (xs ++ x ∷ []) ≡ (list_any p xs || p x)
 any_push p [] x = or_false (p x)
   where
     or_false : (b : Bool) → (b || false) ≡ b
@@ -89,7 +89,7 @@ or_none : (a b : Bool) → b ≡ false → a ≡ (a || b)
 or_none true b e = refl
 or_none false b e = sym e
 
-or_swapped : (a b : Bool) → cond b true a ≡ (a || b)
+pub or_swapped : (a b : Bool) → cond b true a ≡ (a || b)
 or_swapped true true = refl
 or_swapped true false = refl
 or_swapped false true = refl

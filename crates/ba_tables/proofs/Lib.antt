@@ -11,6 +11,7 @@ pub mod FoundLemmas
 pub mod FrontLemmas
 pub mod IndexLemmas
 pub mod NumberLemmas
+pub mod PairLemmas
 pub mod PositionLemmas
 pub mod RecordLemmas
 pub mod RowsLemmas

@@ -3,6 +3,7 @@ pub mod Broken
 pub mod FileFaults
 pub mod Index
 pub mod Left
+pub mod Pairs
 pub mod Spelling
 pub mod TableFile
 pub mod TableSet

@@ -9,6 +9,7 @@ ghost use Rattle.ba_tables.specs.Index.{IsIndex, key_values};
 
 use crate::by_order::{has_twins, none_dangles, order_by};
 use crate::null::is_null;
+use crate::pairs::with_pairs_once;
 use ba_index::{Order, orders_of};
 use ba_model::{Duplicate, Link, List, Row, RowSet, Table, Value};
 use std::alloc::{AllocError, Global};
@@ -193,6 +194,22 @@ fn link_break(
     first_dangling(alloc, own, targets, link)
 }
 
+/// The first row of a table that has no target by the link, of which each pair of columns is tested once.
+fn break_over_pairs(
+    alloc: Global,
+    table: u32,
+    rows: &RowSet,
+    orders: &[Order],
+    link: &Link,
+) -> Result<Option<u64>, AllocError>
+    requires { All (IsOrderOf rows.now) orders.now }
+    ensures { IfOk result (λ found. found
+        ≡ position_from (dangles link.now (rows_of rows.now link.now.target)) 1 (rows_of rows.now table)) }
+{
+    let once = with_pairs_once(alloc, link)?;
+    link_break(alloc, table, rows, orders, &once)
+}
+
 fn broken_link(
     alloc: Global,
     table: u32,
@@ -209,7 +226,7 @@ fn broken_link(
     };
     for link in 0..count {
         let it = links.get(link as usize);
-        if let Some(row) = link_break(alloc, table, rows, orders, it)? {
+        if let Some(row) = break_over_pairs(alloc, table, rows, orders, it)? {
             return Ok(Some(TablesFault::LinkBroken { table, link, row }));
         }
     }

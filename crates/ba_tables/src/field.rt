@@ -36,6 +36,9 @@ pub fn value_at(
             Some(number) => Ok(Value::Int(number)),
             None => Err(Failure::Fault(TableFault::BadNumber(row, column))),
         },
-        Kind::Text => Ok(Value::Text(Str::new(alloc, field)?)),
+        Kind::Text => {
+            let text = Str::new(alloc, field)?;
+            Ok(Value::text(alloc, text)?)
+        }
     }
 }

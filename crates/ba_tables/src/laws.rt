@@ -1,6 +1,7 @@
 //! Laws of the definitions.
 ghost use Rattle.ba_tables.specs.Breaks.{TellsFirstBroken};
 ghost use Rattle.ba_tables.specs.FileFaults.{TellsHeader, TellsNumber, TellsTooMany, TellsUtf8, TellsWidth};
+ghost use Rattle.ba_tables.specs.Pairs.{CountsPairsOnce};
 ghost use Rattle.ba_tables.specs.Spelling.{ReadsAsSpelled, RowsAreUnique};
 
 /// A table's file reads as rows exactly where it spells them, and it spells one list of rows at most.
@@ -22,4 +23,9 @@ pub fn tells_first_fault()
 /// Checking tells the first broken key or link, and passes exactly where none is broken.
 pub fn tells_first_broken()
     ensures { TellsFirstBroken }
+{}
+
+/// A link that repeats pairs of columns means what it means over its distinct pairs.
+pub fn counts_pairs_once()
+    ensures { CountsPairsOnce }
 {}

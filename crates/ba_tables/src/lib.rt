@@ -11,6 +11,7 @@ pub mod laws;
 mod line;
 mod lines;
 mod null;
+mod pairs;
 mod tables;
 
 pub use broken::{TablesFault, broken_table};
