@@ -1,3 +1,4 @@
+pub mod Appended
 pub mod Names
 pub mod Object
 pub mod Printed

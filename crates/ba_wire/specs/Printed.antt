@@ -141,6 +141,15 @@ row_json row = array (items_of (map value_json row))
 abbrev pub rows_json : List (List Value) → Data
 rows_json rows = array (items_of (map row_json rows))
 
+-- the object of an answer
+abbrev pub answer_json : List ℕ → ℕ → List ℕ → List (List Value) → ℕ → Data
+answer_json by line request rows version =
+    object (member (codes "by") (string by)
+    (member (codes "line") (count line)
+    (member (codes "request") (string request)
+    (member (codes "rows") (rows_json rows)
+    (member (codes "version") (count version) no_members)))))
+
 -- what isn't supported has a key of its own
 abbrev pub word_member : Option (List ℕ) → Members
 word_member None = no_members
@@ -158,12 +167,7 @@ json_of (publish line set version) =
     object (member (codes "line") (count line)
     (member (codes "publish") (string set)
     (member (codes "version") (count version) no_members)))
-json_of (answer by line request rows version) =
-    object (member (codes "by") (string (by_name by))
-    (member (codes "line") (count line)
-    (member (codes "request") (string request)
-    (member (codes "rows") (rows_json rows)
-    (member (codes "version") (count version) no_members)))))
+json_of (answer by line request rows version) = answer_json (by_name by) line request rows version
 json_of (block blocked.Refuted line request version) =
     object (member (codes "blocked") (string (block_name blocked.Refuted))
     (member (codes "line") (count line)

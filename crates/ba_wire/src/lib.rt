@@ -1,10 +1,12 @@
 //! The lines that the program prints.
 #![tactic(auto)]
 
+mod answer;
 mod fault;
 mod line;
 mod names;
 mod object;
+mod rows;
 mod summary;
 mod verdict;
 

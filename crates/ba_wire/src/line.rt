@@ -2,13 +2,13 @@
 #![tactic(auto, unfolding(crate::specs::Printed::json_of))]
 
 ghost use Rattle.std.specs.Prelude.{◌≡◌, IfOk, option_copied, string_bytes};
-ghost use Rattle.serde_json.specs.View.{view};
 ghost use Rattle.ba_wire.specs.Object.{made};
-ghost use Rattle.ba_wire.specs.Printed.{ReadsBack, by_name, block_name, clause_name, unsupported_in, value_json, row_json, rows_json, begin, end, publish, answer, block, unread, memory, printed, json_of, line_bytes};
+ghost use Rattle.ba_wire.specs.Printed.{ReadsBack, by_name, block_name, clause_name, unsupported_in, begin, end, publish, block, unread, memory, printed, json_of, line_bytes};
 
+use crate::answer::answer_text;
 use crate::names::fault_name;
 use crate::object::Object;
-use ba_model::{List, Row, Str, Value};
+use ba_model::{List, Row, Str};
 use ba_refute::Clause;
 use ba_sql_query::ReadQueryFault;
 use serde_json::Value as Json;
@@ -131,36 +131,6 @@ fn unsupported_in(fault: &ReadQueryFault) -> Option<&Str>
     }
 }
 
-fn value_of(alloc: Global, value: &Value) -> Result<Json, AllocError>
-    ensures { IfOk result (λ v. view v ≡ value_json value.now) }
-{
-    match value {
-        Value::Null => Ok(Json::Null),
-        Value::Int(n) => Ok(Json::from(*n)),
-        Value::Text(text) => Json::try_from_str(alloc, text.as_str()),
-    }
-}
-
-fn row_of(alloc: Global, row: &Row) -> Result<Json, AllocError>
-    ensures { IfOk result (λ v. view v ≡ row_json row.now) }
-{
-    let mut values = Vec::with_capacity(alloc, row.len())?;
-    for value in row.as_slice() {
-        values.push(value_of(alloc, value)?)?;
-    }
-    Ok(Json::Array(values))
-}
-
-fn rows_of(alloc: Global, rows: &List<Row>) -> Result<Json, AllocError>
-    ensures { IfOk result (λ v. view v ≡ rows_json rows.now) }
-{
-    let mut values = Vec::with_capacity(alloc, rows.len())?;
-    for row in rows.as_slice() {
-        values.push(row_of(alloc, row)?)?;
-    }
-    Ok(Json::Array(values))
-}
-
 fn begin_object(alloc: Global, request: &Str, line: u64, version: u32) -> Result<Object, AllocError>
     ensures { IfOk result (λ it. made it ≡ json_of (begin request.now line version)) }
 {
@@ -184,24 +154,6 @@ fn publish_object(alloc: Global, line: u64, set: &Str, version: u32) -> Result<O
     Object::new(alloc)
         .with_count("line", line)?
         .with_text("publish", set.as_str())?
-        .with_count("version", version as u64)
-}
-
-fn answer_object(
-    alloc: Global,
-    by: By,
-    line: u64,
-    request: &Str,
-    rows: &List<Row>,
-    version: u32,
-) -> Result<Object, AllocError>
-    ensures { IfOk result (λ it. made it ≡ json_of (answer by line request.now rows.now version)) }
-{
-    Object::new(alloc)
-        .with_text("by", by.name())?
-        .with_count("line", line)?
-        .with_text("request", request.as_str())?
-        .with("rows", rows_of(alloc, rows)?)?
         .with_count("version", version as u64)
 }
 
@@ -261,49 +213,43 @@ fn memory_object(alloc: Global, line: u64) -> Result<Object, AllocError>
         .with("memory", Json::Bool(true))
 }
 
-fn line_object(alloc: Global, line: &Line) -> Result<Object, AllocError>
-    ensures { IfOk result (λ it. made it ≡ json_of (printed line.now)) }
-{
-    match line {
-        Line::Begin {
-            begin,
-            line,
-            version,
-        } => begin_object(alloc, begin, *line, *version),
-        Line::End { end, line } => end_object(alloc, end, *line),
-        Line::Publish {
-            line,
-            publish,
-            version,
-        } => publish_object(alloc, *line, publish, *version),
-        Line::Answer {
-            by,
-            line,
-            request,
-            rows,
-            version,
-        } => answer_object(alloc, *by, *line, request, rows, *version),
-        Line::Block {
-            blocked,
-            line,
-            request,
-            version,
-        } => block_object(alloc, *blocked, *line, request, *version),
-        Line::Unread {
-            line,
-            request,
-            unread,
-            version,
-        } => unread_object(alloc, *line, request, unread, *version),
-        Line::Memory { line } => memory_object(alloc, *line),
-    }
-}
-
 /// The text of a line with its line feed, in time linear in its length.
 pub fn line_text(alloc: Global, line: &Line) -> Result<String, AllocError>
     ensures text { IfOk result (λ s. string_bytes s ≡ line_bytes (printed line.now)) }
     ensures reads_back { IfOk result (λ s.
         ReadsBack (string_bytes s) (json_of (printed line.now))) }
 {
-    line_object(alloc, line)?.line()
+    match line {
+        Line::Begin {
+            begin,
+            line,
+            version,
+        } => begin_object(alloc, begin, *line, *version)?.line(),
+        Line::End { end, line } => end_object(alloc, end, *line)?.line(),
+        Line::Publish {
+            line,
+            publish,
+            version,
+        } => publish_object(alloc, *line, publish, *version)?.line(),
+        Line::Answer {
+            by,
+            line,
+            request,
+            rows,
+            version,
+        } => answer_text(alloc, by.name(), *line, request, rows, *version),
+        Line::Block {
+            blocked,
+            line,
+            request,
+            version,
+        } => block_object(alloc, *blocked, *line, request, *version)?.line(),
+        Line::Unread {
+            line,
+            request,
+            unread,
+            version,
+        } => unread_object(alloc, *line, request, unread, *version)?.line(),
+        Line::Memory { line } => memory_object(alloc, *line)?.line(),
+    }
 }

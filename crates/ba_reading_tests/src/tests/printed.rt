@@ -58,9 +58,20 @@ fn add_row(alloc: Global, rows: &mut List<Row>, value: Value) -> Told {
     rows.push(row)
 }
 
+/// A row of several values, the first of which is a text of no bytes.
+fn add_long_row(alloc: Global, rows: &mut List<Row>) -> Told {
+    let mut row = List::new(alloc);
+    let text = Str::new(alloc, "")?;
+    row.push(Value::text(alloc, text)?)?;
+    row.push(Value::Int(0))?;
+    row.push(Value::Null)?;
+    row.push(Value::Int(9223372036854775807))?;
+    rows.push(row)
+}
+
 fn add_rows(alloc: Global, rows: &mut List<Row>) -> Told {
     let text = Str::new(alloc, "\"\\/\u{8}\u{c}\n\r\t\u{0}\u{1f}é\u{1f600}")?;
-    add_row(alloc, rows, Value::Text(text))?;
+    add_row(alloc, rows, Value::text(alloc, text)?)?;
     add_row(alloc, rows, Value::Null)?;
     add_row(alloc, rows, Value::Int(-9223372036854775808))
 }
@@ -71,10 +82,12 @@ fn lines_of_a_run(rt: HostRuntime) -> Result<(), Fail> {
     let name = Str::new(alloc, "a\"b")?;
     let mut rows = List::new(alloc);
     add_rows(alloc, &mut rows)?;
+    add_long_row(alloc, &mut rows)?;
+    rows.push(List::new(alloc))?;
     let mut told = String::new(alloc);
     write_run(alloc, &name, &rows, &mut told)?;
     let want = r#"{"begin":"a\"b","line":1,"version":0}
-{"by":"cover","line":2,"request":"a\"b","rows":[["\"\\/\b\f\n\r\t\u0000\u001fé😀"],[null],[-9223372036854775808]],"version":0}
+{"by":"cover","line":2,"request":"a\"b","rows":[["\"\\/\b\f\n\r\t\u0000\u001fé😀"],[null],[-9223372036854775808],["",0,null,9223372036854775807],[]],"version":0}
 {"blocked":"refuted","line":3,"request":"a\"b","version":1}
 {"end":"a\"b","line":4}
 {"line":5,"publish":"a\"b","version":4294967295}

@@ -220,7 +220,7 @@ SELECT x[[6500 ,x]] FROM Users[[6500 ,Users]] => unknown_column
 SELECT z.UId[[4500 ,z.UId]] FROM Users a[[4500 ,Users a]] => unknown_table"#;
 
 const WRITTEN: &str =
-    r#"SELECT t.a FROM T t WHERE b IN (1, ?p) OR c > 'x' => QueryText { selects: List { items: [Select { heads: Items(List { items: [One(Column(Named { qualifier: Some(Str { text: "t" }), column: Str { text: "a" } }))] }), sources: List { items: [Source { table: Str { text: "T" }, alias: Some(Str { text: "t" }) }] }, condition: List { items: [Test(Among { side: Column(Named { qualifier: None, column: Str { text: "b" } }), among: List { items: [Value(Int(1)), Param(Str { text: "p" })] } }), Test(Compare { op: Lt, left: Constant(Value(Text(Str { text: "x" }))), right: Column(Named { qualifier: None, column: Str { text: "c" } }) }), Or] } }] } }"#;
+    r#"SELECT t.a FROM T t WHERE b IN (1, ?p) OR c > 'x' => QueryText { selects: List { items: [Select { heads: Items(List { items: [One(Column(Named { qualifier: Some(Str { text: "t" }), column: Str { text: "a" } }))] }), sources: List { items: [Source { table: Str { text: "T" }, alias: Some(Str { text: "t" }) }] }, condition: List { items: [Test(Among { side: Column(Named { qualifier: None, column: Str { text: "b" } }), among: List { items: [Value(Int(1)), Param(Str { text: "p" })] } }), Test(Compare { op: Lt, left: Constant(Value(Text(Shared { cell: Str { text: "x" } }))), right: Column(Named { qualifier: None, column: Str { text: "c" } }) }), Or] } }] } }"#;
 
 const WORDS: &str =
     r#"SELECT UId FROM Users WHERE UId = ?MyUId => SELECT t0."UId" FROM "Users" t0 WHERE t0."UId" = ?MyUId"#;

@@ -1,7 +1,0 @@
-use Rattle.std.proofs.Common.{◌≡◌, map, take}
-use Rattle.serde_json.specs.View.{view}
-use Rattle.ba_wire.specs.Printed.{value_json}
-use Rattle.ba_wire.proofs.line.row_of.Given as goal
-
-abbrev pub invariant-loop-value : goal.invariant-loop-value
-invariant-loop-value l = map view l.values.items ≡ map value_json (take l.value-index l.row)
