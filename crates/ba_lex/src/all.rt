@@ -10,11 +10,19 @@ use crate::token::{LexFault, Token};
 use ba_model::{Failure, List};
 use std::alloc::Global;
 
+/// The most tokens for which room is taken before there are any: those of a question as long as it may be.
+const MOST_ROOM: usize = 32_768;
+
+/// For how many tokens of a text of so many bytes room is taken at once. Most have two bytes or more.
+fn room_for(bytes: usize) -> usize {
+    (bytes / 2).min(MOST_ROOM)
+}
+
 fn tokens_from(alloc: Global, text: &str) -> Result<List<Token>, Failure<LexFault>>
     ensures { Gives result (tokens_from text.now 0 0) }
 {
     let bytes = text.as_bytes();
-    let mut found = List::new(alloc);
+    let mut found = List::from_vec(Vec::with_capacity(alloc, room_for(bytes.len()))?);
     let mut at = 0;
     while at < bytes.len() {
         match front(bytes[at], &bytes[at + 1..]) {

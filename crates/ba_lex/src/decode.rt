@@ -1,13 +1,17 @@
 //! What a spelling says.
-ghost use Rattle.std.specs.Prelude.{◌≡◌, ◌≤◌, false, IfOk, MatchOption, ◌++◌, ◌∷◌, length};
+ghost use Rattle.std.specs.Prelude.{◌≡◌, ◌≤◌, ◌^◌, false, pos, neg_ℤ, IfOk, MatchOption, ◌++◌, ◌∷◌, length};
 ghost use Rattle.std.specs.Str.{IsUtf8};
 ghost use Rattle.ba_model.specs.Readings.{Gives};
-ghost use Rattle.ba_lex.specs.Tokens.{HasNoQuote, IsOfShape, after_quote, inside, lexeme_of, undoubled};
+ghost use Rattle.ba_lex.specs.Spelling.{digits_value};
+ghost use Rattle.ba_lex.specs.Tokens.{HasNoQuote, IsOfShape, after_quote, inside, lexeme_of, number_of, signed_value, undoubled};
 
 use crate::front::Shape;
 use crate::token::{LexFault, Lexeme};
 use ba_model::{Failure, Str};
 use std::alloc::{AllocError, Global};
+
+/// The least number that is past 64 bits with a sign. Negated it is the least that they hold.
+const PAST: u64 = 0x8000_0000_0000_0000;
 
 fn as_text(bytes: &[u8]) -> &str
     requires { IsUtf8 bytes.now }
@@ -60,13 +64,49 @@ fn undoubled(alloc: Global, text: &str) -> Result<Str, AllocError>
     Ok(Str::from_string(found))
 }
 
-fn number(text: &str) -> Result<Lexeme, Failure<LexFault>>
-    requires { IsOfShape Shape.Number text.now }
-    ensures { Gives result (lexeme_of Shape.Number text.now) }
+/// The number that decimal digits say, if it has at most 64 bits without a sign.
+fn value(digits: &[u8]) -> Option<u64>
+    ensures { MatchOption result (2 ^ 64 ≤ digits_value digits.now)
+        (λ n. n ≡ digits_value digits.now) }
 {
-    match text.parse::<i64>() {
-        Ok(n) => Ok(Lexeme::Number(n)),
-        Err(_) => Err(Failure::Fault(LexFault::NumberTooLarge)),
+    let mut value = 0_u64;
+    for digit in digits {
+        let Some(shifted) = 10_u64.checked_mul(value) else {
+            return None;
+        };
+        let Some(more) = shifted.checked_add(digit.saturating_sub(b'0') as u64) else {
+            return None;
+        };
+        value = more;
+    }
+    Some(value)
+}
+
+fn plain(digits: &[u8]) -> Result<Lexeme, Failure<LexFault>>
+    ensures { Gives result (number_of (pos (digits_value digits.now))) }
+{
+    match value(digits) {
+        Some(n) if n < PAST => Ok(Lexeme::Number(n as i64)),
+        _ => Err(Failure::Fault(LexFault::NumberTooLarge)),
+    }
+}
+
+fn negative(digits: &[u8]) -> Result<Lexeme, Failure<LexFault>>
+    ensures { Gives result (number_of (neg_ℤ (pos (digits_value digits.now)))) }
+{
+    match value(digits) {
+        Some(n) if n < PAST => Ok(Lexeme::Number(-(n as i64))),
+        Some(PAST) => Ok(Lexeme::Number(i64::MIN)),
+        _ => Err(Failure::Fault(LexFault::NumberTooLarge)),
+    }
+}
+
+fn number(spelling: &[u8]) -> Result<Lexeme, Failure<LexFault>>
+    ensures { Gives result (number_of (signed_value spelling.now)) }
+{
+    match spelling {
+        [b, digits @ ..] if *b == b'-' => negative(digits),
+        _ => plain(spelling),
     }
 }
 
@@ -83,7 +123,7 @@ pub fn lexeme(alloc: Global, shape: Shape, spelling: &[u8]) -> Result<Lexeme, Fa
             let name = as_text(inside(spelling));
             Ok(Lexeme::Quoted(Str::new(alloc, name)?))
         }
-        Shape::Number => number(as_text(spelling)),
+        Shape::Number => number(spelling),
         Shape::Text => {
             let text = as_text(inside(spelling));
             Ok(Lexeme::Text(undoubled(alloc, text)?))

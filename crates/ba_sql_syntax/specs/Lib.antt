@@ -1,4 +1,5 @@
 pub mod Terminals
+pub mod Letters
 pub mod Scan
 pub mod Reader
 pub mod Progress

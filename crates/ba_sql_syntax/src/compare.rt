@@ -10,7 +10,7 @@ use crate::word::{Key, Terminal};
 use crate::written::{Constant, Side, Test};
 use ba_grammar::{Element, Syntax, listed, past_sign};
 use ba_lex::Sign;
-use ba_model::{Failure, Op};
+use ba_model::{Failure, Op, Value};
 use std::alloc::Global;
 
 /// What a sign compares by, and whether its sides are turned round.
@@ -54,8 +54,16 @@ impl Comparison {
 impl Element<Terminal> for Constant {
     ghost read_at = { constant_at };
 
+    /// A number, which takes no memory, is read here: long lists are mostly of numbers.
+    #[tactic(auto, unfolding(crate::specs::Reader::constant_at))]
     fn read(alloc: Global, words: &[Terminal]) -> Result<(Constant, &[Terminal]), Failure<Syntax>> {
-        constant(alloc, words)
+        match words {
+            [
+                Terminal::Constant(Constant::Value(Value::Int(n))),
+                rest @ ..,
+            ] => { Ok((Constant::Value(Value::Int(*n)), rest)) }
+            _ => constant(alloc, words),
+        }
     }
 }
 

@@ -44,12 +44,16 @@ fn fault_there(
     alloc: Global,
     behind: bool,
     word: &Lexeme,
-    before: bool,
+    others: &[Lexeme],
 ) -> Result<Option<Str>, AllocError>
-    ensures { IfOk result (λ called. called ≡ unsupported_there behind word.now before) }
+    ensures { IfOk result
+        (λ called. called ≡ unsupported_there behind word.now (begins_bracket others.now)) }
 {
     match word {
-        Lexeme::Word(text) => word_fault(alloc, behind, text, before),
+        Lexeme::Word(text) => {
+            let before = begins_with_sign(others, Sign::LeftParen);
+            word_fault(alloc, behind, text, before)
+        }
         Lexeme::Sign(sign) => sign_fault(alloc, *sign),
         _ => Ok(None),
     }
@@ -63,8 +67,7 @@ pub fn scan(alloc: Global, words: &[Lexeme]) -> Result<Option<Str>, AllocError>
     let mut behind = false;
     let mut rest = words;
     while let [word, others @ ..] = rest {
-        let before = begins_with_sign(others, Sign::LeftParen);
-        let called = fault_there(alloc, behind, word, before)?;
+        let called = fault_there(alloc, behind, word, others)?;
         if called.is_some() {
             return Ok(called);
         }

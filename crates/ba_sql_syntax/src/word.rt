@@ -1,41 +1,13 @@
 //! The terminals of the grammar, and which of them each word is.
-ghost use Rattle.std.specs.Prelude.{◌≡◌, IfOk, pos};
-ghost use Rattle.ba_sql_syntax.specs.Terminals.{first_key, has_meaning, is_unsupported, key_text, keys, terminal, terminals, truth, word_terminal};
+ghost use Rattle.std.specs.Prelude.{◌≡◌, IfOk, map, pos};
+ghost use Rattle.ba_sql_syntax.specs.Terminals.{first_key, has_meaning, is_unsupported, key_text, keys, terminal, terminals, truth, unsupported_words, word_terminal};
+ghost use Rattle.ba_sql_syntax.specs.Letters.{first_letter, keys_by, words_by};
 
 use crate::written::Constant;
 use ba_grammar::is_among;
 use ba_lex::{Lexeme, Sign, is_word};
 use ba_model::{Duplicate, List, Str, Value};
 use std::alloc::{AllocError, Global};
-
-/// The words that are reserved and not supported.
-const UNSUPPORTED: [&str; 25] = [
-    "ALL",
-    "NOT",
-    "NULL",
-    "IS",
-    "LIKE",
-    "BETWEEN",
-    "EXISTS",
-    "GROUP",
-    "HAVING",
-    "ORDER",
-    "LIMIT",
-    "OFFSET",
-    "LEFT",
-    "RIGHT",
-    "FULL",
-    "OUTER",
-    "NATURAL",
-    "USING",
-    "CASE",
-    "WITH",
-    "INSERT",
-    "UPDATE",
-    "DELETE",
-    "INTERSECT",
-    "EXCEPT",
-];
 
 /// A keyword.
 #[derive(Clone, Copy)]
@@ -77,23 +49,6 @@ impl Key {
     }
 }
 
-/// All keywords.
-const KEYS: [Key; 13] = [
-    Key::Select,
-    Key::Distinct,
-    Key::From,
-    Key::Where,
-    Key::Join,
-    Key::Inner,
-    Key::Cross,
-    Key::On,
-    Key::As,
-    Key::And,
-    Key::Or,
-    Key::Union,
-    Key::In,
-];
-
 /// What a word is to the grammar.
 #[derive(Drop)]
 pub enum Terminal {
@@ -105,12 +60,64 @@ pub enum Terminal {
     Unsupported,
 }
 
+/// The first letter of a word, in lower case.
+fn first_letter(word: &Str) -> u8
+    ensures { result ≡ first_letter word.now }
+{
+    match word.as_bytes() {
+        [first, ..] => first.to_ascii_lowercase(),
+        [] => 0,
+    }
+}
+
+/// Of the words that are reserved and not supported those that begin with this letter.
+fn unsupported_by(letter: u8) -> &'static [&'static str]
+    ensures { map (λ word. word.now) result.now ≡ words_by letter unsupported_words }
+{
+    match letter {
+        b'a' => &["ALL"],
+        b'b' => &["BETWEEN"],
+        b'c' => &["CASE"],
+        b'd' => &["DELETE"],
+        b'e' => &["EXISTS", "EXCEPT"],
+        b'f' => &["FULL"],
+        b'g' => &["GROUP"],
+        b'h' => &["HAVING"],
+        b'i' => &["IS", "INSERT", "INTERSECT"],
+        b'l' => &["LIKE", "LIMIT", "LEFT"],
+        b'n' => &["NOT", "NULL", "NATURAL"],
+        b'o' => &["ORDER", "OFFSET", "OUTER"],
+        b'r' => &["RIGHT"],
+        b'u' => &["USING", "UPDATE"],
+        b'w' => &["WITH"],
+        _ => &[],
+    }
+}
+
 /// Whether the word is reserved, but not supported.
-#[tactic(auto, unfolding(crate::specs::Terminals::is_unsupported))]
 pub fn is_unsupported(word: &Str) -> bool
     ensures { result ≡ is_unsupported word.now }
 {
-    is_among(word, &UNSUPPORTED)
+    is_among(word, unsupported_by(first_letter(word)))
+}
+
+/// The keywords that begin with this letter.
+fn keys_by(letter: u8) -> &'static [Key]
+    ensures { result.now ≡ keys_by letter keys }
+{
+    match letter {
+        b'a' => &[Key::As, Key::And],
+        b'c' => &[Key::Cross],
+        b'd' => &[Key::Distinct],
+        b'f' => &[Key::From],
+        b'i' => &[Key::Inner, Key::In],
+        b'j' => &[Key::Join],
+        b'o' => &[Key::On, Key::Or],
+        b's' => &[Key::Select],
+        b'u' => &[Key::Union],
+        b'w' => &[Key::Where],
+        _ => &[],
+    }
 }
 
 fn key_among(word: &Str, keys: &[Key]) -> Option<Key>
@@ -125,10 +132,11 @@ fn key_among(word: &Str, keys: &[Key]) -> Option<Key>
 }
 
 /// The keyword that the word is, in any case.
+#[tactic(auto, using(crate::proofs::TerminalLemmas::key_so))]
 fn key_of(word: &Str) -> Option<Key>
     ensures { result ≡ first_key keys word.now }
 {
-    key_among(word, &KEYS)
+    key_among(word, keys_by(first_letter(word)))
 }
 
 /// Whether the word is a keyword, TRUE or FALSE.
@@ -172,7 +180,8 @@ fn terminal_of(alloc: Global, word: &Lexeme) -> Result<Terminal, AllocError>
         Lexeme::Quoted(name) => Ok(Terminal::Name(name.copy(alloc)?)),
         Lexeme::Number(n) => Ok(truth(*n)),
         Lexeme::Text(text) => {
-            let value = Value::Text(text.copy(alloc)?);
+            let copy = text.copy(alloc)?;
+            let value = Value::text(alloc, copy)?;
             Ok(Terminal::Constant(Constant::Value(value)))
         }
         Lexeme::Param(name) => Ok(Terminal::Constant(Constant::Param(name.copy(alloc)?))),

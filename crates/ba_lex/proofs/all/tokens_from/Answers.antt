@@ -54,7 +54,7 @@ returns c = ap (λ (b : List ℕ). tokens_from b 0 0) (sym c.as_bytes-bytes.ensu
 
 pub returns-in_err-lexeme-in-Found : goal.returns-in_err-lexeme-in-Found
 returns-in_err-lexeme-in-Found c =
-    let p = err_from_is_err_and c.from_residual.result c.from_residual.ensures.1 in
+    let p = err_from_is_err_and c.from_residual-in_err-lexeme-in-Found.result c.from_residual-in_err-lexeme-in-Found.ensures.1 in
     let i = (goal.at.returns-in_err-lexeme-in-Found c).In-Found in
     let bytes = c.as_bytes-bytes.result.now in
     let at = c.loop-at.at in
