@@ -2,6 +2,7 @@
 use ba_notice::{FolderFiles, notice};
 use ba_outside::{FreeGate, MemSink};
 use ba_top::blockaid;
+use ba_why::{Asked, USUAL_COLUMNS, Wanted, explain};
 use std::alloc::{AllocError, Global};
 use std::rt::Files;
 use std::sync::Wait;
@@ -14,6 +15,13 @@ pub struct End {
     pub status: u8,
     pub text: Vec<u8>,
     pub hint: String,
+}
+
+/// What is told of the replies of a run in words, and what must be told.
+#[derive(Drop)]
+pub struct Reasons {
+    pub told: Vec<u8>,
+    pub wanted: Vec<u8>,
 }
 
 // A line without the way in which its question was answered, where another order of the workers may find another: a proof, or the template of one.
@@ -47,6 +55,8 @@ pub struct Case {
     pub wanted: End,
     /// Whether it has a line on why its run ends so.
     has_hint: bool,
+    /// What must be told of its run's replies in words, where it has that.
+    why: Option<String>,
     /// Whether several workers must end it alike: it is a run that leaves their number open and publishes nothing, and its folder has
     /// no file `order`, which tells why its lines go by who comes first.
     pub is_for_many: bool,
@@ -67,6 +77,21 @@ fn text_in<R: Files + AllocGlobal>(rt: &R, folder: &str, name: &str) -> io::Resu
     fs::read_to_string(rt, path.as_str())
 }
 
+// The text of a folder's file, where there is such a file.
+fn text_if_there<R: Files + AllocGlobal>(
+    rt: &R,
+    folder: &str,
+    name: &str,
+) -> io::Result<Option<String>> {
+    let path = format!(in rt.alloc(); "{folder}/{name}")?;
+    let is_there = fs::exists(rt, path.as_str())?;
+    if is_there {
+        Ok(Some(text_in(rt, folder, name)?))
+    } else {
+        Ok(None)
+    }
+}
+
 impl Case {
     /// The case of that folder.
     pub fn read<R: Files + AllocGlobal>(rt: &R, folder: &str) -> io::Result<Case> {
@@ -76,13 +101,9 @@ impl Case {
         let Ok(status) = number.trim_end().parse::<u8>() else {
             return Err(io::Error::from(io::ErrorKind::InvalidData));
         };
-        let path = format!(in rt.alloc(); "{folder}/hint")?;
-        let has_hint = fs::exists(rt, path.as_str())?;
-        let hint = if has_hint {
-            text_in(rt, folder, "hint")?
-        } else {
-            String::new(rt.alloc())
-        };
+        let hint = text_if_there(rt, folder, "hint")?;
+        let has_hint = hint.is_some();
+        let why = text_if_there(rt, folder, "why")?;
         let is_for_many = words.starts_with("run\n")
             && !words.contains("--workers")
             && !text.contains("\"publish\":")
@@ -92,9 +113,10 @@ impl Case {
             wanted: End {
                 status,
                 text: text.into_bytes(),
-                hint,
+                hint: hint.unwrap_or(String::new(rt.alloc())),
             },
             has_hint,
+            why,
             is_for_many,
         })
     }
@@ -122,5 +144,40 @@ impl Case {
             text: sink.bytes().to_vec(alloc)?,
             hint,
         })
+    }
+
+    /// The reasons of the case's run over the files of that folder, where the case says what they must be.
+    pub fn reasons<R>(&self, rt: &R, folder: &str) -> io::Result<Option<Reasons>>
+    where
+        R: Files + AllocGlobal + Threads + Wait + Sync + Clone + Drop,
+    {
+        let Some(wanted) = &self.why else {
+            return Ok(None);
+        };
+        let alloc = rt.alloc();
+        let told = self.told(rt, folder)?;
+        let wanted = wanted.as_bytes().to_vec(alloc)?;
+        Ok(Some(Reasons { told, wanted }))
+    }
+
+    // What is told of the replies of the case's run in words.
+    fn told<R>(&self, rt: &R, folder: &str) -> io::Result<Vec<u8>>
+    where
+        R: Files + AllocGlobal + Threads + Wait + Sync + Clone + Drop,
+    {
+        let alloc = rt.alloc();
+        let prefix = format!(in alloc; "{folder}/")?;
+        let words = words_of(alloc, self.words.as_str())?;
+        let asked = Asked {
+            words: &words,
+            prefix: prefix.as_str(),
+            wanted: Wanted::All,
+            columns: USUAL_COLUMNS,
+        };
+        let mut told = Vec::new(alloc);
+        match explain(rt, &asked, &mut told) {
+            Ok(_) => Ok(told),
+            Err(_) => Err(io::Error::from(io::ErrorKind::InvalidInput)),
+        }
     }
 }

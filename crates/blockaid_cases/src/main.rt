@@ -5,7 +5,7 @@
 //!
 //! A case is a folder: the input files, `words` (a word on each line, without the program's name), `expected` (the bytes
 //! that the run must write) and `status` (the status that it must end with). It may have `hint`, the line on why the run
-//! ends so that must be told. Names in its words are relative to it.
+//! ends so that must be told, and `why`, the reasons of all its questions in words. Names in its words are relative to it.
 #![tactic(auto)]
 
 mod case;
@@ -35,6 +35,24 @@ fn text_of(line: &[u8]) -> &str {
     std::str::from_utf8(line).unwrap_or("(no text)")
 }
 
+// Says which line of a text is the first that isn't as it must be, and what it must be. `what` stands before it.
+fn tell_line(rt: &impl Print, what: &str, wanted: &[u8], text: &[u8]) -> io::Result<()> {
+    let mut lines = text.split(|byte| *byte == b'\n');
+    for (at, line) in wanted.split(|byte| *byte == b'\n').enumerate() {
+        let written = lines.next().unwrap_or(b"(none)");
+        if line != written {
+            let number = at.saturating_add(1);
+            println!(rt; "  {what}line {number}: {}", text_of(written))?;
+            println!(rt; "  wanted: {}", text_of(line))?;
+            return Ok(());
+        }
+    }
+    match lines.next() {
+        Some(line) => println!(rt; "  {what}a line too much: {}", text_of(line)),
+        None => Ok(()),
+    }
+}
+
 // Says where the end differs from the wanted one: the status, the hint, and the first line that isn't the same.
 fn tell(rt: &impl Print, name: &str, wanted: &End, end: &End) -> io::Result<()> {
     let status = end.status;
@@ -44,17 +62,7 @@ fn tell(rt: &impl Print, name: &str, wanted: &End, end: &End) -> io::Result<()> 
         print!(rt; "  hint: {}", end.hint)?;
         print!(rt; "  wanted: {}", wanted.hint)?;
     }
-    let mut lines = end.text.split(|byte| *byte == b'\n');
-    for (at, line) in wanted.text.split(|byte| *byte == b'\n').enumerate() {
-        let written = lines.next().unwrap_or(b"(none)");
-        if line != written {
-            let number = at.saturating_add(1);
-            println!(rt; "  line {number}: {}", text_of(written))?;
-            println!(rt; "  wanted: {}", text_of(line))?;
-            return Ok(());
-        }
-    }
-    Ok(())
+    tell_line(rt, "", &wanted.text, &end.text)
 }
 
 // Says how a run of the case ended, and gives whether that is as it must be.
@@ -86,6 +94,22 @@ where
     )
 }
 
+// Tells the reasons of the case's run, where it says what they must be, and gives whether they are.
+fn tells_why<R>(rt: &R, place: &str, name: &str, case: &Case) -> io::Result<bool>
+where
+    R: Files + AllocGlobal + Print + Threads + Wait + Sync + Clone + Drop,
+{
+    let Some(reasons) = case.reasons(rt, place)? else {
+        return Ok(true);
+    };
+    if reasons.told == reasons.wanted {
+        return Ok(true);
+    }
+    println!(rt; "{name} differs: it isn't told why as it must be")?;
+    tell_line(rt, "why, ", &reasons.wanted, &reasons.told)?;
+    Ok(false)
+}
+
 // Runs the case of that name, and gives whether it ended as it must.
 fn passes<R>(rt: &R, folder: &str, name: &str) -> io::Result<bool>
 where
@@ -95,7 +119,8 @@ where
     let case = Case::read(rt, place.as_str())?;
     let end = case.run(rt, place.as_str(), "")?;
     let is_same = tells(rt, name, &case.wanted, &end, end == case.wanted)?;
-    Ok(passes_by_many(rt, place.as_str(), name, &case)? && is_same)
+    let is_told = tells_why(rt, place.as_str(), name, &case)?;
+    Ok(passes_by_many(rt, place.as_str(), name, &case)? && is_same && is_told)
 }
 
 // Runs each case of the folder and gives how many passed and how many failed.

@@ -1,15 +1,19 @@
 //! `blockaid run --schema S --policy P --tables D --script F`: answers the questions of F over the tables of D that the
 //! policy P lets through, and blocks the others. `blockaid check --schema S --policy P --proof F`: says whether the proof F is accepted.
 //! `blockaid gen --seed N --requests R`: serves a generated workload, and prints the summary; with `--print` prints its script.
-//! Where its status isn't 0, one line on standard error says why.
+//! Where its status isn't 0, one line on standard error says why. Where the environment has `BLOCKAID_PROGRESS=1`, lines of
+//! standard error tell how far the script is served.
 #![tactic(auto)]
 
+mod progress;
+
 use ba_notice::{FolderFiles, notice};
-use ba_outside::{FreeGate, StdSink};
+use ba_outside::StdSink;
 use ba_top::{Outcome, blockaid};
+use progress::Progress;
 use std::alloc::{AllocError, Global};
 use std::env;
-use std::env::Args;
+use std::env::{Args, Env};
 use std::io::ErrorKind;
 use std::process::ExitCode;
 use std::rt::Files;
@@ -20,6 +24,14 @@ const MEMORY: u8 = 6;
 // The words behind the program's name.
 fn words(alloc: Global, args: Args) -> Result<Vec<String>, AllocError> {
     args.skip(1).collect(alloc)
+}
+
+// Whether the environment asks how far the script is served.
+fn asks_progress<R: Env + AllocGlobal>(rt: &R) -> bool {
+    match env::var(rt, "BLOCKAID_PROGRESS") {
+        Ok(text) => text.as_str() == "1",
+        Err(_) => false,
+    }
 }
 
 // Says on standard error why the run ended so, if it ended with another status than 0.
@@ -58,7 +70,8 @@ fn main(rt: HostRuntime) -> ExitCode {
     };
     let mut sink = StdSink::new(rt.stdout());
     let mut files = FolderFiles::new(other, alloc, "");
-    let outcome = blockaid(&rt, alloc, &words, &mut files, &mut sink, &FreeGate);
+    let gate = Progress::new(&rt, asks_progress(&rt));
+    let outcome = blockaid(&rt, alloc, &words, &mut files, &mut sink, &gate);
     tell(&rt, &words, files.asked(), &outcome);
     ExitCode::from(outcome.status)
 }

@@ -3,45 +3,27 @@
 //! first or last. It ends with the status of the run.
 #![tactic(auto)]
 
-mod cover;
-mod derivation;
-mod given;
-mod outside;
-mod page;
-mod proof;
-mod refuted;
-mod scene;
-mod step;
-mod telling;
-mod text;
-mod undecided;
-mod unread;
-mod words;
-
-use ba_lanes::Journal;
 use ba_model::Failure;
-use ba_notice::notice;
-use ba_outside::{FreeGate, Held};
-use ba_top::{Outcome, blockaid};
-use given::Given;
-use outside::{FirstPiece, KeptFiles};
-use page::Page;
+use ba_why::{Asked, Explained, USUAL_COLUMNS, Wanted, explain};
 use std::alloc::{AllocError, Global};
-use std::env::Args;
-use std::io::ErrorKind;
+use std::env;
+use std::env::{Args, Env};
+use std::io::{ErrorKind, writer};
 use std::process::ExitCode;
 use std::rt::Files;
 use std::sync::Wait;
 use std::thread::Threads;
-use std::{env, io};
-use telling::tell;
-use words::{Names, Wanted, named_line};
 
 // The status for bad words.
 const WORDS: u8 = 2;
 
 // The status for want of memory.
 const MEMORY: u8 = 6;
+
+// How many columns a terminal may have.
+const LEAST_COLUMNS: usize = 40;
+
+const MOST_COLUMNS: usize = 200;
 
 // The words behind the program's name.
 fn words_of(alloc: Global, args: Args) -> Result<Vec<String>, AllocError> {
@@ -59,23 +41,68 @@ fn main(rt: HostRuntime) -> ExitCode {
     let Ok(words) = read else {
         return ExitCode::from(MEMORY);
     };
-    ExitCode::from(explain(&rt, &words))
+    ExitCode::from(explain_words(&rt, &words))
+}
+
+// The words of a run, and what stands behind `--line`, if these are the first two words or the last two.
+fn named_line(words: &[String]) -> (&[String], Option<&String>) {
+    match words {
+        [option, number, rest @ ..] if option.as_str() == "--line" => (rest, Some(number)),
+        [rest @ .., option, number] if option.as_str() == "--line" => (rest, Some(number)),
+        _ => (words, None),
+    }
+}
+
+// What a word says of which questions are wanted, if there is one: the number of a line.
+fn wanted_of(word: Option<&String>) -> Option<Wanted> {
+    let Some(word) = word else {
+        return Some(Wanted::All);
+    };
+    match word.as_str().parse::<u64>() {
+        Ok(number) => Some(Wanted::Line(number)),
+        Err(_) => None,
+    }
+}
+
+// How many columns a line has: what the environment says, where that is a number that a terminal may have.
+fn columns_of<R: Env + AllocGlobal>(rt: &R) -> usize {
+    let Ok(text) = env::var(rt, "COLUMNS") else {
+        return USUAL_COLUMNS;
+    };
+    match text.as_str().parse::<usize>() {
+        Ok(columns) if LEAST_COLUMNS <= columns && columns <= MOST_COLUMNS => columns,
+        _ => USUAL_COLUMNS,
+    }
 }
 
 // Explains the run of these words, and gives the status.
-fn explain<R>(rt: &R, words: &[String]) -> u8
+fn explain_words<R>(rt: &R, words: &[String]) -> u8
 where
-    R: Files + AllocGlobal + Print + Eprint + Threads + Wait + Sync + Clone + Drop,
+    R: Files + AllocGlobal + Env + Print + Eprint + Threads + Wait + Sync + Clone + Drop,
 {
     let (words, line) = named_line(words);
-    let Some(wanted) = Wanted::of(line) else {
+    let Some(wanted) = wanted_of(line) else {
         return tell_usage(rt);
     };
-    match Names::read(rt.alloc(), words) {
-        Ok(names) => explain_run(rt, words, &names, wanted),
+    let asked = Asked {
+        words,
+        prefix: "",
+        wanted,
+        columns: columns_of(rt),
+    };
+    match explain(rt, &asked, &mut writer(rt)) {
+        Ok(explained) => tell_complaint(rt, &explained),
         Err(Failure::NoMemory) => MEMORY,
         Err(Failure::Fault(_)) => tell_usage(rt),
     }
+}
+
+// Says what is wrong with a run that has no journal, and gives the status.
+fn tell_complaint(rt: &impl Eprint, explained: &Explained) -> u8 {
+    if !explained.complaint.is_empty() {
+        let _ = eprint!(rt; "{}", explained.complaint);
+    }
+    explained.status
 }
 
 fn tell_usage(rt: &impl Eprint) -> u8 {
@@ -83,101 +110,4 @@ fn tell_usage(rt: &impl Eprint) -> u8 {
         "usage: blockaid_why run --schema S --policy P --tables D --script F [--workers N] [--budget B] [--line L]"
     );
     WORDS
-}
-
-fn explain_run<R>(rt: &R, words: &[String], names: &Names, wanted: Wanted) -> u8
-where
-    R: Files + AllocGlobal + Print + Eprint + Threads + Wait + Sync + Clone + Drop,
-{
-    let alloc = rt.alloc();
-    let Ok(system) = rt.clone() else {
-        return MEMORY;
-    };
-    let mut files = KeptFiles::new(system, alloc, names);
-    let mut sink = FirstPiece::new(alloc);
-    let outcome = blockaid(rt, alloc, words, &mut files, &mut sink, &FreeGate);
-    let told = match &outcome.journal {
-        Some(journal) => tell_all(rt, files.kept(), names, journal, wanted),
-        None => tell_fault(rt, words, files.asked(), &outcome, sink.text()),
-    };
-    match told {
-        Err(e) if e.kind() == ErrorKind::OutOfMemory => MEMORY,
-        _ => outcome.status,
-    }
-}
-
-// Says why a run has no journal: its fault line, and what is told of that.
-fn tell_fault<R: Files + AllocGlobal + Eprint>(
-    rt: &R,
-    words: &[String],
-    asked: &[String],
-    outcome: &Outcome,
-    line: &str,
-) -> io::Result<()> {
-    let why = notice(rt, words, "", asked, outcome)?;
-    eprint!(rt; "{line}{why}\n")
-}
-
-// The bytes that were read as the script, behind the schema and the policy.
-fn script_in<'a>(kept: &'a [Held], names: &Names) -> &'a [u8] {
-    for held in kept {
-        if held.name.as_str() == names.script.as_str() {
-            return &held.bytes;
-        }
-    }
-    &[]
-}
-
-// Explains the lines that are wanted.
-fn tell_all<R: Print + AllocGlobal>(
-    rt: &R,
-    kept: &[Held],
-    names: &Names,
-    journal: &Journal,
-    wanted: Wanted,
-) -> io::Result<()> {
-    let alloc = rt.alloc();
-    let [schema, policy, rest @ ..] = kept else {
-        return Ok(());
-    };
-    let script = script_in(rest, names);
-    let given = Given::read(alloc, &schema.bytes, &policy.bytes, script)?;
-    match wanted {
-        Wanted::All => tell_each(rt, &given, journal),
-        Wanted::Line(line) => tell_line(rt, &given, journal, line),
-    }
-}
-
-// Explains each reply, with an empty line between two.
-fn tell_each<R: Print + AllocGlobal>(rt: &R, given: &Given, journal: &Journal) -> io::Result<()> {
-    let mut is_first = true;
-    for place in 0..journal.entries.len() {
-        let mut page = Page::new(rt.alloc());
-        let is_told = tell(&mut page, given, journal, place)?;
-        if is_told && !is_first {
-            println!(rt; "")?;
-        }
-        if is_told {
-            is_first = false;
-            print!(rt; "{}", page.text())?;
-        }
-    }
-    Ok(())
-}
-
-// Explains the reply at a line.
-fn tell_line<R: Print + AllocGlobal>(
-    rt: &R,
-    given: &Given,
-    journal: &Journal,
-    line: u64,
-) -> io::Result<()> {
-    let mut page = Page::new(rt.alloc());
-    let place = line.wrapping_sub(1) as usize;
-    let is_told = tell(&mut page, given, journal, place)?;
-    if is_told {
-        print!(rt; "{}", page.text())
-    } else {
-        println!(rt; "No question stands at line {line} of the script.")
-    }
 }

@@ -5,10 +5,10 @@ ghost use Rattle.ba_kernel.specs.Courses.{ProblemFits};
 use crate::given::Given;
 use crate::page::{MOST_ROWS, Page};
 use crate::scene::Scene;
-use crate::step::{cause_text, copy_step};
+use crate::step::cause_text;
 use crate::text::{facts_text, terms_text};
 use ba_kernel::{Problem, ProblemDraft, Search, Step};
-use ba_model::{Failure, MAX_BUDGET, Query, Shared};
+use ba_model::{Duplicate, Failure, MAX_BUDGET, Query, Shared};
 use std::alloc::{AllocError, Global};
 
 // The problem of a question after what its request was told.
@@ -84,7 +84,7 @@ fn take(alloc: Global, search: &mut Search, step: &Step) -> Result<bool, AllocEr
     if search.steps().len() as u64 >= MAX_BUDGET {
         return Ok(false);
     }
-    let step = copy_step(alloc, step)?;
+    let step = step.copy(alloc)?;
     match search.apply(alloc, step) {
         Ok(()) => Ok(true),
         Err(Failure::NoMemory) => Err(AllocError),

@@ -1,37 +1,15 @@
-//! The words of the command line.
+//! The words of a run.
 
 use ba_command::{Command, WordsFault, read_words};
 use ba_model::{Failure, Str};
 use std::alloc::Global;
 
-/// Which lines of the script are explained.
+/// Which questions of the script are explained.
 #[derive(Clone, Copy)]
 pub enum Wanted {
     All,
-    /// The line of this number, from 1.
+    /// The one at the line of this number, from 1.
     Line(u64),
-}
-
-impl Wanted {
-    /// What a word says of it, if there is one: the number of a line.
-    pub fn of(word: Option<&String>) -> Option<Wanted> {
-        let Some(word) = word else {
-            return Some(Wanted::All);
-        };
-        match word.as_str().parse::<u64>() {
-            Ok(number) => Some(Wanted::Line(number)),
-            Err(_) => None,
-        }
-    }
-}
-
-/// The words of a run, and what stands behind `--line`, if these are the first two words or the last two.
-pub fn named_line(words: &[String]) -> (&[String], Option<&String>) {
-    match words {
-        [option, number, rest @ ..] if option.as_str() == "--line" => (rest, Some(number)),
-        [rest @ .., option, number] if option.as_str() == "--line" => (rest, Some(number)),
-        _ => (words, None),
-    }
 }
 
 /// The names of the files that are read again to explain a run.

@@ -16,11 +16,11 @@ pub struct KeptFiles<'a, R: std::fs::Files + Drop> {
 }
 
 impl<'a, R: std::fs::Files + Drop> KeptFiles<'a, R> {
-    /// The files of that system, of which none was read.
-    pub fn new(system: R, alloc: Global, names: &'a Names) -> Self {
+    /// The files of that system whose names begin with that prefix, of which none was read.
+    pub fn new(system: R, alloc: Global, prefix: &'a str, names: &'a Names) -> Self {
         KeptFiles {
             names,
-            files: FolderFiles::new(system, alloc, ""),
+            files: FolderFiles::new(system, alloc, prefix),
             alloc,
             kept: Vec::new(alloc),
         }

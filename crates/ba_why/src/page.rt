@@ -2,10 +2,10 @@
 
 use std::alloc::{AllocError, Global};
 
-/// How many columns a line has at most.
-const COLUMNS: usize = 80;
+/// How many columns a line has at most, where nothing else is said.
+pub const USUAL_COLUMNS: usize = 80;
 
-/// How many bytes of a value and of a word are shown.
+/// How many bytes of a value and of a word are shown at most.
 pub const VALUE_BYTES: usize = 60;
 
 /// How many bytes of a sentence and of a query are shown.
@@ -14,10 +14,12 @@ const TEXT_BYTES: usize = 600;
 /// How many rows of a table, and how many steps, are shown.
 pub const MOST_ROWS: usize = 12;
 
-/// Lines of at most 80 columns.
+/// Lines of at most so many columns.
 #[derive(Drop)]
 pub struct Page {
     pub alloc: Global,
+    /// How many.
+    columns: usize,
     text: String,
     /// How many bytes the last line has at most.
     column: usize,
@@ -53,10 +55,11 @@ pub fn shown(alloc: Global, text: &str, most: usize) -> Result<String, AllocErro
 }
 
 impl Page {
-    /// An empty page.
-    pub fn new(alloc: Global) -> Page {
+    /// An empty page, of lines of at most so many columns.
+    pub fn new(alloc: Global, columns: usize) -> Page {
         Page {
             alloc,
+            columns,
             text: String::new(alloc),
             column: 0,
             is_blank: true,
@@ -94,29 +97,45 @@ impl Page {
         self.say(indent, text.as_str())
     }
 
+    /// Whether a text stands on one line, so many columns in, and is short.
+    pub fn is_line(&self, indent: usize, text: &str) -> bool {
+        text.len() <= VALUE_BYTES && text.len() <= self.room(indent)
+    }
+
+    // How many bytes of a word are shown on lines that begin so many columns in and go on two further: with `..` behind them they fit.
+    fn word_bytes(&self, indent: usize) -> usize {
+        self.room(indent.saturating_add(4)).min(VALUE_BYTES)
+    }
+
+    /// How many columns a line has behind so many.
+    pub fn room(&self, indent: usize) -> usize {
+        self.columns.saturating_sub(indent)
+    }
+
     // Adds a word to the last line, or to a new one where it doesn't fit.
     fn put_word(&mut self, indent: usize, word: &str) -> Result<(), AllocError> {
-        let width = if word.len() > VALUE_BYTES {
-            VALUE_BYTES + 2
+        let most = self.word_bytes(indent);
+        let width = if word.len() > most {
+            most.saturating_add(2)
         } else {
             word.len()
         };
         if self.is_blank {
-            return self.put(word, width);
+            return self.put(word, most, width);
         }
-        if self.column.saturating_add(width) >= COLUMNS {
+        if self.column.saturating_add(width) >= self.columns {
             self.text.push('\n')?;
             self.begin_line(indent.saturating_add(2))?;
-            return self.put(word, width);
+            return self.put(word, most, width);
         }
         self.text.push(' ')?;
-        self.put(word, width.saturating_add(1))
+        self.put(word, most, width.saturating_add(1))
     }
 
-    // Adds a word, or what is shown of it, to the last line, which gets so many bytes longer.
-    fn put(&mut self, word: &str, width: usize) -> Result<(), AllocError> {
+    // Adds a word, or so many bytes of it, to the last line, which gets so many bytes longer.
+    fn put(&mut self, word: &str, most: usize, width: usize) -> Result<(), AllocError> {
         self.is_blank = false;
-        match front(word, VALUE_BYTES) {
+        match front(word, most) {
             Some(front) => {
                 self.text.push_str(front)?;
                 self.text.push_str("..")?;

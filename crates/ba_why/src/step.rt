@@ -5,70 +5,8 @@ use crate::scene::Scene;
 use crate::text::{atom_text, columns_text, fact_text, view_name};
 use ba_facts::{Branch, TermAtom};
 use ba_kernel::{Search, Step};
-use ba_model::{Duplicate, List, Table};
+use ba_model::{List, Table};
 use std::alloc::{AllocError, Global};
-
-/// The same step.
-pub fn copy_step(alloc: Global, step: &Step) -> Result<Step, AllocError> {
-    match step {
-        Step::Entry { branch, entry } => Ok(Step::Entry {
-            branch: *branch,
-            entry: *entry,
-        }),
-        Step::Key {
-            branch,
-            key,
-            left,
-            right,
-        } => Ok(Step::Key {
-            branch: *branch,
-            key: *key,
-            left: *left,
-            right: *right,
-        }),
-        Step::Link { branch, link, fact } => Ok(Step::Link {
-            branch: *branch,
-            link: *link,
-            fact: *fact,
-        }),
-        Step::Rule {
-            branch,
-            rule,
-            part,
-            facts,
-        } => Ok(Step::Rule {
-            branch: *branch,
-            rule: *rule,
-            part: *part,
-            facts: facts.copy(alloc)?,
-        }),
-        Step::View {
-            branch,
-            view,
-            part,
-            facts,
-        } => Ok(Step::View {
-            branch: *branch,
-            view: *view,
-            part: *part,
-            facts: facts.copy(alloc)?,
-        }),
-        Step::Split { branch, atom } => Ok(Step::Split {
-            branch: *branch,
-            atom: atom.copy(alloc)?,
-        }),
-        Step::Absurd { branch } => Ok(Step::Absurd { branch: *branch }),
-        Step::Goal {
-            branch,
-            part,
-            facts,
-        } => Ok(Step::Goal {
-            branch: *branch,
-            part: *part,
-            facts: facts.copy(alloc)?,
-        }),
-    }
-}
 
 /// Why a step was taken, after it: what goes before the facts that it adds. `branches` is how many numbers of branches there were before.
 pub fn cause_text(

@@ -1,0 +1,196 @@
+//! A run, and its replies in words.
+
+use crate::given::Given;
+use crate::outside::{FirstPiece, KeptFiles};
+use crate::page::Page;
+use crate::telling::tell;
+use crate::words::{Names, Wanted};
+use ba_command::WordsFault;
+use ba_lanes::Journal;
+use ba_model::Failure;
+use ba_notice::notice;
+use ba_outside::{FreeGate, Held};
+use ba_top::{Outcome, blockaid};
+use std::alloc::{AllocError, Global};
+use std::io;
+use std::io::{ErrorKind, Write};
+use std::rt::Files;
+use std::sync::Wait;
+use std::thread::Threads;
+
+// The status for want of memory.
+const MEMORY: u8 = 6;
+
+/// What is explained, and how.
+#[derive(Clone, Copy)]
+pub struct Asked<'a> {
+    /// The words of a run, without the program's name.
+    pub words: &'a [String],
+    /// What goes before the names in them.
+    pub prefix: &'a str,
+    pub wanted: Wanted,
+    /// How many columns a line has at most: 40, or more.
+    pub columns: usize,
+}
+
+/// How a run ended that was explained.
+#[derive(Drop)]
+pub struct Explained {
+    /// The run's status, or that for want of memory.
+    pub status: u8,
+    /// Where the run has no journal, its fault line and the line on why, each with its end.
+    pub complaint: String,
+}
+
+impl Explained {
+    // A run whose replies were told.
+    fn told(alloc: Global, status: u8) -> Explained {
+        Explained {
+            status,
+            complaint: String::new(alloc),
+        }
+    }
+}
+
+/// Runs the top call, and writes why each question that is wanted was answered or not, with an empty line between two. A write that fails
+/// ends the telling, and doesn't change the status.
+///
+/// # Errors
+/// A fault where the words are none of a run; then nothing is run.
+pub fn explain<R, W>(
+    rt: &R,
+    asked: &Asked<'_>,
+    out: &mut W,
+) -> Result<Explained, Failure<WordsFault>>
+where
+    R: Files + AllocGlobal + Threads + Wait + Sync + Clone + Drop,
+    W: Write,
+{
+    let names = Names::read(rt.alloc(), asked.words)?;
+    match explain_run(rt, asked, &names, out) {
+        Ok(explained) => Ok(explained),
+        Err(_) => Err(Failure::NoMemory),
+    }
+}
+
+fn explain_run<R, W>(
+    rt: &R,
+    asked: &Asked<'_>,
+    names: &Names,
+    out: &mut W,
+) -> Result<Explained, AllocError>
+where
+    R: Files + AllocGlobal + Threads + Wait + Sync + Clone + Drop,
+    W: Write,
+{
+    let alloc = rt.alloc();
+    let Ok(system) = rt.clone() else {
+        return Err(AllocError);
+    };
+    let mut files = KeptFiles::new(system, alloc, asked.prefix, names);
+    let mut sink = FirstPiece::new(alloc);
+    let outcome = blockaid(rt, alloc, asked.words, &mut files, &mut sink, &FreeGate);
+    match &outcome.journal {
+        Some(journal) => {
+            let told = tell_all(alloc, files.kept(), names, journal, asked, out);
+            Ok(Explained::told(alloc, status_of(&told, outcome.status)))
+        }
+        None => complaint_of(rt, asked, files.asked(), &outcome, sink.text()),
+    }
+}
+
+// The status of a run that was told so.
+fn status_of(told: &io::Result<()>, status: u8) -> u8 {
+    match told {
+        Err(e) if e.kind() == ErrorKind::OutOfMemory => MEMORY,
+        _ => status,
+    }
+}
+
+// Says why a run has no journal: its fault line, and what is told of that.
+fn complaint_of<R: Files + AllocGlobal>(
+    rt: &R,
+    asked: &Asked<'_>,
+    names: &[String],
+    outcome: &Outcome,
+    line: &str,
+) -> Result<Explained, AllocError> {
+    let why = notice(rt, asked.words, asked.prefix, names, outcome)?;
+    let complaint = format!(in rt.alloc(); "{line}{why}\n")?;
+    Ok(Explained {
+        status: outcome.status,
+        complaint,
+    })
+}
+
+// The bytes that were read as the script, behind the schema and the policy.
+fn script_in<'a>(kept: &'a [Held], names: &Names) -> &'a [u8] {
+    for held in kept {
+        if held.name.as_str() == names.script.as_str() {
+            return &held.bytes;
+        }
+    }
+    &[]
+}
+
+// Explains the questions that are wanted.
+fn tell_all<W: Write>(
+    alloc: Global,
+    kept: &[Held],
+    names: &Names,
+    journal: &Journal,
+    asked: &Asked<'_>,
+    out: &mut W,
+) -> io::Result<()> {
+    let [schema, policy, rest @ ..] = kept else {
+        return Ok(());
+    };
+    let script = script_in(rest, names);
+    let given = Given::read(alloc, &schema.bytes, &policy.bytes, script)?;
+    match asked.wanted {
+        Wanted::All => tell_each(alloc, &given, journal, asked.columns, out),
+        Wanted::Line(line) => tell_line(alloc, &given, journal, asked.columns, line, out),
+    }
+}
+
+// Explains each reply, with an empty line between two.
+fn tell_each<W: Write>(
+    alloc: Global,
+    given: &Given,
+    journal: &Journal,
+    columns: usize,
+    out: &mut W,
+) -> io::Result<()> {
+    let mut is_first = true;
+    for place in 0..journal.entries.len() {
+        let mut page = Page::new(alloc, columns);
+        let is_told = tell(&mut page, given, journal, place)?;
+        if is_told && !is_first {
+            out.write_all(b"\n")?;
+        }
+        if is_told {
+            is_first = false;
+            out.write_all(page.text().as_bytes())?;
+        }
+    }
+    Ok(())
+}
+
+// Explains the reply at a line.
+fn tell_line<W: Write>(
+    alloc: Global,
+    given: &Given,
+    journal: &Journal,
+    columns: usize,
+    line: u64,
+    out: &mut W,
+) -> io::Result<()> {
+    let mut page = Page::new(alloc, columns);
+    let place = line.wrapping_sub(1) as usize;
+    let is_told = tell(&mut page, given, journal, place)?;
+    if !is_told {
+        let text = format!(in alloc; "No question stands at line {line} of the script.")?;
+        page.say(0, text.as_str())?;
+    }
+    out.write_all(page.text().as_bytes())
+}
