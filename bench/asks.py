@@ -199,7 +199,8 @@ def last_said(folder):
 
 
 def check_lines(folder, ask, is_asked):
-    """Every earlier question was answered, and of this one was said what is said of it."""
+    """Every earlier question was answered, and of this one was said what is said of it. One that is proved leaves a template, which
+    answers it when it is asked again."""
     with open(f"{folder}/out.jsonl", "rb") as it:
         *lines, summary = map(json.loads, it)
     requests, each = summary["requests"], len(ask.before) + is_asked
@@ -209,4 +210,6 @@ def check_lines(folder, ask, is_asked):
         expect(summary["blocked"], 0, f"blocks before {ask.name}")
     elif ask.said:
         found = collections.Counter(it.get("by") or it.get("blocked") for it in questions[each - 1 :: each])
+        if ask.said == "proof":
+            found["proof"] += found.pop("template", 0)
         expect(dict(found), {ask.said: requests}, f"what is said of {ask.name}")
