@@ -1,5 +1,5 @@
 //! Places in a text, and how little of it is shown.
-ghost use Rattle.std.specs.Prelude.{◌≤◌};
+ghost use Rattle.std.specs.Prelude.{◌≡◌, min};
 
 use std::alloc::{AllocError, Global};
 
@@ -22,8 +22,7 @@ pub struct Mark {
 impl Mark {
     /// These bytes, as far as a text of so many has them.
     pub fn within(len: usize, start: usize, end: usize) -> Mark
-        ensures within { result.end ≤ len }
-        ensures order { result.start ≤ result.end }
+        ensures { result ≡ record { start = min start (min end len); end = min end len } }
     {
         let end = end.min(len);
         Mark {

@@ -54,11 +54,13 @@ fn line_of(out: Writer) -> Result<String, AllocError>
     ensures text { IfOk result (λ s. string_bytes s ≡ print out.tokens ++ 10 ∷ []) }
     ensures reads { tokens (print out.tokens) ≡ out.tokens }
 {
-    let Ok(mut text) = String::from_utf8(out.into_inner()) else {
-        return Err(AllocError);
-    };
-    text.push('\n')?;
-    Ok(text)
+    match String::from_utf8(out.into_inner()) {
+        Ok(mut text) => {
+            text.push('\n')?;
+            Ok(text)
+        }
+        Err(_) => unreachable!(),
+    }
 }
 
 /// The line of an answer, with the answer's values copied nowhere but into the text.
