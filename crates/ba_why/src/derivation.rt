@@ -6,7 +6,7 @@ use crate::given::Given;
 use crate::page::{MOST_ROWS, Page};
 use crate::scene::Scene;
 use crate::step::cause_text;
-use crate::text::{facts_text, terms_text};
+use crate::text::{facts_text, known_text, terms_text};
 use ba_kernel::{Problem, ProblemDraft, Search, Step};
 use ba_model::{Duplicate, Failure, MAX_BUDGET, Query, Shared};
 use std::alloc::{AllocError, Global};
@@ -49,34 +49,48 @@ fn start(
     }
 }
 
-/// Tells the steps of a question's derivation from a number on, as many as are shown, and with what it begins where that is the first.
+/// Tells a question's derivation: with what it begins, and its steps, the last ones where there are more than are shown.
 pub fn tell_derivation(
     page: &mut Page,
     given: &Given,
     scene: &Scene,
     query: &Shared<Query>,
     steps: &[Step],
-    from: usize,
 ) -> Result<(), AllocError> {
     let started = start(page.alloc, given, scene, query)?;
-    match started {
-        Some(mut search) => tell_search(page, given, scene, &mut search, steps, from),
-        None => Ok(()),
-    }
+    let Some(mut search) = started else {
+        return Ok(());
+    };
+    tell_start(page, given, &search)?;
+    let from = steps.len().saturating_sub(MOST_ROWS);
+    tell_skipped(page, from)?;
+    tell_steps(page, given, scene, &mut search, steps, from)
 }
 
-fn tell_search(
+/// Tells so many of the last steps of a question's derivation.
+pub fn tell_last_steps(
     page: &mut Page,
     given: &Given,
     scene: &Scene,
-    search: &mut Search,
+    query: &Shared<Query>,
     steps: &[Step],
-    from: usize,
+    count: usize,
 ) -> Result<(), AllocError> {
-    if from == 0 {
-        tell_start(page, given, search)?;
+    let started = start(page.alloc, given, scene, query)?;
+    let Some(mut search) = started else {
+        return Ok(());
+    };
+    let from = steps.len().saturating_sub(count);
+    tell_steps(page, given, scene, &mut search, steps, from)
+}
+
+// Says how many steps aren't told before the others.
+fn tell_skipped(page: &mut Page, count: usize) -> Result<(), AllocError> {
+    if count == 0 {
+        return Ok(());
     }
-    tell_steps(page, given, scene, search, steps, from)
+    let text = format!(in page.alloc; ".. {count} steps before the last {MOST_ROWS}")?;
+    page.say(4, text.as_str())
 }
 
 // Takes a step, and gives whether it is accepted.
@@ -112,13 +126,14 @@ fn tell_begin(
     };
     let alloc = page.alloc;
     let facts = facts_text(alloc, given.policy(), branch, 0)?;
+    let known = known_text(alloc, given.policy(), branch)?;
     let row = terms_text(alloc, given.policy(), branch, branch.goal.as_slice())?;
     let case = case_text(alloc, search, number)?;
-    let text = format!(in alloc; "{case}{facts}, and the row is {row}")?;
+    let text = format!(in alloc; "{case}{facts}{known}, and the row is {row}")?;
     page.say(4, text.as_str())
 }
 
-// Takes the steps, and tells those from a number on, as many as are shown.
+// Takes the steps, and tells those from a number on.
 fn tell_steps(
     page: &mut Page,
     given: &Given,
@@ -127,11 +142,7 @@ fn tell_steps(
     steps: &[Step],
     from: usize,
 ) -> Result<(), AllocError> {
-    let most = from.saturating_add(MOST_ROWS);
     for (number, step) in steps.iter().enumerate() {
-        if number >= most {
-            return page.say_left(4, steps.len().saturating_sub(number));
-        }
         let before = Before::of(search, step);
         let is_taken = take(page.alloc, search, step)?;
         if is_taken && number >= from {

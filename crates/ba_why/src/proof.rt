@@ -31,7 +31,7 @@ pub fn tell_proof(
     keeping: Keeping,
 ) -> Result<(), AllocError> {
     page.say(2, PREMISE)?;
-    tell_derivation(page, given, scene, query, steps.as_slice(), 0)?;
+    tell_derivation(page, given, scene, query, steps.as_slice())?;
     page.say(2, END)?;
     tell_keeping(page, query, keeping)
 }

@@ -2,7 +2,7 @@
 ghost use Rattle.ba_model.specs.Fit.{PolicyFits};
 
 use crate::page::{VALUE_BYTES, shown};
-use ba_facts::{Branch, Fact, Side, Term, TermAtom};
+use ba_facts::{Branch, Fact, Lesson, Side, Term, TermAtom};
 use ba_model::{Context, List, Op, Policy, Table, Value};
 use ba_sql_print::print_query;
 use std::alloc::{AllocError, Global};
@@ -195,4 +195,31 @@ pub fn atom_text(
         Op::IsNull => format!(in alloc; "{left} is NULL"),
         Op::NotNull => format!(in alloc; "{left} isn't NULL"),
     }
+}
+
+// The comparison that a lesson tells, if it tells one and it is no equation.
+fn compared(lesson: &Lesson) -> Option<&TermAtom> {
+    match lesson {
+        Lesson::Same(_, _) => None,
+        Lesson::Holds(atom) => match atom.op {
+            Op::Eq => None,
+            _ => Some(atom),
+        },
+    }
+}
+
+/// The comparisons that are known in a branch, but for equations, which the names of terms tell. Nothing, where there are none.
+pub fn known_text(alloc: Global, policy: &Policy, branch: &Branch) -> Result<String, AllocError> {
+    let mut texts = Vec::new(alloc);
+    for lesson in branch.known.learned() {
+        if let Some(atom) = compared(lesson) {
+            let text = atom_text(alloc, policy, branch, atom)?;
+            texts.push(text)?;
+        }
+    }
+    if texts.is_empty() {
+        return Ok(String::new(alloc));
+    }
+    let all = texts.join(alloc, ", ")?;
+    format!(in alloc; " where {all}")
 }

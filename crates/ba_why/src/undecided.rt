@@ -1,6 +1,6 @@
 //! Blocks that show nothing of the question: a search that was spent, and one that is stuck.
 
-use crate::derivation::tell_derivation;
+use crate::derivation::tell_last_steps;
 use crate::given::Given;
 use crate::page::Page;
 use crate::scene::Scene;
@@ -28,8 +28,7 @@ pub fn tell_spent(
         "The search took all {count} steps of its budget, and could have gone on: {kinds}. The last ones are (x1, x2, .. stand for values):"
     )?;
     page.say(2, text.as_str())?;
-    let from = count.saturating_sub(LAST_STEPS);
-    tell_derivation(page, given, scene, query, steps.as_slice(), from)?;
+    tell_last_steps(page, given, scene, query, steps.as_slice(), LAST_STEPS)?;
     tell_budget(page, count as u64)
 }
 
