@@ -3,6 +3,7 @@ use Rattle.std.proofs.Common.{◌≡◌, ℕ, ◌+◌, ◌*◌, ◌^◌, ◌<◌
 use Rattle.std.specs.List.{list_any, AllByRecursion, IsDistinct}
 use Rattle.std.proofs.lemmas.Bool.{or_cases, or_parts, eqb-true}
 use Rattle.std.proofs.lemmas.Int.{ints, by_lt_z}
+use Rattle.std.proofs.lemmas.Nat.{mul-le}
 use Rattle.std.proofs.lemmas.List.Elements.{All-contains}
 use Rattle.std.proofs.lemmas.Map.Keys.{IsDistinct-cons}
 use Rattle.std.proofs.lemmas.Map.Steps.{length-le_from_distinct_below}
@@ -83,9 +84,9 @@ unfolding IsDistinct
 distinct (stay {x = x}) = IsDistinct-cons eqb x [] tt tt
 distinct (go f {visited = visited} h lacks s) = IsDistinct-cons eqb f.low visited (apart_from_all f.low visited lacks) (distinct s)
 
-module _ (facts : List Difference) (in_range : All IsInRange facts) where
-  fact_in_range : (f : Difference) → Contains facts f → IsInRange f
-  fact_in_range f h = All-contains IsInRange facts f in_range h
+module _ (m : ℕ) (facts : List Difference) (in_range : All (IsInRange m) facts) where
+  fact_in_range : (f : Difference) → Contains facts f → IsInRange m f
+  fact_in_range f h = All-contains (IsInRange m) facts f in_range h
 
   visits_in_range : {visited : List ℕ} {x y : ℕ} {k : ℤ} → y < 2 ^ 32 → Simple facts visited x k y → (q : ℕ) → list_any (eqb q) visited ≡ true → q < 2 ^ 32
   visits_in_range end (stay {x = x}) q e = ⊎_elim (λ here. let same : q ≡ x = eqb-true q x here in omega arith) (λ h. absurd (cc)) (or_cases _ _ e)
@@ -96,51 +97,56 @@ module _ (facts : List Difference) (in_range : All IsInRange facts) where
       (or_cases (eqb q f.low) _ e)
 
   -- each node adds at most the greatest gap
-  sum_within : {visited : List ℕ} {x y : ℕ} {k : ℤ} → Simple facts visited x k y → (neg_ℤ (pos (2 ^ 65 * length visited)) ≤ℤ k) × (k ≤ℤ pos (2 ^ 65 * length visited))
-  sum_within stay = (omega (arith, ints), omega (arith, ints))
-  sum_within (go f h lacks s) =
+  sum_within : {visited : List ℕ} {x y : ℕ} {k : ℤ} → Simple facts visited x k y → (neg_ℤ (pos (m * length visited)) ≤ℤ k) × (k ≤ℤ pos (m * length visited))
+  sum_within (stay {x = x}) = (omega (arith, ints), omega (arith, ints))
+  sum_within (go f {visited = visited} h lacks s) =
       let r = fact_in_range f h in
-      (omega (arith, ints, sum_within s, r.above, r.below), omega (arith, ints, sum_within s, r.above, r.below))
+      let more : m * length (f.low ∷ visited) ≡ m + m * length visited = omega arith in
+      (omega (arith, ints, sum_within s, r.above, r.below, more), omega (arith, ints, sum_within s, r.above, r.below, more))
 
-  direct_within : {visited : List ℕ} {x y : ℕ} {k : ℤ} → y < 2 ^ 32 → Simple facts visited x k y → (neg_ℤ (pos (2 ^ 97)) ≤ℤ k) × (k ≤ℤ pos (2 ^ 97))
+  direct_within : {visited : List ℕ} {x y : ℕ} {k : ℤ} → y < 2 ^ 32 → Simple facts visited x k y → (neg_ℤ (pos (m * 2 ^ 32)) ≤ℤ k) × (k ≤ℤ pos (m * 2 ^ 32))
   direct_within {visited} end s =
-      let few = length-le_from_distinct_below visited (2 ^ 32) (distinct s) (visits_in_range end s) in
+      let few = mul-le m (length visited) m (2 ^ 32) (omega arith) (length-le_from_distinct_below visited (2 ^ 32) (distinct s) (visits_in_range end s)) in
       (omega (arith, ints, few, sum_within s), omega (arith, ints, few, sum_within s))
 
-  module _ (cell : ℕ → ℕ → Best) (exact : IsExact facts cell) (x y : ℕ) (end : y < 2 ^ 32) where
-    no_more : (s j : ℤ) → reach cell x y ≡ Sum s → Chain facts x j y → j ≤ℤ s
-    no_more s j is c = subst (λ b. Reaches b j) is (exact.complete x y j (record { sum = j; enough = omega (arith, ints); chain = c }))
+  -- a best that reaches what is shown
+  module _ (best : Best) (x y : ℕ) (end : y < 2 ^ 32) (sound : (k : ℤ) → Reaches best k → Shows facts x k y) (complete : (k : ℤ) → Shows facts x k y → Reaches best k) where
+    no_more : (s j : ℤ) → best ≡ Sum s → Chain facts x j y → j ≤ℤ s
+    no_more s j is c = subst (λ b. Reaches b j) is (complete j (record { sum = j; enough = omega (arith, ints); chain = c }))
 
-    attained : (s : ℤ) → reach cell x y ≡ Sum s → Shows facts x s y
-    attained s is = exact.sound x y s (subst (λ b. Reaches b s) (sym is) (omega (arith, ints)))
+    attained : (s : ℤ) → best ≡ Sum s → Shows facts x s y
+    attained s is = sound s (subst (λ b. Reaches b s) (sym is) (omega (arith, ints)))
 
-    sum_of_direct : (s j : ℤ) → reach cell x y ≡ Sum s → s ≤ℤ j → Direct facts x j y ⊎ Exceeds facts x j y → (neg_ℤ (pos (2 ^ 97)) ≤ℤ s) × (s ≤ℤ pos (2 ^ 97))
+    sum_of_direct : (s j : ℤ) → best ≡ Sum s → s ≤ℤ j → Direct facts x j y ⊎ Exceeds facts x j y → (neg_ℤ (pos (m * 2 ^ 32)) ≤ℤ s) × (s ≤ℤ pos (m * 2 ^ 32))
     sum_of_direct s j is up (inl d) =
         let most = no_more s d.sum is (chain_of d.simple) in
         (omega (arith, ints, most, up, d.enough, direct_within end d.simple), omega (arith, ints, most, up, d.enough, direct_within end d.simple))
     sum_of_direct s j is up (inr o) = absurd (omega (arith, ints, no_more s o.sum is o.chain, up, o.more))
 
-    within : (b : Best) → reach cell x y ≡ b → IsWithin (2 ^ 97) b
+    within : (b : Best) → best ≡ b → IsWithin (m * 2 ^ 32) b
     within Absent is = tt
     within (Sum s) is = let shown = attained s is in sum_of_direct s shown.sum is shown.enough (direct shown.chain)
     within Unbounded is = tt
 
-    large : Direct facts x (pos (2 ^ 97 + 1)) y ⊎ Exceeds facts x (pos (2 ^ 97 + 1)) y → IsAbsurd facts
+    large : Direct facts x (pos (m * 2 ^ 32 + 1)) y ⊎ Exceeds facts x (pos (m * 2 ^ 32 + 1)) y → IsAbsurd facts
     large (inl d) = absurd (omega (arith, ints, d.enough, direct_within end d.simple))
     large (inr o) = o.circle
 
-    unbounded : reach cell x y ≡ Unbounded → Direct facts x (pos (2 ^ 97 + 1)) y ⊎ Exceeds facts x (pos (2 ^ 97 + 1)) y
+    unbounded : best ≡ Unbounded → Direct facts x (pos (m * 2 ^ 32 + 1)) y ⊎ Exceeds facts x (pos (m * 2 ^ 32 + 1)) y
     unbounded is =
-        let shown = exact.sound x y (pos (2 ^ 97 + 1)) (subst (λ b. Reaches b (pos (2 ^ 97 + 1))) (sym is) tt) in
+        let shown = sound (pos (m * 2 ^ 32 + 1)) (subst (λ b. Reaches b (pos (m * 2 ^ 32 + 1))) (sym is) tt) in
         ⊎_elim
         (λ d. inl record { visited = d.visited; sum = d.sum; enough = omega (arith, ints, d.enough, shown.enough); simple = d.simple })
         (λ o. inr record { sum = o.sum; more = omega (arith, ints, o.more, shown.enough); chain = o.chain; circle = o.circle })
         (direct shown.chain)
 
-  -- no best sum is large
-  pub reach_within : (cell : ℕ → ℕ → Best) → IsExact facts cell → (x y : ℕ) → y < 2 ^ 32 → IsWithin (2 ^ 97) (reach cell x y)
-  reach_within cell exact x y end = within cell exact x y end (reach cell x y) refl
+    -- no best sum is large
+    pub best_within : IsWithin (m * 2 ^ 32) best
+    best_within = within best refl
 
-  -- chains of any sum between two nodes go through a circle that gains
-  pub unbounded_is_absurd : (cell : ℕ → ℕ → Best) → IsExact facts cell → (x y : ℕ) → y < 2 ^ 32 → reach cell x y ≡ Unbounded → IsAbsurd facts
-  unbounded_is_absurd cell exact x y end is = large cell exact x y end (unbounded cell exact x y end is)
+    -- chains of any sum between two nodes go through a circle that gains
+    pub unbounded_is_absurd : best ≡ Unbounded → IsAbsurd facts
+    unbounded_is_absurd is = large (unbounded is)
+
+pub reach_within : (facts : List Difference) → All (IsInRange (2 ^ 66)) facts → (cell : ℕ → ℕ → Best) → IsExact facts cell → (x y : ℕ) → y < 2 ^ 32 → IsWithin (2 ^ 98) (reach cell x y)
+reach_within facts in_range cell exact x y end = best_within (2 ^ 66) facts in_range (reach cell x y) x y end (exact.sound x y) (exact.complete x y)

@@ -69,7 +69,7 @@ IsClosure-placed facts places after rows wider is_absurd node small kept named s
 
 pub IsClosure-none : (places : Places) (rows : List (List Best)) → hash_map_len places ≡ 0 → ((x y : ℕ) → between places rows x y ≡ Absent) → IsClosure [] places rows false
 IsClosure-none places rows unnamed absent = record {
-  in_range = All-nil IsInRange;
+  in_range = All-nil (IsInRange (2 ^ 66));
   named = λ p h. absurd (omega arith);
   exact = IsExact-same [] (λ _ _. Absent) (between places rows) absent IsExact-none;
   flag = (λ e. absurd (false≢true e), λ a. absurd (no_gain a.chain a.above));
@@ -104,33 +104,34 @@ nothing_comes a c e t p q = same_raised a Absent c Absent e e t p q refl
 nothing_goes : (a c e t : Best) → a ≡ Absent → e ≡ Absent → better a (joined (joined c t) e) ≡ Absent
 nothing_goes a c e t p q = same_raised a Absent c c e Absent t p refl q ∙ joined-Absent (joined c t)
 
-module _ (facts : List Difference) (places : Places) (rows : List (List Best)) (is_absurd : Bool) (grid : IsGrid places rows) (closure : IsClosure facts places rows is_absurd) (fact : Difference) (range : IsInRange fact) (from to : ℕ) (low_placed : place_of places fact.low ≡ Some from) (high_placed : place_of places fact.high ≡ Some to) where
+module _ (facts : List Difference) (places : Places) (rows : List (List Best)) (is_absurd : Bool) (grid : IsGrid places rows) (closure : IsClosure facts places rows is_absurd) (fact : Difference) (range : IsInRange (2 ^ 66) fact) (from to : ℕ) (low_placed : place_of places fact.low ≡ Some from) (high_placed : place_of places fact.high ≡ Some to) where
   -- a cell outside the square has no chains, and its places are two
   outside : (i j : ℕ) → i ≢ j → cell_at rows i j ≡ Absent → or_nothing (nat_eq i j) (cell_at rows i j) ≡ Absent
   outside i j apart absent = ap (λ b. or_nothing b (cell_at rows i j)) (ne_eqb i j apart) ∙ absent
 
-  pub comes_within : (i : ℕ) → IsWithin (2 ^ 97) (or_nothing (nat_eq i from) (cell_at rows i from))
+  pub comes_within : (i : ℕ) → IsWithin (2 ^ 98) (or_nothing (nat_eq i from) (cell_at rows i from))
   comes_within i =
       ⊎_elim
       (λ (h : i < hash_map_len places).
       let has = closure.named i h in
-      subst (IsWithin (2 ^ 97)) (sym (reach_placed places rows grid has.node fact.low i from has.placed low_placed))
+      subst (IsWithin (2 ^ 98)) (sym (reach_placed places rows grid has.node fact.low i from has.placed low_placed))
       (reach_within facts closure.in_range (between places rows) closure.exact has.node fact.low range.low))
       (λ (h : hash_map_len places ≤ i).
       let apart : i ≢ from = λ e. absurd (omega (arith, e, grid.below fact.low from low_placed)) in
-      subst (IsWithin (2 ^ 97)) (sym (outside i from apart (grid.no_row i from h))) tt)
+      subst (IsWithin (2 ^ 98)) (sym (outside i from apart (grid.no_row i from h))) tt)
       (cases_lt i (hash_map_len places))
 
-  pub goes_within : (j : ℕ) → IsWithin (2 ^ 97) (or_nothing (nat_eq to j) (cell_at rows to j))
+  pub nothing_past : (j : ℕ) → hash_map_len places ≤ j → or_nothing (nat_eq to j) (cell_at rows to j) ≡ Absent
+  nothing_past j h = let apart : to ≢ j = λ e. absurd (omega (arith, e, grid.below fact.high to high_placed)) in outside to j apart (grid.no_column to j h)
+
+  pub goes_within : (j : ℕ) → IsWithin (2 ^ 98) (or_nothing (nat_eq to j) (cell_at rows to j))
   goes_within j =
       ⊎_elim
       (λ (h : j < hash_map_len places).
       let has = closure.named j h in
-      subst (IsWithin (2 ^ 97)) (sym (reach_placed places rows grid fact.high has.node to j high_placed has.placed))
+      subst (IsWithin (2 ^ 98)) (sym (reach_placed places rows grid fact.high has.node to j high_placed has.placed))
       (reach_within facts closure.in_range (between places rows) closure.exact fact.high has.node has.small))
-      (λ (h : hash_map_len places ≤ j).
-      let apart : to ≢ j = λ e. absurd (omega (arith, e, grid.below fact.high to high_placed)) in
-      subst (IsWithin (2 ^ 97)) (sym (outside to j apart (grid.no_column to j h))) tt)
+      (λ (h : hash_map_len places ≤ j). subst (IsWithin (2 ^ 98)) (sym (nothing_past j h)) tt)
       (cases_lt j (hash_map_len places))
 
   module _ (gains : Bool) (gains_is : IsTrue gains ↔ Reaches (reach (between places rows) fact.high fact.low) (pos 1 +ℤ neg_ℤ fact.gap)) (onward : List Best) (onward_is : (j : ℕ) → get_or onward j Absent ≡ or_nothing (nat_eq to j) (cell_at rows to j)) (after : Places) (raised : List (List Best)) (same_places : (x : ℕ) → place_of after x ≡ place_of places x) (cells : (i j : ℕ) → cell_at raised i j ≡ better (cell_at rows i j) (joined (joined (or_nothing (nat_eq i from) (cell_at rows i from)) (through gains fact.gap)) (get_or onward j Absent))) where
@@ -161,7 +162,7 @@ module _ (facts : List Difference) (places : Places) (rows : List (List Best)) (
 
     pub IsClosure-raised : hash_map_len after ≡ hash_map_len places → IsClosure (facts ++ fact ∷ []) after raised (is_absurd || gains)
     IsClosure-raised len = record {
-      in_range = All-push IsInRange facts fact closure.in_range range;
+      in_range = All-push (IsInRange (2 ^ 66)) facts fact closure.in_range range;
       named = λ p h.
           let had = closure.named p (omega (arith, len)) in
           record { node = had.node; small = had.small; placed = same_places had.node ∙ had.placed };
@@ -170,7 +171,7 @@ module _ (facts : List Difference) (places : Places) (rows : List (List Best)) (
     }
 
 -- the same, over what the code read: whether it saw a gain, and the chains through the fact
-pub IsClosure-step : (facts : List Difference) (places : Places) (rows : List (List Best)) (is_absurd : Bool) (grid : IsGrid places rows) (closure : IsClosure facts places rows is_absurd) (fact : Difference) (range : IsInRange fact) (from to : ℕ) (low_placed : place_of places fact.low ≡ Some from) (high_placed : place_of places fact.high ≡ Some to) (gains : Bool) (seen by : Best) (least : ℤ) (onward : List Best) (onward_is : (j : ℕ) → get_or onward j Absent ≡ or_nothing (nat_eq to j) (cell_at rows to j)) (said : IsTrue gains ↔ Reaches seen least) (seen_is : seen ≡ get_or onward from Absent) (least_is : least ≡ pos 1 +ℤ neg_ℤ fact.gap) (by_is : by ≡ through gains fact.gap) (after : Places) (raised : List (List Best)) (same_places : (x : ℕ) → place_of after x ≡ place_of places x) (len : hash_map_len after ≡ hash_map_len places) (cells : (i j : ℕ) → cell_at raised i j ≡ better (cell_at rows i j) (joined (joined (or_nothing (nat_eq i from) (cell_at rows i from)) by) (get_or onward j Absent))) → IsClosure (facts ++ fact ∷ []) after raised (is_absurd || gains)
+pub IsClosure-step : (facts : List Difference) (places : Places) (rows : List (List Best)) (is_absurd : Bool) (grid : IsGrid places rows) (closure : IsClosure facts places rows is_absurd) (fact : Difference) (range : IsInRange (2 ^ 66) fact) (from to : ℕ) (low_placed : place_of places fact.low ≡ Some from) (high_placed : place_of places fact.high ≡ Some to) (gains : Bool) (seen by : Best) (least : ℤ) (onward : List Best) (onward_is : (j : ℕ) → get_or onward j Absent ≡ or_nothing (nat_eq to j) (cell_at rows to j)) (said : IsTrue gains ↔ Reaches seen least) (seen_is : seen ≡ get_or onward from Absent) (least_is : least ≡ pos 1 +ℤ neg_ℤ fact.gap) (by_is : by ≡ through gains fact.gap) (after : Places) (raised : List (List Best)) (same_places : (x : ℕ) → place_of after x ≡ place_of places x) (len : hash_map_len after ≡ hash_map_len places) (cells : (i j : ℕ) → cell_at raised i j ≡ better (cell_at rows i j) (joined (joined (or_nothing (nat_eq i from) (cell_at rows i from)) by) (get_or onward j Absent))) → IsClosure (facts ++ fact ∷ []) after raised (is_absurd || gains)
 IsClosure-step facts places rows is_absurd grid closure fact range from to low_placed high_placed gains seen by least onward onward_is said seen_is least_is by_is after raised same_places len cells =
     let back : seen ≡ reach (between places rows) fact.high fact.low = seen_is ∙ onward_is from ∙ reach_placed places rows grid fact.high fact.low to from high_placed low_placed in
     let gains_is : IsTrue gains ↔ Reaches (reach (between places rows) fact.high fact.low) (pos 1 +ℤ neg_ℤ fact.gap) =
@@ -192,9 +193,9 @@ module _ (facts : List Difference) (fact : Difference) (already : Shows facts fa
   shown_without : {x y : ℕ} {k : ℤ} → Shows (facts ++ fact ∷ []) x k y → Shows facts x k y
   shown_without {k = k} s = weaken k s.enough (chain_without s.chain)
 
-  pub IsClosure-shown : (places : Places) (rows : List (List Best)) (is_absurd : Bool) → IsInRange fact → IsClosure facts places rows is_absurd → IsClosure (facts ++ fact ∷ []) places rows is_absurd
+  pub IsClosure-shown : (places : Places) (rows : List (List Best)) (is_absurd : Bool) → IsInRange (2 ^ 66) fact → IsClosure facts places rows is_absurd → IsClosure (facts ++ fact ∷ []) places rows is_absurd
   IsClosure-shown places rows is_absurd range closure = record {
-    in_range = All-push IsInRange facts fact closure.in_range range;
+    in_range = All-push (IsInRange (2 ^ 66)) facts fact closure.in_range range;
     named = closure.named;
     exact = record {
       sound = λ x y k h. Shows-more (fact ∷ []) (closure.exact.sound x y k h);

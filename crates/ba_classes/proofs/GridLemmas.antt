@@ -1,5 +1,5 @@
 -- Rows that are widened, added and raised, one after another.
-use Rattle.std.proofs.Common.{◌≡◌, ◌≢◌, ℕ, ◌+◌, ◌<◌, ◌≤◌, List, [], ◌∷◌, ◌++◌, length, get_or, set, refl, sym, ap, ◌∙◌, subst, ⊎_elim, arith, nat_eq, false}
+use Rattle.std.proofs.Common.{◌≡◌, ◌≢◌, ℕ, zero, suc, take, ◌+◌, ◌<◌, ◌≤◌, List, [], ◌∷◌, ◌++◌, length, get_or, set, refl, sym, ap, ◌∙◌, subst, ⊎_elim, arith, nat_eq, false}
 use Rattle.std.proofs.lemmas.Bool.{cases_lt, cases_eq, ne_eqb}
 use Rattle.std.proofs.lemmas.List.{get_or-set_same, get_or-set_other, get_or_past, get_or_append_left, get_or_push, length-set, length_push}
 use Rattle.ba_classes.specs.Best.{better, joined, or_nothing}
@@ -87,6 +87,24 @@ module _ (start : List (List Best)) (low : ℕ) (by : Best) (onward : List Best)
       let absent : (rs : List (List Best)) → length rs ≤ i → (k : ℕ) → cell_at rs i k ≡ Absent = λ rs past k. ap (λ (r : List Best). get_or r k Absent) (get_or_past rs i [] past) in
       let apart : i ≡ low → ⊥ = λ e. absurd (omega (arith, e)) in
       absent rows (omega arith) j ∙ sym (raised_past i j within h (absent start h j) (absent start h low) (ne_eqb i low apart)))
+      (cases_lt i (length start))
+
+-- ---- rows that are cut, one after another
+
+take_none : {X : Type 0} (n : ℕ) → take {A = X} n [] ≡ []
+take_none zero = refl
+take_none (suc n) = refl
+
+module _ (start : List (List Best)) (side : ℕ) where
+  pub cut_more : (rows : List (List Best)) (p : ℕ) (row old : List Best) → p < length rows → ((i : ℕ) → i < p → get_or rows i [] ≡ take side (get_or start i [])) → old ≡ get_or start p [] → row ≡ take side old → (i : ℕ) → i < p + 1 → get_or (set rows p row) i [] ≡ take side (get_or start i [])
+  cut_more rows p row old within below old-is row-is i h =
+      at_written rows p row within (λ k r. k < p + 1 → r ≡ take side (get_or start k [])) (λ _. row-is ∙ ap (take side) old-is) (λ k apart m. below k (omega arith)) i h
+
+  pub cut_all : (rows : List (List Best)) (p : ℕ) → length rows ≡ length start → length start ≤ p → ((i : ℕ) → i < p → get_or rows i [] ≡ take side (get_or start i [])) → (i : ℕ) → get_or rows i [] ≡ take side (get_or start i [])
+  cut_all rows p same done below i =
+      ⊎_elim
+      (λ (h : i < length start). below i (omega arith))
+      (λ (h : length start ≤ i). get_or_past rows i [] (omega arith) ∙ sym (ap (take side) (get_or_past start i [] h) ∙ take_none side))
       (cases_lt i (length start))
 
 -- ---- where there are no rows

@@ -8,3 +8,5 @@ pub mod GridLemmas
 pub mod ClosureLemmas
 pub mod UnusedLemmas
 pub mod ImageLemmas
+pub mod TiedLemmas
+pub mod OrderLemmas

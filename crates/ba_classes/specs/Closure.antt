@@ -17,12 +17,12 @@ pub record IsExact (facts : List Difference) (cell : ℕ → ℕ → Best) : Typ
   pub sound : (x y : ℕ) (k : ℤ) → Reaches (reach cell x y) k → Shows facts x k y
   pub complete : (x y : ℕ) (k : ℤ) → Shows facts x k y → Reaches (reach cell x y) k
 
--- a fact's nodes are numbers of 32 bits, and its gap is at most 2 ^ 65 away from 0
-pub record IsInRange (f : Difference) : Type 0 where
+-- a fact's nodes are numbers of 32 bits, and its gap is at most n away from 0
+pub record IsInRange (n : ℕ) (f : Difference) : Type 0 where
   pub low : f.low < 2 ^ 32
   pub high : f.high < 2 ^ 32
-  pub above : neg_ℤ (pos (2 ^ 65)) ≤ℤ f.gap
-  pub below : f.gap ≤ℤ pos (2 ^ 65)
+  pub above : neg_ℤ (pos n) ≤ℤ f.gap
+  pub below : f.gap ≤ℤ pos n
 
 -- the best of the chains that begin and end with a fact of this gap: there are ones of any sum where it gains with a way back
 abbrev pub through : Bool → ℤ → Best
@@ -36,7 +36,7 @@ pub record HasPlace (places : Places) (p : ℕ) : Type 0 where
 
 -- the cells and the flag say what follows from the facts, which are in range, and each place is a node's
 pub record IsClosure (facts : List Difference) (places : Places) (rows : List (List Best)) (is_absurd : Bool) : Type 0 where
-  pub in_range : All IsInRange facts
+  pub in_range : All (IsInRange (2 ^ 66)) facts
   pub named : (p : ℕ) → p < hash_map_len places → HasPlace places p
   pub exact : IsExact facts (between places rows)
   pub flag : IsTrue is_absurd ↔ IsAbsurd facts

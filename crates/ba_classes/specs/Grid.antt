@@ -1,5 +1,5 @@
 -- A square of cells whose rows and columns are places, and the places of the nodes that were named.
-use Rattle.std.specs.Prelude.{◌≡◌, ℕ, ◌<◌, ◌≤◌, List, [], length, slice_index_or, nat_eq, Option, Some, None}
+use Rattle.std.specs.Prelude.{◌≡◌, ℕ, ◌+◌, ◌<◌, ◌≤◌, List, [], length, slice_index_or, nat_eq, Option, Some, None}
 use Rattle.std.specs.HashMap.{HashMap, get, hash_map_len}
 use Rattle.std.specs.declared.hash.FoldHasher.{FoldHasher}
 use Rattle.std.specs.declared.hash.BuildHasherDefault.{BuildHasherDefault}
@@ -25,6 +25,12 @@ cell_between rows None place = Absent
 
 abbrev pub between : Places → List (List Best) → ℕ → ℕ → Best
 between places rows x y = cell_between rows (place_of places x) (place_of places y)
+
+-- the node has the last place
+pub record IsLast (places : Places) (node : ℕ) : Type 0 where
+  pub place : ℕ
+  pub placed : place_of places node ≡ Some place
+  pub last : place + 1 ≡ hash_map_len places
 
 -- each row has w cells or more
 abbrev pub IsWide : ℕ → List (List Best) → Type 0

@@ -4,3 +4,4 @@ pub mod Closure
 pub mod Grid
 pub mod Image
 pub mod Merged
+pub mod Tied

@@ -1,4 +1,4 @@
-ghost use Rattle.std.specs.Prelude.{◌≡◌, ℕ, ◌^◌, ◌↔◌, IsTrue, if◌then◌else◌};
+ghost use Rattle.std.specs.Prelude.{◌≡◌, ℕ, ℤ, pos, neg_ℤ, ◌+ℤ◌, ◌≤ℤ◌, ◌^◌, ◌↔◌, IsTrue, if◌then◌else◌};
 ghost use Rattle.ba_classes.specs.Best.{Reaches, IsWithin, better, joined, or_nothing};
 
 /// The greatest sum of the chains from one node to another.
@@ -37,8 +37,8 @@ impl Best {
 
     /// The best of the chains that go on by one of `other`.
     pub fn joined(self, other: Best) -> Best
-        requires left { IsWithin (2 ^ 98) self }
-        requires right { IsWithin (2 ^ 98) other }
+        requires left { IsWithin (2 ^ 99) self }
+        requires right { IsWithin (2 ^ 99) other }
         ensures { result ≡ joined self other }
     {
         match (self, other) {
@@ -56,6 +56,19 @@ impl Best {
             self.better(Best::Sum(0))
         } else {
             self
+        }
+    }
+
+    /// The same chains, whose sums are so much less.
+    pub fn less(self, by: i128) -> Best
+        requires within { IsWithin (2 ^ 98) self }
+        requires above { neg_ℤ (pos (2 ^ 66)) ≤ℤ by }
+        requires below { by ≤ℤ pos (2 ^ 66) }
+        ensures { (k : ℤ) → Reaches result k ↔ Reaches self (by +ℤ k) }
+    {
+        match self {
+            Best::Sum(sum) => Best::Sum(sum - by),
+            _ => self,
         }
     }
 }

@@ -1,7 +1,7 @@
-ghost use Rattle.std.specs.Prelude.{◌≡◌, ℕ, ◌+◌, ◌^◌, ◌<◌, ◌≤◌, [], length, slice_index_or, slice_set, pos, IfOk, OnOk, Some, nat_eq, ◌⊎◌};
+ghost use Rattle.std.specs.Prelude.{◌≡◌, ◌≢◌, ℕ, ◌+◌, ◌^◌, ◌<◌, ◌≤◌, [], length, slice_index_or, slice_set, ℤ, pos, neg_ℤ, ◌≤ℤ◌, take, IsTrue, IfOk, IfSome, OnOk, Some, None, nat_eq, ◌⊎◌};
 ghost use Rattle.std.specs.HashMap.{hash_map_len};
-ghost use Rattle.ba_classes.specs.Best.{IsWithin, better, joined, or_nothing};
-ghost use Rattle.ba_classes.specs.Grid.{IsGrid, IsWide, SameCells, between, cell_at, place_of};
+ghost use Rattle.ba_classes.specs.Best.{IsWithin, Reaches, better, joined, or_nothing};
+ghost use Rattle.ba_classes.specs.Grid.{IsGrid, IsLast, IsWide, SameCells, between, cell_at, place_of};
 
 use super::best::Best;
 use super::row::Row;
@@ -13,6 +13,8 @@ use std::collections::HashMap;
 #[derive(Drop)]
 pub struct Grid {
     places: HashMap<u32, usize>,
+    /// The nodes by their places. It is tested where it is read.
+    names: Vec<u32>,
     rows: Vec<Row>,
     ghost in_order: { IsGrid places rows.items },
 }
@@ -24,6 +26,7 @@ impl Grid {
     {
         Grid {
             places: HashMap::new(alloc),
+            names: Vec::new(alloc),
             rows: Vec::new(alloc),
         }
     }
@@ -45,6 +48,8 @@ impl Grid {
         let place = self.places.len();
         widen(&mut self.rows, place + 1)?;
         heighten(&mut self.rows, place + 1)?;
+        self.names.truncate(place);
+        self.names.push(node)?;
         self.places.insert(node, place)?;
         Ok(place)
     }
@@ -79,9 +84,9 @@ impl Grid {
     pub fn raise(&mut self, low: usize, by: Best, onward: &Row)
         requires low { low < hash_map_len self.old.places }
         requires comes { (i : ℕ) →
-            IsWithin (2 ^ 97) (or_nothing (nat_eq i low) (cell_at self.old.rows.items i low)) }
-        requires by { IsWithin (2 ^ 65) by }
-        requires goes { (j : ℕ) → IsWithin (2 ^ 97) (slice_index_or onward.now j Best.Absent) }
+            IsWithin (2 ^ 98) (or_nothing (nat_eq i low) (cell_at self.old.rows.items i low)) }
+        requires by { IsWithin (2 ^ 66) by }
+        requires goes { (j : ℕ) → IsWithin (2 ^ 98) (slice_index_or onward.now j Best.Absent) }
         requires room { (j : ℕ) → hash_map_len self.old.places ≤ j →
             slice_index_or onward.now j Best.Absent ≡ Best.Absent }
         ensures len { hash_map_len self.new.places ≡ hash_map_len self.old.places }
@@ -95,6 +100,65 @@ impl Grid {
         raise(&mut self.rows, low, by, onward);
     }
 
+    /// How many nodes have places.
+    pub fn side(&self) -> usize {
+        self.places.len()
+    }
+
+    /// The node that has the last place.
+    pub fn last(&self) -> Option<u32>
+        ensures { IfSome result (IsLast self.now.places) }
+    {
+        match self.names.last() {
+            Some(node) if self.is_last(*node) => Some(*node),
+            _ => None,
+        }
+    }
+
+    fn is_last(&self, node: u32) -> bool
+        ensures { IsTrue result → IsLast self.now.places node }
+    {
+        match self.places.get(&node) {
+            Some(place) => *place + 1 == self.places.len(),
+            None => false,
+        }
+    }
+
+    /// The value of a node over node 0, where the chains show one that is at most 2^64 away from 0.
+    pub fn known(&self, node: u32) -> Option<i128>
+        ensures above { IfSome result (λ v. neg_ℤ (pos (2 ^ 64)) ≤ℤ v) }
+        ensures below { IfSome result (λ v. v ≤ℤ pos (2 ^ 64)) }
+        ensures at_least { IfSome result (λ v.
+            between self.now.places self.now.rows.items 0 node ≡ Best.Sum v) }
+        ensures at_most { IfSome result (λ v.
+            Reaches (between self.now.places self.now.rows.items node 0) (neg_ℤ v)) }
+    {
+        match self.between(0, node) {
+            Best::Sum(value)
+                if value.unsigned_abs() <= 1 << 64 && self.between(node, 0).reaches(-value) => {
+                Some(value)
+            }
+            _ => None,
+        }
+    }
+
+    /// Takes the last place from the node that has it.
+    pub fn give_back(&mut self, node: u32)
+        requires { IsLast self.old.places node }
+        ensures len { hash_map_len self.new.places + 1 ≡ hash_map_len self.old.places }
+        ensures gone { place_of self.new.places node ≡ None }
+        ensures kept { (x : ℕ) → x ≢ node → place_of self.new.places x ≡ place_of self.old.places x }
+        ensures same { (x y : ℕ) → x ≢ node → y ≢ node →
+            between self.new.places self.new.rows.items x y
+            ≡ between self.old.places self.old.rows.items x y }
+    {
+        self.places.remove(&node);
+        let side = self.places.len();
+        self.names.truncate(side);
+        self.rows.truncate(side);
+        cut(&mut self.rows, side);
+    }
+
     /// The same nodes with the same places and chains.
     pub fn copy(&self, alloc: Global) -> Result<Grid, AllocError>
         ensures places { IfOk result (λ other. other.places.entries ≡ self.now.places.entries) }
@@ -102,6 +166,7 @@ impl Grid {
     {
         Ok(Grid {
             places: copy_places(&self.places)?,
+            names: Vec::from_slice(alloc, &self.names)?,
             rows: copy_rows(alloc, &self.rows)?,
         })
     }
@@ -159,14 +224,24 @@ fn heighten(rows: &mut Vec<Row>, side: usize) -> Result<(), AllocError>
     Ok(())
 }
 
+// Cuts each row to `side` cells.
+fn cut(rows: &mut [Row], side: usize)
+    ensures { (i : ℕ) →
+        slice_index_or rows.new i [] ≡ take side (slice_index_or rows.old i []) }
+{
+    for row in rows.iter_mut() {
+        row.cut(side);
+    }
+}
+
 // Each row with the chains that come to the place `low`, go on by `by`, and go on from there by
 // `onward`.
 fn raise(rows: &mut [Row], low: usize, by: Best, onward: &Row)
     requires low { low < length rows.old }
     requires comes { (i : ℕ) →
-        IsWithin (2 ^ 97) (or_nothing (nat_eq i low) (cell_at rows.old i low)) }
-    requires by { IsWithin (2 ^ 65) by }
-    requires goes { (j : ℕ) → IsWithin (2 ^ 97) (slice_index_or onward.now j Best.Absent) }
+        IsWithin (2 ^ 98) (or_nothing (nat_eq i low) (cell_at rows.old i low)) }
+    requires by { IsWithin (2 ^ 66) by }
+    requires goes { (j : ℕ) → IsWithin (2 ^ 98) (slice_index_or onward.now j Best.Absent) }
     requires room { (i j : ℕ) → i < length rows.old → length (slice_index_or rows.old i []) ≤ j →
         slice_index_or onward.now j Best.Absent ≡ Best.Absent }
     ensures lengths { (i : ℕ) →

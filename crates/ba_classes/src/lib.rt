@@ -13,6 +13,7 @@ pub mod image;
 pub mod laws;
 mod order;
 mod row;
+mod tied;
 
 pub use classes::Classes;
 pub use order::{Difference, Order};

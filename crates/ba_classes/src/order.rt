@@ -7,6 +7,7 @@ ghost use Rattle.ba_classes.specs.Image.{IsAtLeast, IsAtMost, IsGreatest, IsLeas
 use super::best::Best;
 use super::grid::Grid;
 use super::image::{difference, greater, lesser, sum, value_between};
+use super::tied::Tied;
 use std::alloc::{AllocError, Global};
 use std::marker::Model;
 
@@ -23,17 +24,19 @@ pub struct Difference {
 /// A node is named by its number and needs no making; node 0 stands for the number 0. A contract
 /// sees the list of the facts, the oldest first. Beside it the best sum of the chains between any
 /// two named nodes is kept, so that a question is a look-up; a fact that is added extends them in
-/// the square of the number of nodes.
+/// the square of the number of nodes. A node whose value the facts show leaves them as soon as those
+/// named after it have: what is asked or said of it then is asked or said of node 0.
 #[derive(Drop)]
 pub struct Order {
     facts: Vec<Difference>,
+    tied: Tied,
     grid: Grid,
     is_absurd: bool,
 }
 
 impl Model for Order {
     ghost use Rattle.std.specs.Prelude.{List};
-    ghost use Rattle.ba_classes.specs.Closure.{IsClosure};
+    ghost use Rattle.ba_classes.specs.Tied.{IsOrder, value_of};
     ghost use Rattle.ba_classes.specs.declared.order.Difference.{Difference};
 
     ghost Value = { List Difference };
@@ -41,7 +44,7 @@ impl Model for Order {
     ghost view = { λ o. o.facts.items };
 
     ghost invariant = { λ o.
-        IsClosure o.facts.items o.grid.places o.grid.rows.items o.is_absurd };
+        IsOrder o.facts.items (value_of o.tied.values) o.grid.places o.grid.rows.items o.is_absurd };
 }
 
 impl Order {
@@ -51,6 +54,7 @@ impl Order {
     {
         Order {
             facts: Vec::new(alloc),
+            tied: Tied::new(alloc),
             grid: Grid::new(alloc),
             is_absurd: false,
         }
@@ -65,7 +69,9 @@ impl Order {
         ensures err { OnErr result (self.new ≡ self.old) }
     {
         if !self.shows(low, gap, high) {
-            return self.extend(low, gap, high);
+            self.extend(low, gap, high)?;
+            self.settle();
+            return Ok(());
         }
         self.facts.push(Difference { low, gap, high })?;
         Ok(())
@@ -79,14 +85,43 @@ impl Order {
             (self.new ≡ self.old ++ record { low = low; gap = gap; high = high } ∷ []) }
         ensures err { OnErr result (self.new ≡ self.old) }
     {
-        let from = self.grid.place(low)?;
-        let to = self.grid.place(high)?;
+        let based = self.tied.based(low, gap, high);
+        let from = self.grid.place(based.low)?;
+        let to = self.grid.place(based.high)?;
         let onward = self.grid.onward(to)?;
-        let gains = onward.at(from).reaches(1 - gap);
+        let gains = onward.at(from).reaches(1 - based.gap);
         self.facts.push(Difference { low, gap, high })?;
-        self.grid.raise(from, through(gains, gap), &onward);
+        self.grid.raise(from, through(gains, based.gap), &onward);
         self.is_absurd |= gains;
         Ok(())
+    }
+
+    // Ties the nodes with the last places whose values are known, and gives these places back.
+    fn settle(&mut self)
+        ensures { self.new ≡ self.old }
+    {
+        for _ in 0..self.grid.side() {
+            if !self.settle_last() {
+                return;
+            }
+        }
+    }
+
+    // The same for one place. Answers whether it was given back.
+    fn settle_last(&mut self) -> bool
+        ensures { self.new ≡ self.old }
+    {
+        let Some(node) = self.grid.last() else {
+            return false;
+        };
+        let Some(value) = self.grid.known(node) else {
+            return false;
+        };
+        if node == 0 || !self.tied.tie(node, value) {
+            return false;
+        }
+        self.grid.give_back(node);
+        true
     }
 
     /// Whether a chain of the facts from `low` to `high` sums to at least `gap`. The empty chain
@@ -151,6 +186,7 @@ impl Order {
     {
         Ok(Order {
             facts: Vec::from_slice(alloc, &self.facts)?,
+            tied: self.tied.copy()?,
             grid: self.grid.copy(alloc)?,
             is_absurd: self.is_absurd,
         })
@@ -213,7 +249,11 @@ impl Order {
         ensures unbounded { result ≡ Best.Unbounded → IsAbsurd self.now }
         ensures within { IsWithin (2 ^ 97) result }
     {
-        self.grid.between(low, high).or_nothing(low == high)
+        let based = self.tied.based(low, 0, high);
+        self.grid
+            .between(based.low, based.high)
+            .or_nothing(based.low == based.high)
+            .less(based.gap)
     }
 }
 

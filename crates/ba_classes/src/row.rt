@@ -1,4 +1,4 @@
-ghost use Rattle.std.specs.Prelude.{◌≡◌, ℕ, ◌+◌, ◌^◌, ◌<◌, ◌≤◌, [], length, slice_index_or, slice_set, pos, IfOk, OnOk};
+ghost use Rattle.std.specs.Prelude.{◌≡◌, ℕ, ◌+◌, ◌^◌, ◌<◌, ◌≤◌, [], length, slice_index_or, slice_set, take, pos, IfOk, OnOk};
 ghost use Rattle.ba_classes.specs.Best.{IsWithin, better, joined};
 
 use super::best::Best;
@@ -56,6 +56,13 @@ impl Row {
         })
     }
 
+    /// Takes away the chains to the places from `len` on.
+    pub fn cut(&mut self, len: usize)
+        ensures { self.new ≡ take len self.old }
+    {
+        self.cells.truncate(len);
+    }
+
     /// Makes the place have the empty chain too.
     pub fn add_nothing(&mut self, place: usize)
         requires { place < length self.old }
@@ -67,8 +74,8 @@ impl Row {
 
     /// Adds the chains that go on from `left` by the row `onward`.
     pub fn raise(&mut self, left: Best, onward: &Row)
-        requires left { IsWithin (2 ^ 98) left }
-        requires onward { (j : ℕ) → IsWithin (2 ^ 98) (slice_index_or onward.now j Best.Absent) }
+        requires left { IsWithin (2 ^ 99) left }
+        requires onward { (j : ℕ) → IsWithin (2 ^ 99) (slice_index_or onward.now j Best.Absent) }
         requires room { (j : ℕ) → length self.old ≤ j → slice_index_or onward.now j Best.Absent ≡ Best.Absent }
         ensures len { length self.new ≡ length self.old }
         ensures cells { (j : ℕ) →
@@ -84,8 +91,8 @@ impl Row {
 
 // Each cell with the chains that go on from `left` by the cell of `onward` at its place.
 fn raise(cells: &mut [Best], left: Best, onward: &[Best])
-    requires left { IsWithin (2 ^ 98) left }
-    requires onward { (j : ℕ) → IsWithin (2 ^ 98) (slice_index_or onward.now j Best.Absent) }
+    requires left { IsWithin (2 ^ 99) left }
+    requires onward { (j : ℕ) → IsWithin (2 ^ 99) (slice_index_or onward.now j Best.Absent) }
     requires room { (j : ℕ) → length cells.old ≤ j → slice_index_or onward.now j Best.Absent ≡ Best.Absent }
     ensures { (j : ℕ) →
         slice_index_or cells.new j Best.Absent
