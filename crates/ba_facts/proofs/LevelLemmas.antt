@@ -1,5 +1,5 @@
 -- Two terms are the same where they are of one class, or their places are shown to be one.
-use Rattle.std.proofs.Common.{◌≡◌, ◌∙◌, ℕ, List, Bool, IsTrue, false, pos, inl, inr, refl, sym, subst, ◌↔◌}
+use Rattle.std.proofs.Common.{◌≡◌, ◌∙◌, List, Bool, IsTrue, false, pos, inl, inr, sym, subst, ◌↔◌}
 use Rattle.std.proofs.lemmas.Bool.{false≢true}
 use Rattle.ba_classes.specs.Merged.{Merged}
 use Rattle.ba_classes.specs.declared.order.Difference.{Difference}

@@ -14,6 +14,9 @@ pub mod Elements
 pub mod NameLemmas
 pub mod ClassLemmas
 pub mod ChainLemmas
+pub mod ClassMoves
+pub mod AlikeLemmas
+pub mod RepeatLemmas
 pub mod MarkLemmas
 pub mod OrderLemmas
 pub mod AgreeLemmas

@@ -4,6 +4,7 @@ pub mod Shown
 pub mod Fits
 pub mod Laws
 pub mod Matches
+pub mod Alike
 pub mod Searching
 pub mod Naming
 pub mod Grouping

@@ -1,5 +1,6 @@
 -- What a search through the tables of a part finds, from the facts that it has chosen so far.
-use Rattle.std.specs.Prelude.{◌≡◌, ◌≢◌, ◌⊎◌, ℕ, ◌+◌, ◌<◌, List, [], ◌∷◌, ◌++◌, All, Any, Contains, Option, Some, None, length, map, max, min}
+use Rattle.std.specs.Prelude.{◌≡◌, ◌≢◌, ◌⊎◌, ℕ, ◌+◌, ◌<◌, ◌≤◌, List, [], ◌∷◌, ◌++◌, All, Any, Contains, Option, Some, None, length, map, max, min}
+use Rattle.std.specs.Prelude.{option_map, slice_get, unwrap_or}
 use Rattle.std.specs.List.{AllZip}
 use Rattle.std.specs.List.Sorted.{IsStrictlySortedBy}
 use Rattle.std.specs.Ordering.{nat_cmp}
@@ -9,6 +10,7 @@ use Rattle.ba_model.specs.declared.query.Op.{Op}
 use Rattle.ba_model.specs.declared.query.Operand.{Operand}
 use Rattle.ba_model.specs.declared.query.Operand.TheVariants.{Col, Val, Param, Var}
 use Rattle.ba_model.specs.declared.query.Part.{Part}
+use Rattle.ba_facts.specs.Alike.{AreAlike}
 use Rattle.ba_facts.specs.Known.{Known}
 use Rattle.ba_facts.specs.Matches.{AreTheSame, GivesAtom, HeadIs, IsFactOf, IsLiveOf, IsMapping, IsUndecided, Under, row_of, term_of, terms_at}
 use Rattle.ba_facts.specs.Shown.{ShowsOf}
@@ -132,3 +134,29 @@ abbrev pub lesser : Option ℕ → Option ℕ → Option ℕ
 lesser None m = m
 lesser (Some n) None = Some n
 lesser (Some n) (Some m) = Some (min n m)
+
+-- ---- facts that needn't be tried
+
+-- the round of the fact of this number, or 0
+abbrev pub round_at : Branch → ℕ → ℕ
+round_at b n = unwrap_or (option_map (λ fact. fact.round) (slice_get b.facts n)) 0
+
+-- the other fact does as well as that of the number: it is alike to it, and of no later a round
+pub record DoesAsWell (b : Branch) (number other : ℕ) : Type 0 where
+  pub no_later : round_at b other ≤ round_at b number
+  pub alike : AreAlike b number other
+
+-- an earlier one does
+pub record HasEarlier (b : Branch) (number : ℕ) : Type 0 where
+  pub other : ℕ
+  pub below : other < number
+  pub as_well : DoesAsWell b number other
+
+-- one of the fact's terms is the atom's left or right
+abbrev pub HasEither : Branch → TermAtom → ℕ → Type 0
+HasEither b atom n = Any (λ own. own ≡ atom.left) (terms_at b n) ⊎ Any (λ own. own ≡ atom.right) (terms_at b n)
+
+-- the fact is of no round before this one, where there is one
+abbrev pub IsLate : Branch → Option ℕ → ℕ → Type 0
+IsLate b None n = ⊥
+IsLate b (Some round) n = round ≤ round_at b n

@@ -6,6 +6,7 @@
 //! its facts are live (Blockaid, OSDI 2022, decides the same questions by an SMT solver).
 #![tactic(auto)]
 
+mod alike;
 mod branch;
 mod copies;
 mod found;
@@ -26,5 +27,6 @@ mod web;
 
 pub use branch::Branch;
 pub use knowledge::Knowledge;
+pub use matches::is_due;
 pub use number::{number_after, number_of};
 pub use term::{Fact, Lesson, Mapping, Side, Sort, Term, TermAtom, TermRef};

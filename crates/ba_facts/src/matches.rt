@@ -4,6 +4,7 @@ ghost use Rattle.ba_facts.specs.Known.{seen};
 ghost use Rattle.ba_facts.specs.Matches.{AreMatches, IsAnswered, IsLiveAtom, IsLiveOf, IsShown, IsUndecided, LeastRound, row_of, term_of, terms_at};
 
 mod atoms;
+mod repeats;
 mod rounds;
 mod search;
 
@@ -12,6 +13,7 @@ use crate::matches::rounds::GivenAtom;
 use crate::matches::search::{GivenRow, Search, Wanted};
 use crate::term::{Mapping, Side, Term, TermAtom, TermRef};
 use arrayvec::ArrayVec;
+pub use atoms::is_due;
 use ba_model::{Atom, List, Op, Operand, Part};
 use std::alloc::{AllocError, Global};
 
@@ -101,8 +103,9 @@ impl Branch {
         }
     }
 
-    /// Whether an `=` is shown, or another comparison isn't refuted.
-    fn is_live(&self, op: Op, left: TermRef<'_>, right: TermRef<'_>) -> bool
+    /// Whether an `=` is shown of the two terms, or another comparison isn't refuted: the condition of
+    /// a live mapping for each atom.
+    pub fn is_live(&self, op: Op, left: TermRef<'_>, right: TermRef<'_>) -> bool
         ensures { IsTrue result ↔ IsLiveOf self.now.known op (seen left.entry) (seen right.entry) }
     {
         match op {

@@ -16,6 +16,7 @@ use Rattle.ba_model.specs.declared.query.Query.{Query}
 use Rattle.ba_model.specs.declared.schema.Kind.{Kind}
 use Rattle.ba_model.specs.declared.schema.Schema.{Schema}
 use Rattle.ba_model.specs.declared.value.Value.{Value}
+use Rattle.ba_facts.proofs.ClassMoves.{same_moves, shown_moves}
 use Rattle.ba_facts.proofs.NameLemmas.{value_cases}
 use Rattle.ba_facts.specs.Known.{OneClass}
 use Rattle.ba_facts.specs.Knowing.{sort_of}
@@ -41,7 +42,7 @@ use Rattle.ba_kernel.specs.declared.problem.Problem.{Problem}
 use Rattle.ba_kernel.specs.declared.problem.ProblemEntry.{ProblemEntry}
 use Rattle.ba_kernel.specs.declared.step.Step.{Step}
 use Rattle.ba_kernel.specs.declared.step.Step.TheVariants as steps
-use Rattle.ba_general.proofs.KnowledgeLemmas.{Follows, absurd_follows, equal_follows, neither_follows, same_follows, same_moves, shown_follows, shown_moves, shown_not_null_follows}
+use Rattle.ba_general.proofs.KnowledgeLemmas.{Follows, absurd_follows, equal_follows, neither_follows, same_follows, shown_follows, shown_not_null_follows}
 use Rattle.ba_general.proofs.ValuesLemmas.{AtomAt, Both, EachIs, EntryAt, Fixes, LessonAt, OperandAt, PartAt, QueryAt, TermAt}
 use Rattle.ba_general.proofs.ValuesLemmas.{atom_lesson, each_more, each_none, each_zip, fixes_behind, fixes_more, lesson_itself, lessons_follow, operand_term, pair_lesson, part_itself, term_class, term_itself}
 use Rattle.ba_general.proofs.ValuesLemmas.{zip_at, zip_both, zip_given, zip_itself}

@@ -4,6 +4,7 @@ use Rattle.std.specs.Prelude.{Some, slice_get}
 use Rattle.ba_model.specs.declared.query.Op.{Op}
 use Rattle.ba_model.specs.declared.query.Op.TheVariants as ops
 use Rattle.ba_facts.proofs.ChainLemmas.{from_class, one_rise, onward, then}
+use Rattle.ba_facts.proofs.ClassMoves.{equal_moves, not_null_moves, same_moves}
 use Rattle.ba_facts.specs.Known.{Chain, DifferentLiterals, Equated, Known, Learned, NotNullTerm, OneClass, Rise, ShownGap, ShownNotNull}
 use Rattle.ba_facts.specs.Shown.{Absurd, AreTheTwo, EitherNull, IsAtMost, IsEqual, IsLess, IsUnequal, NeitherNull, RecordedApart, RefutesOf, ShowsOf, TheSame}
 use Rattle.ba_facts.specs.declared.term.Lesson.TheVariants.{Same}
@@ -23,63 +24,6 @@ pub record Follows (k l : Known) : Type 0 where
   pub unknowns : l.unknowns ≡ k.unknowns
   pub same : (a b : Term) → Contains k.learned (Same a b) → OneClass l a b
   pub learned : (op : Op) (a b : Term) → Learned k op a b → LearnedOf l op a b
-
--- ---- other terms of the classes
-
-gap_moves : {k : Known} {a b x y : Term} (n : ℤ) → OneClass k a x → OneClass k b y → ShownGap k a n b → ShownGap k x n y
-gap_moves n at to h = record { sum = h.sum; enough = h.enough; chain = onward (from_class (OneClass.turned at) h.chain) to }
-
-pub same_moves : (k : Known) (a b x y : Term) → OneClass k a x → OneClass k b y → TheSame k a b → TheSame k x y
-same_moves k a b x y at to (inl h) = inl (OneClass.joined (OneClass.turned at) (OneClass.joined h to))
-same_moves k a b x y at to (inr h) = inr (gap_moves (pos 0) at to h.0, gap_moves (pos 0) to at h.1)
-
-not_null_moves : {k : Known} {a x : Term} → OneClass k a x → ShownNotNull k a → ShownNotNull k x
-not_null_moves at h = record { other = h.other; class = OneClass.joined (OneClass.turned at) h.class; not_null = h.not_null }
-
-neither_moves : {k : Known} {a b x y : Term} → OneClass k a x → OneClass k b y → NeitherNull k a b → NeitherNull k x y
-neither_moves at to h = record { left = not_null_moves at h.left; right = not_null_moves to h.right }
-
-equal_moves : {k : Known} {a b x y : Term} → OneClass k a x → OneClass k b y → IsEqual k a b → IsEqual k x y
-equal_moves {k} {a} {b} {x} {y} at to h = record { not_null = neither_moves at to h.not_null; same = same_moves k a b x y at to h.same }
-
-most_moves : {k : Known} {a b x y : Term} → OneClass k a x → OneClass k b y → IsAtMost k a b → IsAtMost k x y
-most_moves at to h = record { not_null = neither_moves at to h.not_null; gap = gap_moves (pos 0) at to h.gap }
-
-less_moves : {k : Known} {a b x y : Term} → OneClass k a x → OneClass k b y → IsLess k a b → IsLess k x y
-less_moves at to h = record { not_null = neither_moves at to h.not_null; gap = gap_moves (pos 1) at to h.gap }
-
-literals_move : {k : Known} {a b x y : Term} → OneClass k a x → OneClass k b y → DifferentLiterals k a b → DifferentLiterals k x y
-literals_move at to h = record {
-  left = h.left;
-  right = h.right;
-  left_in = OneClass.joined (OneClass.turned at) h.left_in;
-  right_in = OneClass.joined (OneClass.turned to) h.right_in;
-  differ = h.differ;
-}
-
-two_move : (k : Known) (a b x y u v : Term) → OneClass k a x → OneClass k b y → AreTheTwo k u v a b → AreTheTwo k u v x y
-two_move k a b x y u v at to (inl h) = inl (same_moves k a u x u at OneClass.itself h.0, same_moves k b v y v to OneClass.itself h.1)
-two_move k a b x y u v at to (inr h) = inr (same_moves k a v x v at OneClass.itself h.0, same_moves k b u y u to OneClass.itself h.1)
-
-either_moves : (k : Known) (a b x y : Term) → OneClass k a x → OneClass k b y → EitherNull k a b → EitherNull k x y
-either_moves k a b x y at to (inl h) = inl (OneClass.joined (OneClass.turned at) h)
-either_moves k a b x y at to (inr h) = inr (OneClass.joined (OneClass.turned to) h)
-
-unequal_moves : {k : Known} {a b x y : Term} → OneClass k a x → OneClass k b y → IsUnequal k a b → IsUnequal k x y
-unequal_moves at to (IsUnequal.literals h) = IsUnequal.literals (literals_move at to h)
-unequal_moves at to (IsUnequal.less h) = IsUnequal.less (less_moves at to h)
-unequal_moves at to (IsUnequal.greater h) = IsUnequal.greater (less_moves to at h)
-unequal_moves {k} {a} {b} {x} {y} at to (IsUnequal.apart h) =
-    IsUnequal.apart (record { x = h.x; y = h.y; learned = h.learned; sides = two_move k a b x y h.x h.y at to h.sides })
-unequal_moves {k} {a} {b} {x} {y} at to (IsUnequal.null h) = IsUnequal.null (either_moves k a b x y at to h)
-
-pub shown_moves : (k : Known) (op : Op) (a b x y : Term) → OneClass k a x → OneClass k b y → ShowsOf k op a b → ShowsOf k op x y
-shown_moves k ops.Eq a b x y at to h = equal_moves at to h
-shown_moves k ops.Ne a b x y at to h = (neither_moves at to h.0, unequal_moves at to h.1)
-shown_moves k ops.Lt a b x y at to h = less_moves at to h
-shown_moves k ops.Le a b x y at to h = most_moves at to h
-shown_moves k ops.IsNull a b x y at to h = OneClass.joined (OneClass.turned at) h
-shown_moves k ops.NotNull a b x y at to h = not_null_moves at h
 
 -- ---- what follows
 

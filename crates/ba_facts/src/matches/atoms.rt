@@ -104,8 +104,8 @@ fn places_of(operand: &Operand) -> usize
     }
 }
 
-/// Whether so many places have to be chosen until both sides have their terms.
-fn is_due(atom: &Atom, places: usize) -> bool
+/// Whether so many places of a part have to be chosen until both sides of the atom have their terms.
+pub fn is_due(atom: &Atom, places: usize) -> bool
     ensures { IsTrue result ↔ IsDue places atom.now }
 {
     places_of(&atom.left).max(places_of(&atom.right)) == places

@@ -1,11 +1,11 @@
 //! The least round of the facts of a part under which an atom is one of the part's.
-ghost use Rattle.std.specs.Prelude.{◌≡◌, ◌↔◌, ◌+◌, ◌≤◌, ◌++◌, ℕ, List, [], Any, IsTrue, Some, length, map, option_copied, option_map, slice_get, unwrap_or};
+ghost use Rattle.std.specs.Prelude.{◌≡◌, ◌↔◌, ◌+◌, ◌≤◌, ◌++◌, ℕ, List, [], Any, IsTrue, Some, length, map, option_copied};
 ghost use Rattle.std.specs.List.{AllZip};
 ghost use Rattle.ba_model.specs.declared.limits.TheConstants.{MAX_PART_TABLES};
 ghost use Rattle.arrayvec.specs.ArrayVec.{array_vec_len};
 ghost use Rattle.ba_facts.specs.Known.{seen};
 ghost use Rattle.ba_facts.specs.Matches.{AreTheSame, GivesAtom, HeadIs, LeastRound, round_of, row_of, term_of, terms_at};
-ghost use Rattle.ba_facts.specs.Searching.{HasAtom, HasAtomFrom, IsNoFront, IsOther, MayGive, MayStandFor, lesser};
+ghost use Rattle.ba_facts.specs.Searching.{HasAtom, HasAtomFrom, IsNoFront, IsOther, MayGive, MayStandFor, lesser, round_at};
 
 use crate::matches::search::Search;
 use crate::term::{Term, TermAtom, TermRef};
@@ -21,7 +21,8 @@ pub struct GivenAtom<'a> {
 
 impl<'a> Search<'a> {
     /// The least round of the chosen facts and one fact of each further table, of those that have
-    /// the row and the atom.
+    /// the row and the atom. Of facts that are alike the earliest is tried, and those that the atom
+    /// has a term of.
     pub fn least_from(
         &self,
         from: &[u32],
@@ -46,9 +47,11 @@ impl<'a> Search<'a> {
                 }
                 let mut least = None;
                 for number in 0..self.branch.facts.len() {
-                    if self.is_fact(*table, number) {
+                    if self.is_fact(*table, number) && !self.is_late(least, number) {
                         chosen.push(number);
-                        least = lesser(least, self.least_from(rest, chosen, given));
+                        if !self.is_needless_for(rest, chosen.as_slice(), number, given) {
+                            least = lesser(least, self.least_from(rest, chosen, given));
+                        }
                         chosen.pop();
                     }
                 }
@@ -82,8 +85,8 @@ impl<'a> Search<'a> {
     }
 
     /// The round of the fact of the number, or 0.
-    fn round_at(&self, number: usize) -> u32
-        ensures { result ≡ unwrap_or (option_map (λ fact. fact.round) (slice_get self.now.branch.now.facts number)) 0 }
+    pub fn round_at(&self, number: usize) -> u32
+        ensures { result ≡ round_at self.now.branch.now number }
     {
         match self.branch.facts.find(number) {
             Some(fact) => fact.round,
@@ -127,7 +130,7 @@ impl<'a> Search<'a> {
 
     /// Whether the head has a term already over the chosen facts that isn't the same as the row's, if
     /// one is given.
-    fn has_other(&self, chosen: &[usize], row: Option<&List<Term>>) -> bool
+    pub fn has_other(&self, chosen: &[usize], row: Option<&List<Term>>) -> bool
         ensures { IsTrue result → (rest : List ℕ) → HeadIs self.now.branch.now self.now.part.now (chosen.now ++ rest) (option_copied row.entry) → ⊥ }
     {
         match row {
@@ -184,7 +187,7 @@ impl<'a> Search<'a> {
     }
 
     /// Whether one of these gives the atom, or may with further facts.
-    fn may_give(&self, conds: &'a [Atom], chosen: &[usize], atom: &TermAtom) -> bool
+    pub fn may_give(&self, conds: &'a [Atom], chosen: &[usize], atom: &TermAtom) -> bool
         ensures { IsTrue result ↔ Any (MayGive (map (terms_at self.now.branch.now) chosen.now) atom.now) conds.now }
     {
         conds
@@ -222,7 +225,7 @@ impl<'a> Search<'a> {
 }
 
 /// Whether the two are one term.
-fn is_term(own: TermRef<'_>, term: &Term) -> bool
+pub fn is_term(own: TermRef<'_>, term: &Term) -> bool
     ensures { IsTrue result ↔ (seen own.entry ≡ term.now) }
 {
     match (own, term) {

@@ -67,7 +67,7 @@ impl<'a> Search<'a> {
     }
 
     /// Whether the chosen facts and one fact of each further table give a head that is the same as
-    /// the row.
+    /// the row. Of facts that are alike the earliest is tried.
     pub fn finds(
         &self,
         from: &[u32],
@@ -90,7 +90,8 @@ impl<'a> Search<'a> {
                 for number in 0..self.branch.facts.len() {
                     if self.is_fact(*table, number) {
                         chosen.push(number);
-                        let found = self.finds(rest, chosen, row);
+                        let found = !self.is_needless(rest, chosen.as_slice(), number, row)
+                            && self.finds(rest, chosen, row);
                         chosen.pop();
                         if found {
                             return true;
@@ -164,7 +165,7 @@ impl<'a> Search<'a> {
     }
 
     /// Whether the head has a term already over the chosen facts that isn't the same as the row's.
-    fn gives_other(&self, head: &'a [Operand], chosen: &[usize], row: &GivenRow<'_>) -> bool
+    pub fn gives_other(&self, head: &'a [Operand], chosen: &[usize], row: &GivenRow<'_>) -> bool
         ensures { IsTrue result → IsNoFront self.now.branch.now head.now (row_of self.now.branch.now row.now.facts.now row.now.operands.now) chosen.now }
     {
         for i in 0..head.len().min(row.operands.len()) {

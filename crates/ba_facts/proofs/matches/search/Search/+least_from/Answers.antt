@@ -1,10 +1,11 @@
 use Rattle.std.proofs.Common.{◌≡◌, arith, length}
 use Rattle.std.proofs.lemmas.Grind.{common_steps}
 use Rattle.ba_facts.proofs.FrontLemmas.{atom_lost, row_lost}
+use Rattle.ba_facts.proofs.RepeatLemmas.{least_late, least_needless}
 use Rattle.ba_facts.proofs.RoundLemmas.{least_all, least_more, least_skipped, least_start}
 use Rattle.ba_facts.proofs.SearchingLemmas.{one_chosen, pruned}
 use Rattle.ba_facts.proofs.matches.search.Search.+least_from.Goals as goal
-use Rattle.ba_facts.proofs.matches.search.Search.+least_from.Goals.{then-is_fact, else-is_fact}
+use Rattle.ba_facts.proofs.matches.search.Search.+least_from.Goals.{then-is_fact+then-not-is_late, else-is_fact, then-not-is_needless_for, else-not-is_needless_for, else-is_fact-via-then-is_fact+else-not-is_late, else-is_fact-via-else-is_fact}
 
 pub returns-then-is_hopeless-clause-least : goal.returns-then-is_hopeless-clause-least
 returns-then-is_hopeless-clause-least t c =
@@ -27,18 +28,35 @@ loop-number-init t c = record { chosen = grind (arith, common_steps); least = le
 pub loop-number-preserved : goal.loop-number-preserved
 loop-number-preserved t c =
     elim c.if-is_fact.branch [
-      | then-is_fact w ↦ record {
-        chosen = grind (arith, common_steps);
-        least = least_more _ _ _ _ _ _ _ _ _ c.loop-number.number _ c.loop-number.least w.least_from.result _
-            (cc) (c.is_fact.ensures.0 w.if-is_fact.true)
-            (one_chosen _ _ _ _ w.push.ensures.items c.loop-number.invariant.chosen) c.loop-number.invariant.least
-            w.least_from.ensures.least;
-      }
-      | else-is_fact w ↦ record {
-        chosen = grind (arith, common_steps);
-        least = least_skipped _ _ _ _ _ _ _ _ _ c.loop-number.number c.loop-number.least _ (cc)
-            (λ h. let t = c.is_fact.ensures.1 h in cc) c.loop-number.invariant.least;
-      }
+      | then-is_fact+then-not-is_late w ↦
+          let deeper = one_chosen _ _ _ _ w.push.ensures.items c.loop-number.invariant.chosen in
+          elim w.if-not-is_needless_for.branch [
+            | then-not-is_needless_for v ↦ record {
+              chosen = grind (arith, common_steps);
+              least = least_more _ _ _ _ _ _ _ _ _ c.loop-number.number _ c.loop-number.least v.least_from.result _
+                  (cc) (c.is_fact.ensures.0 w.if-is_fact.true) deeper c.loop-number.invariant.least v.least_from.ensures.least;
+            }
+            | else-not-is_needless_for v ↦ record {
+              chosen = grind (arith, common_steps);
+              least = least_needless _ _ _ _ _ _ _ c.loop-number.number _ _ _ c.loop-number.least _ (cc) deeper
+                  (let needless = w.is_needless_for.ensures (let no = v.if-not-is_needless_for.false in cc) in
+                  rw w.as_slice-then-not-is_late.ensures.value at needless)
+                  c.loop-number.invariant.least;
+            }
+          ]
+      | else-is_fact w ↦
+          elim w.else-is_fact.branch [
+            | else-is_fact-via-then-is_fact+else-not-is_late v ↦ record {
+              chosen = grind (arith, common_steps);
+              least = least_late _ _ _ _ _ _ _ c.loop-number.number _ _ c.loop-number.least _ (cc)
+                  (v.is_late.ensures.0 (let no = v.if-not-is_late.false in cc)) c.loop-number.invariant.least;
+            }
+            | else-is_fact-via-else-is_fact v ↦ record {
+              chosen = grind (arith, common_steps);
+              least = least_skipped _ _ _ _ _ _ _ _ _ c.loop-number.number c.loop-number.least _ (cc)
+                  (λ h. let t = c.is_fact.ensures.1 h in cc) c.loop-number.invariant.least;
+            }
+          ]
     ]
 
 pub returns-after-loop-number-clause-least : goal.returns-after-loop-number-clause-least
