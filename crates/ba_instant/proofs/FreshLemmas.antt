@@ -1,5 +1,5 @@
 -- What is known after a quiet step by a key was known of the terms that stand for theirs.
-use Rattle.std.proofs.Common.{◌≡◌, ℕ, ◌+◌, List, [], ◌∷◌, ◌++◌, Bool, true, false, Contains, inl, inr, nat_eq, eqb-true, if◌then◌else◌, map, ap, refl, sym, subst}
+use Rattle.std.proofs.Common.{◌≡◌, ℕ, List, [], ◌∷◌, ◌++◌, Bool, true, false, Contains, inl, inr, nat_eq, eqb-true, if◌then◌else◌, map, ap, refl, sym, subst}
 use Rattle.std.proofs.lemmas.List.Elements.{All-contains, All-cons, All-head, All-nil, All-tail, Contains-append_cases}
 use Rattle.std.specs.List.{All, zip}
 use Rattle.std.specs.Prelude.{Some, None, slice_get}
@@ -17,7 +17,7 @@ use Rattle.ba_instant.proofs.CarryLemmas.{Carries}
 use Rattle.ba_instant.proofs.GrowthLemmas.{atom_told, shown_itself}
 use Rattle.ba_instant.specs.QuietKeys.{AreOne, IsFilledBy, IsFilledIf, IsUnmoved, LessonStays, moved, or_itself, stand_in}
 use Rattle.ba_instant.specs.Windows.{IsToldBy, IsToldOf}
-use Rattle.ba_instant.specs.declared.fresh.Move.{Move}
+use Rattle.ba_instant.specs.declared.moves.Move.{Move}
 
 -- ---- unknowns that aren't moved stand for themselves
 

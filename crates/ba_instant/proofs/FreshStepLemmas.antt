@@ -1,23 +1,19 @@
 -- After a quiet step by a key no step is new that wasn't before, and each has the round that it had.
-use Rattle.std.proofs.Common.{◌≡◌, ◌∙◌, ℕ, zero, suc, ◌+◌, List, [], ◌∷◌, ◌++◌, Contains, inl, inr, map, ap, refl, sym, subst, arith}
-use Rattle.std.proofs.lemmas.List.{append-nil}
-use Rattle.std.proofs.lemmas.List.Elements.{All-cons, All-contains, All-head, All-nil, All-tail, All-weaker}
+use Rattle.std.proofs.Common.{◌≡◌, ◌∙◌, ℕ, ◌+◌, List, [], ◌∷◌, ◌++◌, Contains, inl, inr, map, ap, sym, subst, arith}
+use Rattle.std.proofs.lemmas.List.Elements.{All-cons, All-contains, All-head, All-nil, All-tail}
 use Rattle.std.proofs.lemmas.Option.{same_Some}
-use Rattle.std.specs.List.{All, AllZip, Any, zip}
-use Rattle.std.specs.Prelude.{Option, Some, None, option_and_then, slice_get}
-use Rattle.ba_model.specs.declared.query.Atom.{Atom}
+use Rattle.std.specs.List.{All, AllZip, Any}
+use Rattle.std.specs.Prelude.{Option, Some, None, slice_get}
 use Rattle.ba_model.specs.declared.query.Op.{Op}
 use Rattle.ba_model.specs.declared.query.Op.TheVariants.{Eq, Ne, Lt, Le, IsNull, NotNull}
 use Rattle.ba_model.specs.declared.query.Operand.{Operand}
-use Rattle.ba_model.specs.declared.query.Operand.TheVariants as operands
 use Rattle.ba_model.specs.declared.query.Part.{Part}
 use Rattle.ba_model.specs.declared.schema.Link.{Link}
 use Rattle.ba_model.specs.declared.schema.Rule.{Rule}
 use Rattle.ba_model.specs.declared.schema.Schema.{Schema}
 use Rattle.ba_model.specs.declared.schema.Table.{Table}
 use Rattle.ba_facts.specs.Known.{Known}
-use Rattle.ba_facts.specs.Laws.{kind_of_term}
-use Rattle.ba_facts.specs.Matches.{AreTheSame, GivesAtom, IsAnswered, IsFactOf, IsLive, IsLiveAtom, IsMapping, IsShown, round_of, row_of, term_of, terms_at}
+use Rattle.ba_facts.specs.Matches.{AreTheSame, GivesAtom, HeadIs, IsFactOf, IsLive, IsLiveAtom, IsMapping, IsShown, term_of, terms_at}
 use Rattle.ba_facts.specs.Shown.{TheSame}
 use Rattle.ba_facts.specs.declared.branch.Branch.{Branch}
 use Rattle.ba_facts.specs.declared.term.Fact.{Fact}
@@ -25,72 +21,26 @@ use Rattle.ba_facts.specs.declared.term.Lesson.{Lesson}
 use Rattle.ba_facts.specs.declared.term.Side.{Side}
 use Rattle.ba_facts.specs.declared.term.Side.TheVariants.{One, Two}
 use Rattle.ba_facts.specs.declared.term.Term.{Term}
-use Rattle.ba_facts.specs.declared.term.Term.TheVariants.{Unknown, Val, Param, Var}
 use Rattle.ba_facts.specs.declared.term.TermAtom.{TermAtom}
-use Rattle.ba_kernel.proofs.StepFits.{All-at}
+use Rattle.ba_kernel.proofs.StepFits.{All-at, Contains-at}
 use Rattle.ba_kernel.specs.Effects.{AreEqualAt, IsKeyOf, IsLinkOf, IsNotNullAt, MayBeSplit, SplitFits, with_lessons}
-use Rattle.ba_kernel.specs.News.{AreEqualIn, EntryIsMet, IsCandidate, IsNewOn, IsOfNewKind, IsRound, IsSplitRound, KeyIsMet, LinkIsMet, SplitTells, ViewIsMet, of_view, of_goal, of_rule}
-use Rattle.ba_kernel.specs.Tests.{FactsPass, KeyPasses, LinkPasses, ViewPasses}
+use Rattle.ba_kernel.specs.News.{IsCandidate, IsNewOn, IsOfNewKind, IsRound, IsSplitRound, SplitTells, of_view, of_goal, of_rule}
+use Rattle.ba_kernel.specs.Tests.{FactsPass, KeyPasses, LinkPasses, RulePasses, ViewPasses}
 use Rattle.ba_kernel.specs.declared.problem.Problem.{Problem}
 use Rattle.ba_kernel.specs.declared.step.Step.{Step}
 use Rattle.ba_kernel.specs.declared.step.Step.TheVariants as steps
-use Rattle.ba_instant.proofs.CarryLemmas.{Carries, equal, refutes, shows, the_same}
+use Rattle.ba_instant.proofs.AskedLemmas.{Equates, columns_same, live_equates, none_asked, reads_unmoved, shown_equates}
+use Rattle.ba_instant.proofs.CarryLemmas.{Carries, refutes, shows, the_same}
 use Rattle.ba_instant.proofs.FreshLemmas.{carries_back, unmoved_stays}
-use Rattle.ba_instant.proofs.GrowthLemmas.{carries_on}
-use Rattle.ba_instant.proofs.OldMappingLemmas.{any_weaker}
-use Rattle.ba_instant.proofs.OldTermLemmas.{live_before, live_still, neither_back, not_null_back, shown_before, shown_still, shows_back}
+use Rattle.ba_instant.proofs.LessonLemmas.{carries_further, entry_met, key_met, link_met, mapping_back, mapping_on, row_on, rule_met, same_kind, same_round, view_met}
+use Rattle.ba_instant.proofs.OldTermLemmas.{live_back, live_on, neither_back, not_null_back, same_back, shows_back, under}
+use Rattle.ba_instant.proofs.UnmovedLemmas.{AreOldOn, AreUnmoved, IsOldOn, at_unmoved, both_weaker, cell_unmoved, conds_old, everywhere, head_old, row_read, sides_old}
 use Rattle.ba_instant.specs.Offers.{IsTelling}
-use Rattle.ba_instant.specs.QuietKeys.{AreQuietMoves, AsksLittle, ColumnsStay, FactStays, IsEquation, IsUnmoved, IsUnmovedIf, stand_in}
+use Rattle.ba_instant.specs.QuietKeys.{AreQuietMoves, ColumnsStay, FactStays, GoalLeaves, IsEquation, IsFree, IsUnmoved, IsUnmovedIf, LeavesFact, ReadsUnmoved, stand_in}
 use Rattle.ba_instant.specs.Windows.{IsToldBy}
-use Rattle.ba_instant.specs.declared.fresh.Move.{Move}
+use Rattle.ba_instant.specs.declared.moves.Move.{Move}
 
--- ---- lists
-
-everywhere : {X : Type 0} (P : X → Type 0) → ((x : X) → P x) → (xs : List X) → All P xs
-everywhere P f [] = All-nil P
-everywhere P f (x ∷ xs) = All-cons P x xs (f x) (everywhere P f xs)
-
-both_weaker : {X : Type 0} (P Q R : X → Type 0) → ((x : X) → P x → Q x → R x) → (xs : List X) → All P xs → All Q xs → All R xs
-both_weaker P Q R f [] h g = All-nil R
-both_weaker P Q R f (x ∷ xs) h g =
-    All-cons R x xs (f x (All-head P x xs h) (All-head Q x xs g)) (both_weaker P Q R f xs (All-tail P x xs h) (All-tail Q x xs g))
-
-none_in : {X : Type 0} (xs : List X) (x : X) → xs ≡ [] → Contains xs x → ⊥
-none_in [] x e h = omega (arith, h.1)
-none_in (y ∷ ys) x e h = cc
-
-none_at : {X : Type 0} (xs : List X) (n : ℕ) (x : X) → xs ≡ [] → slice_get xs n ≡ Some x → ⊥
-none_at [] n x e h = cc
-none_at (y ∷ ys) n x e h = cc
-
--- ---- terms that aren't moved
-
-module _ (moves : List Move) where
-  cell_unmoved : (terms : List Term) → All (IsUnmoved moves) terms → (column : ℕ) → IsUnmovedIf moves (slice_get terms column)
-  cell_unmoved [] h column = tt
-  cell_unmoved (t ∷ terms) h zero = All-head (IsUnmoved moves) t terms h
-  cell_unmoved (t ∷ terms) h (suc column) = cell_unmoved terms (All-tail (IsUnmoved moves) t terms h) column
-
-  at_unmoved : (o : Option Term) (t : Term) → o ≡ Some t → IsUnmovedIf moves o → IsUnmoved moves t
-  at_unmoved o t e h = subst (IsUnmovedIf moves) e h
-
-  abbrev pub AreUnmoved : List Term → Type 0
-  AreUnmoved terms = All (IsUnmoved moves) terms
-
-  place_unmoved : (rows : List (List Term)) (place column : ℕ) (t : Term) → All AreUnmoved rows → option_and_then (λ row. slice_get row column) (slice_get rows place) ≡ Some t →
-      IsUnmoved moves t
-  place_unmoved [] place column t all e = cc
-  place_unmoved (row ∷ rows) zero column t all e =
-      at_unmoved (slice_get row column) t e (cell_unmoved row (All-head AreUnmoved row rows all) column)
-  place_unmoved (row ∷ rows) (suc place) column t all e = place_unmoved rows place column t (All-tail AreUnmoved row rows all) e
-
-  term_unmoved : (rows : List (List Term)) (x : Operand) (t : Term) → All AreUnmoved rows → term_of rows x ≡ Some t → IsUnmoved moves t
-  term_unmoved rows (operands.Col place column) t all e = place_unmoved rows place column t all e
-  term_unmoved rows (operands.Val v) t all e = let is : Val v ≡ t = cc in subst (IsUnmoved moves) is tt
-  term_unmoved rows (operands.Param n) t all e = let is : Param n ≡ t = cc in subst (IsUnmoved moves) is tt
-  term_unmoved rows (operands.Var n) t all e = let is : Var n ≡ t = cc in subst (IsUnmoved moves) is tt
-
-module _ (p : Problem) (b : Branch) (moves : List Move) (lessons : List Lesson) (little : AsksLittle p) (quiet : AreQuietMoves p b moves)
+module _ (p : Problem) (b : Branch) (moves : List Move) (lessons : List Lesson) (quiet : AreQuietMoves p b moves)
     (new_told : All (IsToldBy b.known (stand_in moves)) lessons) where
   abbrev c : Branch
   c = with_lessons b lessons
@@ -113,28 +63,28 @@ module _ (p : Problem) (b : Branch) (moves : List Move) (lessons : List Lesson) 
   stays : (t : Term) → Old t → stands t ≡ t
   stays = unmoved_stays moves
 
-  on : Carries k l (λ t. t)
-  on = carries_on k l [] lessons (sym (append-nil k.unknowns)) refl
+  abbrev on : Carries k l (λ t. t)
+  on = carries_further p b lessons
 
   back : Carries l k stands
   back = carries_back k moves lessons quiet.lessons quiet.filled new_told
 
   -- ---- where moved unknowns aren't
 
-  stays_at : (n : ℕ) (f : Fact) → slice_get b.facts n ≡ Some f → FactStays s moves f
-  stays_at n f at = All-at (FactStays s moves) b.facts n f quiet.facts at
+  stays_at : (n : ℕ) (f : Fact) → slice_get b.facts n ≡ Some f → FactStays p b moves f
+  stays_at n f at = All-at (FactStays p b moves) b.facts n f quiet.facts at
 
-  one_unmoved : (f : Fact) → f.side ≡ One → FactStays s moves f → All Old f.terms
+  one_unmoved : (f : Fact) → f.side ≡ One → FactStays p b moves f → All Old f.terms
   one_unmoved f is (inl h) = h
   one_unmoved f is (inr h) = let no : One ≡ Two = sym is ∙ h.side in cc
 
-  key_unmoved : (f : Fact) (key : ℕ) (columns : List ℕ) → IsKeyOf s f key columns → FactStays s moves f → ColumnsStay moves f.terms columns
+  key_unmoved : (f : Fact) (key : ℕ) (columns : List ℕ) → IsKeyOf s f key columns → FactStays p b moves f → ColumnsStay moves f.terms columns
   key_unmoved f key columns of (inl h) = everywhere (λ (column : ℕ). IsUnmovedIf moves (slice_get f.terms column)) (cell_unmoved moves f.terms h) columns
   key_unmoved f key columns of (inr h) =
       let table : h.table ≡ of.table = same_Some h.table of.table (sym h.table_is ∙ of.table_is) in
       All-at (ColumnsStay moves f.terms) h.table.keys key columns h.keys (subst (λ (t : Table). slice_get t.keys key ≡ Some columns) (sym table) of.key_is)
 
-  link_unmoved : (f : Fact) (link : ℕ) (it : Link) → IsLinkOf s f link it → FactStays s moves f → ColumnsStay moves f.terms it.columns
+  link_unmoved : (f : Fact) (link : ℕ) (it : Link) → IsLinkOf s f link it → FactStays p b moves f → ColumnsStay moves f.terms it.columns
   link_unmoved f link it of (inl h) = everywhere (λ (column : ℕ). IsUnmovedIf moves (slice_get f.terms column)) (cell_unmoved moves f.terms h) it.columns
   link_unmoved f link it of (inr h) =
       let table : h.table ≡ of.table = same_Some h.table of.table (sym h.table_is ∙ of.table_is) in
@@ -153,88 +103,10 @@ module _ (p : Problem) (b : Branch) (moves : List Move) (lessons : List Lesson) 
   rows_unmoved (table ∷ from) (n ∷ facts) h =
       All-cons (AreUnmoved moves) (terms_at b n) (map (terms_at b) facts) (fact_unmoved table n h.0) (rows_unmoved from facts h.1)
 
-  there : (from facts : List ℕ) → IsMapping b One from facts → (x : Operand) (t : Term) → term_of (map (terms_at b) facts) x ≡ Some t → Old t
-  there from facts h x t e = term_unmoved moves (map (terms_at b) facts) x t (rows_unmoved from facts h) e
-
-  -- ---- facts and rows, which are as they were
-
-  fact_on : (side : Side) (table n : ℕ) → IsFactOf b side table n → IsFactOf c side table n
-  fact_on side table n h = record { fact = h.fact; there = h.there; side_is = h.side_is; table_is = h.table_is }
-
-  mapping_on : (side : Side) (from facts : List ℕ) → IsMapping b side from facts → IsMapping c side from facts
-  mapping_on side [] [] h = tt
-  mapping_on side [] (n ∷ facts) h = absurd h
-  mapping_on side (table ∷ from) [] h = absurd h
-  mapping_on side (table ∷ from) (n ∷ facts) h = (fact_on side table n h.0, mapping_on side from facts h.1)
-
-  mapping_back : (side : Side) (from facts : List ℕ) → IsMapping c side from facts → IsMapping b side from facts
-  mapping_back side [] [] h = tt
-  mapping_back side [] (n ∷ facts) h = absurd h
-  mapping_back side (table ∷ from) [] h = absurd h
-  mapping_back side (table ∷ from) (n ∷ facts) h =
-      (record { fact = (h.0).fact; there = (h.0).there; side_is = (h.0).side_is; table_is = (h.0).table_is }, mapping_back side from facts h.1)
-
-  same_round : (facts : List ℕ) → round_of c facts ≡ round_of b facts
-  same_round [] = refl
-  same_round (n ∷ facts) = let rest = same_round facts in omega (arith, rest)
-
-  -- ---- what was met is met
-
-  two_on : (x y : Option Term) → AreTheSame k x y → AreTheSame l x y
-  two_on x y h = record { left = h.left; right = h.right; left_is = h.left_is; right_is = h.right_is; same = the_same k l (λ t. t) on h.same }
-
-  row_on : (xs ys : List (Option Term)) → AllZip (AreTheSame k) xs ys → AllZip (AreTheSame l) xs ys
-  row_on [] [] h = tt
-  row_on [] (y ∷ ys) h = absurd h
-  row_on (x ∷ xs) [] h = absurd h
-  row_on (x ∷ xs) (y ∷ ys) h = (two_on x y h.0, row_on xs ys h.1)
-
-  shown_on : (rows : List (List Term)) (atom : Atom) → IsShown k rows atom → IsShown l rows atom
-  shown_on rows atom h = shown_still k l Old stands stays on back rows atom h
-
-  answered_on : (side : Side) (part : Part) (row : List (Option Term)) → IsAnswered b side part row → IsAnswered c side part row
-  answered_on side part row h =
-      let rows = map (terms_at b) h.facts in
-      record {
-        facts = h.facts;
-        facts_of = mapping_on side part.from h.facts h.facts_of;
-        shown = All-weaker (IsShown k rows) (IsShown l rows) (shown_on rows) part.conds h.shown;
-        head = row_on (row_of b h.facts part.head) row h.head;
-      }
-
-  given_on : (side : Side) (row : List (Option Term)) (parts : List Part) → Any (λ part. IsAnswered b side part row) parts → Any (λ part. IsAnswered c side part row) parts
-  given_on side row parts h = any_weaker (λ part. IsAnswered b side part row) (λ part. IsAnswered c side part row) (λ part. answered_on side part row) parts h
-
-  entry_met : (entry : ℕ) → EntryIsMet p b entry → EntryIsMet p c entry
-  entry_met entry h = record { it = h.it; there = h.there; given = given_on One (row_of b [] h.it.row) h.it.query.parts h.given }
-
-  all_same : (ts us : List Term) → AllZip (TheSame k) ts us → AllZip (TheSame l) ts us
-  all_same [] [] h = tt
-  all_same [] (u ∷ us) h = absurd h
-  all_same (t ∷ ts) [] h = absurd h
-  all_same (t ∷ ts) (u ∷ us) h = (the_same k l (λ t. t) on h.0, all_same ts us h.1)
-
-  key_met : (one other : ℕ) → KeyIsMet b one other → KeyIsMet c one other
-  key_met one other h = record { f = h.f; g = h.g; left_is = h.left_is; right_is = h.right_is; same = all_same h.f.terms h.g.terms h.same }
-
-  link_met : (link fact : ℕ) → LinkIsMet s b link fact → LinkIsMet s c link fact
-  link_met link fact h =
-      let us = terms_at b h.number in
-      record {
-        f = h.f;
-        fact_is = h.fact_is;
-        it = h.it;
-        link_of = h.link_of;
-        number = h.number;
-        target = fact_on h.f.side h.it.target h.number h.target;
-        equal = All-weaker (AreEqualIn b h.f.terms us) (AreEqualIn c h.f.terms us)
-            (λ columns at. record { a = at.a; c = at.c; left_is = at.left_is; right_is = at.right_is; equal = equal k l (λ t. t) on at.equal })
-            (zip h.it.columns h.it.target_columns) h.equal;
-      }
-
-  view_met : (view part : ℕ) (facts : List ℕ) → ViewIsMet p b view part facts → ViewIsMet p c view part facts
-  view_met view part facts h =
-      record { it = h.it; view_is = h.view_is; of = h.of; part_is = h.part_is; given = given_on Two (row_of b facts h.of.head) h.it.query.parts h.given }
+  rows_read : (part : Part) (facts : List ℕ) → IsMapping b One part.from facts → (place : ℕ) (row : List Term) → slice_get (map (terms_at b) facts) place ≡ Some row →
+      ReadsUnmoved moves part place row
+  rows_read part facts mapping place row at =
+      row_read moves part place row (All-at (AreUnmoved moves) (map (terms_at b) facts) place row (rows_unmoved part.from facts mapping) at)
 
   -- ---- what passes its tests passed them
 
@@ -283,13 +155,37 @@ module _ (p : Problem) (b : Branch) (moves : List Move) (lessons : List Lesson) 
             h.it.columns (link_unmoved h.f link h.it h.link_of (stays_at fact h.f h.fact_is)) h.not_null;
       }
 
-  facts_pass : (part : Part) (facts : List ℕ) → FactsPass c One part facts → FactsPass b One part facts
-  facts_pass part facts h =
+  -- ---- rows of which no moved term is read
+
+  abbrev pub ReadsOld : Part → List ℕ → Type 0
+  ReadsOld part facts = (place : ℕ) (row : List Term) → slice_get (map (terms_at b) facts) place ≡ Some row → ReadsUnmoved moves part place row
+
+  same_before : (x y : Term) → TheSame l x y → TheSame k (stands x) (stands y)
+  same_before x y same = the_same l k stands back same
+
+  same_still : (x y : Term) → TheSame k x y → TheSame k (stands x) (stands y)
+  same_still x y same = the_same l k stands back (the_same k l (λ t. t) on same)
+
+  rule_leaves : (rule : Rule) (part : Part) → Contains p.policy.schema.rules rule → Contains rule.left.parts part → (fact : Fact) → IsFree p b moves fact → LeavesFact k moves [] fact part
+  rule_leaves rule part has of fact free =
+      All-contains (LeavesFact k moves [] fact) rule.left.parts part
+      (All-contains (λ (it : Rule). All (LeavesFact k moves [] fact) it.left.parts) p.policy.schema.rules rule free.left.rules has) of
+
+  rule_reads : (side : Side) (rule : Rule) (part : Part) (facts : List ℕ) (d : Known) → ((x y : Term) → TheSame d x y → TheSame k (stands x) (stands y)) → Contains p.policy.schema.rules rule →
+      Contains rule.left.parts part → IsMapping b side part.from facts → All (Equates d (map (terms_at b) facts)) part.conds → ReadsOld part facts
+  rule_reads One rule part facts d to has of mapping equal = rows_read part facts mapping
+  rule_reads Two rule part facts d to has of mapping equal =
+      reads_unmoved p b moves quiet.facts part [] (rule_leaves rule part has of) d to facts mapping equal
+      (none_asked (λ (two : Operand × Term). AreTheSame d (term_of (map (terms_at b) facts) two.0) (Some two.1)) part.head)
+
+  facts_pass : (side : Side) (part : Part) (facts : List ℕ) → ReadsOld part facts → FactsPass c side part facts → FactsPass b side part facts
+  facts_pass side part facts reads h =
       let rows = map (terms_at b) facts in
-      let mapping = mapping_back One part.from facts h.mapping in
       record {
-        mapping = mapping;
-        shown = All-weaker (IsShown l rows) (IsShown k rows) (λ atom. shown_before k l Old stands stays on back rows (there part.from facts mapping) atom) part.conds h.shown;
+        mapping = mapping_back p b lessons side part.from facts h.mapping;
+        shown = both_weaker (AreOldOn moves rows) (IsShown l rows) (IsShown k rows)
+            (λ atom old at. under rows atom (λ x y left right. shows_back k l Old stands stays on back atom.op x y (old.0 x left) (old.1 y right)) at)
+            part.conds (conds_old moves part rows reads) h.shown;
       }
 
   -- ---- splits
@@ -297,75 +193,140 @@ module _ (p : Problem) (b : Branch) (moves : List Move) (lessons : List Lesson) 
   not_equation : (op : Op) (x y : Term) → IsOfNewKind l op x y → op ≡ Eq → ⊥
   not_equation op x y h e = subst (λ (o : Op). IsOfNewKind l o x y) e h
 
-  goal_none : (part : Part) (rows : List (List Term)) (atom : TermAtom) → Contains p.goal.parts part → (atom.op ≡ Eq → ⊥) → Any (GivesAtom rows atom) part.conds → ⊥
-  goal_none part rows atom has other (n, cond, below, is, gives) =
-      let all = All-contains (λ (it : Part). All IsEquation it.conds) p.goal.parts part little.equations has in
-      let equation : cond.op ≡ Eq = All-contains IsEquation part.conds cond all (n, below, is) in
-      other (sym gives.op ∙ equation)
+  two_back : (rows : List (List Term)) (x : Operand) (t : Term) → IsOldOn moves rows x → Old t → AreTheSame l (term_of rows x) (Some t) → AreTheSame k (term_of rows x) (Some t)
+  two_back rows x t old its h =
+      let is : t ≡ h.right = same_Some t h.right h.right_is in
+      record {
+        left = h.left;
+        right = h.right;
+        left_is = h.left_is;
+        right_is = h.right_is;
+        same = same_back k l Old stands stays on back h.left h.right (old h.left h.left_is) (subst Old is its) h.same;
+      }
+
+  row_back : (rows : List (List Term)) (head : List Operand) (row : List Term) → All (IsOldOn moves rows) head → All Old row → AllZip (AreTheSame l) (map (term_of rows) head) (map Some row) →
+      AllZip (AreTheSame k) (map (term_of rows) head) (map Some row)
+  row_back rows [] [] old its h = tt
+  row_back rows [] (t ∷ row) old its h = absurd h
+  row_back rows (x ∷ head) [] old its h = absurd h
+  row_back rows (x ∷ head) (t ∷ row) old its h = (
+    two_back rows x t (All-head (IsOldOn moves rows) x head old) (All-head Old t row its) h.0,
+    row_back rows head row (All-tail (IsOldOn moves rows) x head old) (All-tail Old t row its) h.1,
+  )
+
+  -- there is no row, or its terms aren't moved
+  abbrev pub IsOldRow : Option (List Term) → Type 0
+  IsOldRow None = Unit {0}
+  IsOldRow (Some row) = All Old row
+
+  module _ (side : Side) (part : Part) (facts : List ℕ) (reads : ReadsOld part facts) where
+    abbrev rows : List (List Term)
+    rows = map (terms_at b) facts
+
+    old : All (AreOldOn moves rows) part.conds
+    old = conds_old moves part rows reads
+
+    head_back : (row : Option (List Term)) → IsOldRow row → HeadIs c part facts row → HeadIs b part facts row
+    head_back None its h = tt
+    head_back (Some row) its h = row_back rows part.head row (head_old moves part rows reads) its h
+
+    head_on : (row : Option (List Term)) → HeadIs b part facts row → HeadIs c part facts row
+    head_on None h = tt
+    head_on (Some row) h = row_on p b lessons (map (term_of rows) part.head) (map Some row) h
+
+    live_atom_back : (row : Option (List Term)) (atom : TermAtom) → IsOldRow row → IsLiveAtom c side part row atom facts → IsLiveAtom b side part row atom facts
+    live_atom_back row atom its h =
+        record {
+          live = record {
+            facts_of = mapping_back p b lessons side part.from facts h.live.facts_of;
+            live = both_weaker (AreOldOn moves rows) (IsLive l rows) (IsLive k rows)
+                (λ cond its at. under rows cond (λ x y left right. live_back k l Old stands stays on back cond.op x y (its.0 x left) (its.1 y right)) at) part.conds old h.live.live;
+          };
+          head = head_back row its h.head;
+          stands = h.stands;
+        }
+
+    live_atom_on : (row : Option (List Term)) (atom : TermAtom) → IsLiveAtom b side part row atom facts → IsLiveAtom c side part row atom facts
+    live_atom_on row atom h =
+        record {
+          live = record {
+            facts_of = mapping_on p b lessons side part.from facts h.live.facts_of;
+            live = both_weaker (AreOldOn moves rows) (IsLive k rows) (IsLive l rows)
+                (λ cond its at. under rows cond (λ x y left right. live_on k l Old stands stays on back cond.op x y (its.0 x left) (its.1 y right)) at) part.conds old h.live.live;
+          };
+          head = head_on row h.head;
+          stands = h.stands;
+        }
 
   module _ (atom : TermAtom) (other : atom.op ≡ Eq → ⊥) where
-    view_atom_back : (part : Part) (facts : List ℕ) → IsLiveAtom c One part None atom facts → IsLiveAtom b One part None atom facts
-    view_atom_back part facts h =
-        let rows = map (terms_at b) facts in
-        let mapping = mapping_back One part.from facts h.live.facts_of in
-        record {
-          live = record {
-            facts_of = mapping;
-            live = All-weaker (IsLive l rows) (IsLive k rows) (λ cond. live_before k l Old stands stays on back rows (there part.from facts mapping) cond) part.conds h.live.live;
-          };
-          head = tt;
-          stands = h.stands;
-        }
+    mixed : (part : Part) (its : List (List Term)) → Any (GivesAtom its atom) part.conds → All IsEquation part.conds → ⊥
+    mixed part its (n, cond, below, is, gives) all =
+        let equation : cond.op ≡ Eq = All-contains IsEquation part.conds cond all (n, below, is) in
+        other (sym gives.op ∙ equation)
 
-    view_atom_on : (part : Part) (facts : List ℕ) → IsLiveAtom b One part None atom facts → IsLiveAtom c One part None atom facts
-    view_atom_on part facts h =
+    goal_leaves : (part : Part) (rows : List (List Term)) → Contains p.goal.parts part → Any (GivesAtom rows atom) part.conds → (fact : Fact) → IsFree p b moves fact → LeavesFact k moves b.goal fact part
+    unfolding GoalLeaves
+    goal_leaves part rows of stands_in fact free = elim (All-contains (GoalLeaves b moves fact) p.goal.parts part free.left.goal of) as (λ _. LeavesFact k moves b.goal fact part) [
+      | inl equations ↦ absurd (mixed part rows stands_in equations)
+      | inr leaves ↦ leaves
+    ]
+
+    goal_reads : (part : Part) (facts : List ℕ) (d : Known) → ((x y : Term) → TheSame d x y → TheSame k (stands x) (stands y)) → Contains p.goal.parts part → IsMapping b Two part.from facts →
+        All (IsLive d (map (terms_at b) facts)) part.conds → AllZip (AreTheSame d) (map (term_of (map (terms_at b) facts)) part.head) (map Some b.goal) →
+        Any (GivesAtom (map (terms_at b) facts) atom) part.conds → ReadsOld part facts
+    goal_reads part facts d to of mapping live head stands_in =
         let rows = map (terms_at b) facts in
-        record {
-          live = record {
-            facts_of = mapping_on One part.from facts h.live.facts_of;
-            live = All-weaker (IsLive k rows) (IsLive l rows) (λ cond. live_still k l Old stands stays on back rows (there part.from facts h.live.facts_of) cond) part.conds h.live.live;
-          };
-          head = tt;
-          stands = h.stands;
-        }
+        reads_unmoved p b moves quiet.facts part b.goal (goal_leaves part rows of stands_in) d to facts mapping (live_equates d rows part.conds live)
+        (columns_same d (term_of rows) part.head b.goal head)
+
+    goal_reads_after : (part : Part) (facts : List ℕ) → Contains p.goal.parts part → IsLiveAtom c Two part (Some b.goal) atom facts → ReadsOld part facts
+    goal_reads_after part facts of h =
+        goal_reads part facts l same_before of (mapping_back p b lessons Two part.from facts h.live.facts_of) h.live.live h.head h.stands
+
+    goal_reads_before : (part : Part) (facts : List ℕ) → Contains p.goal.parts part → IsLiveAtom b Two part (Some b.goal) atom facts → ReadsOld part facts
+    goal_reads_before part facts of h = goal_reads part facts k same_still of h.live.facts_of h.live.live h.head h.stands
+
+    rule_reads_after : (side : Side) (rule : Rule) (part : Part) (facts : List ℕ) → Contains p.policy.schema.rules rule → Contains rule.left.parts part →
+        IsLiveAtom c side part None atom facts → ReadsOld part facts
+    rule_reads_after side rule part facts has of h =
+        rule_reads side rule part facts l same_before has of (mapping_back p b lessons side part.from facts h.live.facts_of) (live_equates l (map (terms_at b) facts) part.conds h.live.live)
+
+    rule_reads_before : (side : Side) (rule : Rule) (part : Part) (facts : List ℕ) → Contains p.policy.schema.rules rule → Contains rule.left.parts part →
+        IsLiveAtom b side part None atom facts → ReadsOld part facts
+    rule_reads_before side rule part facts has of h =
+        rule_reads side rule part facts k same_still has of h.live.facts_of (live_equates k (map (terms_at b) facts) part.conds h.live.live)
 
     candidate_back : (facts : List ℕ) → IsCandidate p c atom facts → IsCandidate p b atom facts
-    candidate_back facts (of_view {part = part} has of h) = of_view has of (view_atom_back part facts h)
-    candidate_back facts (of_goal {part = part} of h) = absurd (goal_none part (map (terms_at c) facts) atom of other h.stands)
-    candidate_back facts (of_rule {rule = rule} side has of h) = absurd (none_in p.policy.schema.rules rule little.no_rules has)
+    candidate_back facts (of_view {part = part} has of h) =
+        of_view has of (live_atom_back One part facts (rows_read part facts (mapping_back p b lessons One part.from facts h.live.facts_of)) None atom tt h)
+    candidate_back facts (of_goal {part = part} of h) = of_goal of (live_atom_back Two part facts (goal_reads_after part facts of h) (Some b.goal) atom quiet.goal h)
+    candidate_back facts (of_rule {rule = rule} {part = part} side has of h) =
+        of_rule side has of (live_atom_back side part facts (rule_reads_after side rule part facts has of h) None atom tt h)
 
     candidate_on : (facts : List ℕ) → IsCandidate p b atom facts → IsCandidate p c atom facts
-    candidate_on facts (of_view {part = part} has of h) = of_view has of (view_atom_on part facts h)
-    candidate_on facts (of_goal {part = part} of h) = absurd (goal_none part (map (terms_at b) facts) atom of other h.stands)
-    candidate_on facts (of_rule {rule = rule} side has of h) = absurd (none_in p.policy.schema.rules rule little.no_rules has)
-
-    gives_unmoved : (from facts : List ℕ) (conds : List Atom) → IsMapping b One from facts → Any (GivesAtom (map (terms_at b) facts) atom) conds → Old atom.left × Old atom.right
-    gives_unmoved from facts conds mapping (n, cond, below, is, gives) =
-        (there from facts mapping cond.left atom.left gives.left, there from facts mapping cond.right atom.right gives.right)
+    candidate_on facts (of_view {part = part} has of h) = of_view has of (live_atom_on One part facts (rows_read part facts h.live.facts_of) None atom h)
+    candidate_on facts (of_goal {part = part} of h) = of_goal of (live_atom_on Two part facts (goal_reads_before part facts of h) (Some b.goal) atom h)
+    candidate_on facts (of_rule {rule = rule} {part = part} side has of h) =
+        of_rule side has of (live_atom_on side part facts (rule_reads_before side rule part facts has of h) None atom h)
 
     candidate_unmoved : (facts : List ℕ) → IsCandidate p b atom facts → Old atom.left × Old atom.right
-    candidate_unmoved facts (of_view {part = part} has of h) = gives_unmoved part.from facts part.conds h.live.facts_of h.stands
-    candidate_unmoved facts (of_goal {part = part} of h) = absurd (goal_none part (map (terms_at b) facts) atom of other h.stands)
-    candidate_unmoved facts (of_rule {rule = rule} side has of h) = absurd (none_in p.policy.schema.rules rule little.no_rules has)
+    candidate_unmoved facts (of_view {part = part} has of h) = sides_old moves part (map (terms_at b) facts) (rows_read part facts h.live.facts_of) atom h.stands
+    candidate_unmoved facts (of_goal {part = part} of h) = sides_old moves part (map (terms_at b) facts) (goal_reads_before part facts of h) atom h.stands
+    candidate_unmoved facts (of_rule {rule = rule} {part = part} side has of h) =
+        sides_old moves part (map (terms_at b) facts) (rule_reads_before side rule part facts has of h) atom h.stands
 
     round_back : (round : ℕ) → IsSplitRound p c atom round → IsSplitRound p b atom round
     round_back round h =
-        let same = same_round h.facts in
+        let same = same_round p b lessons h.facts in
         record {
           facts = h.facts;
           candidate = candidate_back h.facts h.candidate;
           round_is = h.round_is ∙ ap (λ r. 1 + r) same;
           least = λ others it.
               let least = h.least others (candidate_on others it) in
-              let its_same = same_round others in
+              let its_same = same_round p b lessons others in
               omega (arith, least, same, its_same);
         }
-
-  same_kind : (t : Term) → kind_of_term c t ≡ kind_of_term b t
-  same_kind (Unknown n) = refl
-  same_kind (Val v) = refl
-  same_kind (Param n) = refl
-  same_kind (Var n) = refl
 
   may_back : (op : Op) (x y : Term) → Old x → Old y → MayBeSplit c op x y → MayBeSplit b op x y
   may_back Eq x y first second h = neither_back k l Old stands stays on back x y first second h
@@ -387,8 +348,8 @@ module _ (p : Problem) (b : Branch) (moves : List Move) (lessons : List Lesson) 
   fits_back atom first second h =
       record {
         kind = h.kind;
-        left_is = sym (same_kind atom.left) ∙ h.left_is;
-        right_is = sym (same_kind atom.right) ∙ h.right_is;
+        left_is = sym (same_kind p b lessons atom.left) ∙ h.left_is;
+        right_is = sym (same_kind p b lessons atom.right) ∙ h.right_is;
         op = h.op;
         may = may_back atom.op atom.left atom.right first second h.may;
       }
@@ -410,26 +371,31 @@ module _ (p : Problem) (b : Branch) (moves : List Move) (lessons : List Lesson) 
   IsNewWith d round step = IsNewOn p d step × IsRound p d step round
 
   entry_before : (n entry round : ℕ) → IsNewWith c round (steps.Entry n entry) → IsNewWith b round (steps.Entry n entry)
-  entry_before n entry round h = (record { passes = h.0.passes; tells = λ met. h.0.tells (entry_met entry met) }, h.1)
+  entry_before n entry round h = (record { passes = h.0.passes; tells = λ met. h.0.tells (entry_met p b lessons entry met) }, h.1)
 
   key_before : (n key one two round : ℕ) → IsNewWith c round (steps.Key n key one two) → IsNewWith b round (steps.Key n key one two)
   key_before n key one two round h =
-      (record { passes = key_passes key one two h.0.passes; tells = λ met. h.0.tells (key_met one two met) }, h.1 ∙ ap (λ r. 1 + r) (same_round (one ∷ two ∷ [])))
+      (record { passes = key_passes key one two h.0.passes; tells = λ met. h.0.tells (key_met p b lessons one two met) }, h.1 ∙ ap (λ r. 1 + r) (same_round p b lessons (one ∷ two ∷ [])))
 
   link_before : (n link fact round : ℕ) → IsNewWith c round (steps.Link n link fact) → IsNewWith b round (steps.Link n link fact)
   link_before n link fact round h =
-      (record { passes = link_passes link fact h.0.passes; tells = λ met. h.0.tells (link_met link fact met) }, h.1 ∙ ap (λ r. 1 + r) (same_round (fact ∷ [])))
+      (record { passes = link_passes link fact h.0.passes; tells = λ met. h.0.tells (link_met p b lessons link fact met) }, h.1 ∙ ap (λ r. 1 + r) (same_round p b lessons (fact ∷ [])))
 
   view_before : (n view part : ℕ) (facts : List ℕ) (round : ℕ) → IsNewWith c round (steps.View n view part facts) → IsNewWith b round (steps.View n view part facts)
   view_before n view part facts round h =
       let is = h.0.passes in
-      let passes : ViewPasses p b view part facts = record { it = is.it; is_part = is.is_part; pass = facts_pass is.it facts is.pass } in
-      (record { passes = passes; tells = λ met. h.0.tells (view_met view part facts met) }, h.1 ∙ ap (λ r. 1 + r) (same_round facts))
+      let passes : ViewPasses p b view part facts = record { it = is.it; is_part = is.is_part; pass = facts_pass One is.it facts (rows_read is.it facts (mapping_back p b lessons One is.it.from facts is.pass.mapping)) is.pass } in
+      (record { passes = passes; tells = λ met. h.0.tells (view_met p b lessons view part facts met) }, h.1 ∙ ap (λ r. 1 + r) (same_round p b lessons facts))
 
   rule_before : (n rule part : ℕ) (facts : List ℕ) (round : ℕ) → IsNewWith c round (steps.Rule n rule part facts) → IsNewWith b round (steps.Rule n rule part facts)
   rule_before n rule part facts round h =
       let is = h.0.passes in
-      absurd (none_at p.policy.schema.rules rule is.is_part.of little.no_rules is.is_part.rule_is)
+      let has = Contains-at p.policy.schema.rules rule is.is_part.of is.is_part.rule_is in
+      let of = Contains-at is.is_part.of.left.parts part is.it is.is_part.part_is in
+      let reads = rule_reads is.side is.is_part.of is.it facts l same_before has of (mapping_back p b lessons is.side is.it.from facts is.pass.mapping)
+      (shown_equates l (map (terms_at b) facts) is.it.conds is.pass.shown) in
+      let passes : RulePasses p b rule part facts = record { it = is.it; is_part = is.is_part; side = is.side; pass = facts_pass is.side is.it facts reads is.pass } in
+      (record { passes = passes; tells = λ met. h.0.tells (rule_met p b lessons rule part facts met) }, h.1 ∙ ap (λ r. 1 + r) (same_round p b lessons facts))
 
   split_before : (n : ℕ) (atom : TermAtom) (round : ℕ) → IsNewWith c round (steps.Split n atom) → IsNewWith b round (steps.Split n atom)
   split_before n atom round h =

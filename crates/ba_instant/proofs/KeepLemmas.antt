@@ -168,7 +168,7 @@ module _ (p : Problem) (b c : Branch) (grounded : IsGrounded b) (filled : FactsA
       let lessons = map (λ (two : Term × Term). Same two.0 two.1) (zip leads.f.terms leads.g.terms) in
       subst (λ (d : Branch). (step : Step) (round : ℕ) → IsTelling n step → IsNewOn p d step × IsRound p d step round → IsNewOn p b step × IsRound p b step round)
       (of_one cases (with_lessons b lessons) c leads.cases_are begins)
-      (λ step round. new_before p b quiet.moves lessons quiet.little quiet.quiet (told_of_rows b.known quiet.moves leads.f.terms leads.g.terms rows) n step round)
+      (λ step round. new_before p b quiet.moves lessons quiet.quiet (told_of_rows b.known quiet.moves leads.f.terms leads.g.terms rows) n step round)
 
   step_grows : (step : Step) (cases : List Branch) (round : ℕ) → Leads p b step cases → BeginsWith cases c → IsQuietStep p b step → IsRound p b step round → IsKept p b c (branch_of step) round
   step_grows (steps.Entry branch entry) cases round leads begins quiet round_at =

@@ -36,3 +36,10 @@ mod LooseStepLemmas
 mod AfterSplitLemmas
 mod ChoiceLemmas
 mod StandingLemmas
+mod AlikeLemmas
+mod SpreadLemmas
+mod PlaceLemmas
+mod LessonLemmas
+mod UnmovedLemmas
+mod AskedLemmas
+mod ReachLemmas

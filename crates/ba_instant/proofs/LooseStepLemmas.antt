@@ -1,34 +1,28 @@
 -- After a loose comparison no step by an entry, a link or a key, and no split, is new that wasn't before.
-use Rattle.std.proofs.Common.{◌≡◌, ◌∙◌, ℕ, zero, suc, ℤ, ◌+◌, ◌<◌, ◌≤◌, List, [], ◌∷◌, inl, inr, map, ap, refl, sym, subst, arith}
+use Rattle.std.proofs.Common.{◌∙◌, ℕ, zero, suc, ℤ, ◌+◌, ◌<◌, ◌≤◌, List, [], ◌∷◌, inl, inr, map, ap, refl, sym, subst, arith}
 use Rattle.std.proofs.lemmas.Bool.{cases_lt}
-use Rattle.std.proofs.lemmas.List.{append-nil}
 use Rattle.std.proofs.lemmas.List.Elements.{All-weaker}
-use Rattle.std.specs.List.{AllZip, zip}
+use Rattle.std.specs.List.{AllZip}
 use Rattle.std.specs.Prelude.{Option, Some, None}
-use Rattle.ba_model.specs.declared.query.Atom.{Atom}
 use Rattle.ba_model.specs.declared.query.Op.{Op}
 use Rattle.ba_model.specs.declared.query.Op.TheVariants.{Eq, Ne, Lt, Le, IsNull, NotNull}
 use Rattle.ba_model.specs.declared.query.Part.{Part}
 use Rattle.ba_facts.specs.Known.{Known}
-use Rattle.ba_facts.specs.Laws.{kind_of_term}
-use Rattle.ba_facts.specs.Matches.{AreTheSame, HeadIs, IsAnswered, IsFactOf, IsLive, IsLiveAtom, IsLiveOf, IsMapping, IsShown, round_of, row_of, terms_at}
-use Rattle.ba_facts.specs.Shown.{TheSame}
+use Rattle.ba_facts.specs.Matches.{AreTheSame, HeadIs, IsLive, IsLiveAtom, IsLiveOf, round_of, row_of, terms_at}
 use Rattle.ba_facts.specs.declared.branch.Branch.{Branch}
 use Rattle.ba_facts.specs.declared.term.Lesson.{Lesson}
 use Rattle.ba_facts.specs.declared.term.Side.{Side}
 use Rattle.ba_facts.specs.declared.term.Side.TheVariants.{One, Two}
 use Rattle.ba_facts.specs.declared.term.Term.{Term}
-use Rattle.ba_facts.specs.declared.term.Term.TheVariants.{Unknown, Val, Param, Var}
 use Rattle.ba_facts.specs.declared.term.TermAtom.{TermAtom}
 use Rattle.ba_kernel.specs.Effects.{AreEqualAt, IsNotNullAt, MayBeSplit, SplitFits, with_lessons}
-use Rattle.ba_kernel.specs.News.{AreEqualIn, EntryIsMet, IsCandidate, IsNewOn, IsOfNewKind, IsRound, KeyIsMet, LinkIsMet, SplitTells, of_view, of_goal, of_rule}
+use Rattle.ba_kernel.specs.News.{IsCandidate, IsNewOn, IsOfNewKind, IsRound, SplitTells, of_view, of_goal, of_rule}
 use Rattle.ba_kernel.specs.Tests.{KeyPasses, LinkPasses}
 use Rattle.ba_kernel.specs.declared.problem.Problem.{Problem}
 use Rattle.ba_kernel.specs.declared.step.Step.TheVariants as steps
-use Rattle.ba_instant.proofs.CarryLemmas.{Carries, equal, refutes, shows, the_same}
-use Rattle.ba_instant.proofs.GrowthLemmas.{carries_on}
+use Rattle.ba_instant.proofs.CarryLemmas.{Carries, refutes, shows}
+use Rattle.ba_instant.proofs.LessonLemmas.{carries_further, entry_met, key_met, link_met, mapping_back, same_kind, same_round}
 use Rattle.ba_instant.proofs.LooseLemmas.{equal_before, neither_before, not_null_before, same_before, told_more}
-use Rattle.ba_instant.proofs.OldMappingLemmas.{any_weaker}
 use Rattle.ba_instant.proofs.OldTermLemmas.{under}
 use Rattle.ba_instant.specs.Loose.{IsLoose, IsQuietBeside, IsRaise, LooseStays}
 use Rattle.ba_instant.specs.Windows.{IsQuietUpto}
@@ -43,87 +37,11 @@ module _ (p : Problem) (b : Branch) (lesson : Lesson) (x : Term) (by : ℤ) (y :
   abbrev l : Known
   l = told_more b.known lesson
 
-  on : Carries k l (λ t. t)
-  on = carries_on k l [] (lesson ∷ []) (sym (append-nil k.unknowns)) refl
+  abbrev more : List Lesson
+  more = lesson ∷ []
 
-  -- ---- facts and rows, which are as they were
-
-  fact_on : (side : Side) (table n : ℕ) → IsFactOf b side table n → IsFactOf c side table n
-  fact_on side table n h = record { fact = h.fact; there = h.there; side_is = h.side_is; table_is = h.table_is }
-
-  mapping_on : (side : Side) (from facts : List ℕ) → IsMapping b side from facts → IsMapping c side from facts
-  mapping_on side [] [] h = tt
-  mapping_on side [] (n ∷ facts) h = absurd h
-  mapping_on side (table ∷ from) [] h = absurd h
-  mapping_on side (table ∷ from) (n ∷ facts) h = (fact_on side table n h.0, mapping_on side from facts h.1)
-
-  mapping_back : (side : Side) (from facts : List ℕ) → IsMapping c side from facts → IsMapping b side from facts
-  mapping_back side [] [] h = tt
-  mapping_back side [] (n ∷ facts) h = absurd h
-  mapping_back side (table ∷ from) [] h = absurd h
-  mapping_back side (table ∷ from) (n ∷ facts) h =
-      (record { fact = (h.0).fact; there = (h.0).there; side_is = (h.0).side_is; table_is = (h.0).table_is }, mapping_back side from facts h.1)
-
-  same_round : (facts : List ℕ) → round_of c facts ≡ round_of b facts
-  same_round [] = refl
-  same_round (n ∷ facts) = let rest = same_round facts in omega (arith, rest)
-
-  -- ---- what was met is met
-
-  two_on : (s t : Option Term) → AreTheSame k s t → AreTheSame l s t
-  two_on s t h = record { left = h.left; right = h.right; left_is = h.left_is; right_is = h.right_is; same = the_same k l (λ t. t) on h.same }
-
-  row_on : (xs ys : List (Option Term)) → AllZip (AreTheSame k) xs ys → AllZip (AreTheSame l) xs ys
-  row_on [] [] h = tt
-  row_on [] (t ∷ ys) h = absurd h
-  row_on (s ∷ xs) [] h = absurd h
-  row_on (s ∷ xs) (t ∷ ys) h = (two_on s t h.0, row_on xs ys h.1)
-
-  shown_on : (rows : List (List Term)) (atom : Atom) → IsShown k rows atom → IsShown l rows atom
-  shown_on rows atom h = under rows atom (λ a d left right. shows k l (λ t. t) on atom.op a d) h
-
-  answered_on : (side : Side) (part : Part) (row : List (Option Term)) → IsAnswered b side part row → IsAnswered c side part row
-  answered_on side part row h =
-      let rows = map (terms_at b) h.facts in
-      record {
-        facts = h.facts;
-        facts_of = mapping_on side part.from h.facts h.facts_of;
-        shown = All-weaker (IsShown k rows) (IsShown l rows) (shown_on rows) part.conds h.shown;
-        head = row_on (row_of b h.facts part.head) row h.head;
-      }
-
-  entry_met : (entry : ℕ) → EntryIsMet p b entry → EntryIsMet p c entry
-  entry_met entry h =
-      let row = row_of b [] h.it.row in
-      record {
-        it = h.it;
-        there = h.there;
-        given = any_weaker (λ part. IsAnswered b One part row) (λ part. IsAnswered c One part row) (λ part. answered_on One part row) h.it.query.parts h.given;
-      }
-
-  all_same : (ts us : List Term) → AllZip (TheSame k) ts us → AllZip (TheSame l) ts us
-  all_same [] [] h = tt
-  all_same [] (u ∷ us) h = absurd h
-  all_same (t ∷ ts) [] h = absurd h
-  all_same (t ∷ ts) (u ∷ us) h = (the_same k l (λ t. t) on h.0, all_same ts us h.1)
-
-  key_met : (one other : ℕ) → KeyIsMet b one other → KeyIsMet c one other
-  key_met one other h = record { f = h.f; g = h.g; left_is = h.left_is; right_is = h.right_is; same = all_same h.f.terms h.g.terms h.same }
-
-  link_met : (link fact : ℕ) → LinkIsMet p.policy.schema b link fact → LinkIsMet p.policy.schema c link fact
-  link_met link fact h =
-      let us = terms_at b h.number in
-      record {
-        f = h.f;
-        fact_is = h.fact_is;
-        it = h.it;
-        link_of = h.link_of;
-        number = h.number;
-        target = fact_on h.f.side h.it.target h.number h.target;
-        equal = All-weaker (AreEqualIn b h.f.terms us) (AreEqualIn c h.f.terms us)
-            (λ columns at. record { a = at.a; c = at.c; left_is = at.left_is; right_is = at.right_is; equal = equal k l (λ t. t) on at.equal })
-            (zip h.it.columns h.it.target_columns) h.equal;
-      }
+  abbrev on : Carries k l (λ t. t)
+  on = carries_further p b more
 
   -- ---- what passes its tests passed them
 
@@ -150,12 +68,6 @@ module _ (p : Problem) (b : Branch) (lesson : Lesson) (x : Term) (by : ℤ) (y :
             (λ column at. record { a = at.a; there = at.there; not_null = not_null_before k lesson x by y raise open_ at.not_null }) h.it.columns h.not_null;
       }
 
-  same_kind : (t : Term) → kind_of_term c t ≡ kind_of_term b t
-  same_kind (Unknown n) = refl
-  same_kind (Val v) = refl
-  same_kind (Param n) = refl
-  same_kind (Var n) = refl
-
   may_back : (op : Op) (s t : Term) → MayBeSplit c op s t → MayBeSplit b op s t
   may_back Eq s t h = neither_before k lesson x by y raise open_ h
   may_back Ne s t h = neither_before k lesson x by y raise open_ h
@@ -168,8 +80,8 @@ module _ (p : Problem) (b : Branch) (lesson : Lesson) (x : Term) (by : ℤ) (y :
   fits_back atom h =
       record {
         kind = h.kind;
-        left_is = sym (same_kind atom.left) ∙ h.left_is;
-        right_is = sym (same_kind atom.right) ∙ h.right_is;
+        left_is = sym (same_kind p b more atom.left) ∙ h.left_is;
+        right_is = sym (same_kind p b more atom.right) ∙ h.right_is;
         op = h.op;
         may = may_back atom.op atom.left atom.right h.may;
       }
@@ -210,7 +122,7 @@ module _ (p : Problem) (b : Branch) (lesson : Lesson) (x : Term) (by : ℤ) (y :
       let rows = map (terms_at b) facts in
       record {
         live = record {
-          facts_of = mapping_back side part.from facts h.live.facts_of;
+          facts_of = mapping_back p b more side part.from facts h.live.facts_of;
           live = All-weaker (IsLive l rows) (IsLive k rows) (λ cond at. under rows cond (λ s t left right. live_back cond.op s t) at) part.conds h.live.live;
         };
         head = head_back part facts row h.head;
@@ -227,19 +139,19 @@ module _ (p : Problem) (b : Branch) (lesson : Lesson) (x : Term) (by : ℤ) (y :
   module _ (number other bound : ℕ) (quiet : IsQuietUpto p b number bound) where
     entry_late : (entry round : ℕ) → IsNewOn p c (steps.Entry other entry) → IsRound p c (steps.Entry other entry) round → bound < round
     entry_late entry round new is =
-        quiet (steps.Entry number entry) round (inl (inl (inl (inl (inl (entry, refl)))))) (record { passes = new.passes; tells = λ met. new.tells (entry_met entry met) }) is
+        quiet (steps.Entry number entry) round (inl (inl (inl (inl (inl (entry, refl)))))) (record { passes = new.passes; tells = λ met. new.tells (entry_met p b more entry met) }) is
 
     link_late : (link fact round : ℕ) → IsNewOn p c (steps.Link other link fact) → IsRound p c (steps.Link other link fact) round → bound < round
     link_late link fact round new is =
         quiet (steps.Link number link fact) round (inl (inl (inl (inl (inr (fact, (link, refl)))))))
-        (record { passes = link_passes link fact new.passes; tells = λ met. new.tells (link_met link fact met) })
-        (is ∙ ap (λ r. 1 + r) (same_round (fact ∷ [])))
+        (record { passes = link_passes link fact new.passes; tells = λ met. new.tells (link_met p b more link fact met) })
+        (is ∙ ap (λ r. 1 + r) (same_round p b more (fact ∷ [])))
 
     key_late : (key one two round : ℕ) → IsNewOn p c (steps.Key other key one two) → IsRound p c (steps.Key other key one two) round → bound < round
     key_late key one two round new is =
         quiet (steps.Key number key one two) round (inl (inl (inl (inr (one, (two, (key, refl)))))))
-        (record { passes = key_passes key one two new.passes; tells = λ met. new.tells (key_met one two met) })
-        (is ∙ ap (λ r. 1 + r) (same_round (one ∷ two ∷ [])))
+        (record { passes = key_passes key one two new.passes; tells = λ met. new.tells (key_met p b more one two met) })
+        (is ∙ ap (λ r. 1 + r) (same_round p b more (one ∷ two ∷ [])))
 
     module _ (atom : TermAtom) (fits : SplitFits b atom) (tells : (facts : List ℕ) → IsCandidate p b atom facts → SplitTells p b atom) where
       not_least : (facts : List ℕ) → IsCandidate p b atom facts → 1 + round_of b facts ≤ bound → ((others : List ℕ) → IsCandidate p b atom others → round_of b facts ≤ round_of b others) → ⊥
@@ -274,7 +186,7 @@ module _ (p : Problem) (b : Branch) (lesson : Lesson) (x : Term) (by : ℤ) (y :
       | inl later ↦ later
       | inr early ↦
           let it = is.round_is in
-          let same = same_round is.facts in
+          let same = same_round p b more is.facts in
           absurd (none_early atom (fits_back atom new.passes) (tells_back atom new.tells) (round_of b is.facts) is.facts (candidate_back atom is.facts is.candidate) (omega arith)
           (omega (arith, it, same, early)))
     ]

@@ -45,7 +45,7 @@ module _ (k l : Known) (Old : Term → Type 0) (stands : Term → Term) (itself 
   pub not_null_back : (a : Term) → Old a → ShownNotNull l a → ShownNotNull k a
   not_null_back a there h = subst (ShownNotNull k) (itself a there) (not_null l k stands back h)
 
-  live_on : (op : Op) (a b : Term) → Old a → Old b → IsLiveOf k op a b → IsLiveOf l op a b
+  pub live_on : (op : Op) (a b : Term) → Old a → Old b → IsLiveOf k op a b → IsLiveOf l op a b
   live_on Eq a b first second h = shows_on Eq a b h
   live_on Ne a b first second h = λ no. h (refutes_back Ne a b first second no)
   live_on Lt a b first second h = λ no. h (refutes_back Lt a b first second no)
@@ -53,7 +53,7 @@ module _ (k l : Known) (Old : Term → Type 0) (stands : Term → Term) (itself 
   live_on IsNull a b first second h = λ no. h (refutes_back IsNull a b first second no)
   live_on NotNull a b first second h = λ no. h (refutes_back NotNull a b first second no)
 
-  live_back : (op : Op) (a b : Term) → Old a → Old b → IsLiveOf l op a b → IsLiveOf k op a b
+  pub live_back : (op : Op) (a b : Term) → Old a → Old b → IsLiveOf l op a b → IsLiveOf k op a b
   live_back Eq a b first second h = shows_back Eq a b first second h
   live_back Ne a b first second h = λ no. h (refutes_on Ne a b no)
   live_back Lt a b first second h = λ no. h (refutes_on Lt a b no)

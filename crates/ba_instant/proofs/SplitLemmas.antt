@@ -1,15 +1,14 @@
 -- Splits by atoms of live mappings.
-use Rattle.std.proofs.Common.{◌≡◌, ◌∙◌, ℕ, zero, suc, ◌+◌, ◌<◌, ◌≤◌, ◌⊎◌, inl, inr, List, [], ◌∷◌, get_or, length, map, refl, sym, ap, subst, arith}
+use Rattle.std.proofs.Common.{◌≡◌, ◌∙◌, ℕ, ◌+◌, ◌<◌, ◌≤◌, ◌⊎◌, inl, inr, List, get_or, length, map, refl, sym, ap, subst, arith}
 use Rattle.std.proofs.lemmas.List.Elements.{All-contains}
 use Rattle.std.proofs.lemmas.Option.{get_or_from_slice_get, slice_get-get_or, slice_get_within}
-use Rattle.std.specs.List.{Any, Contains}
+use Rattle.std.specs.List.{Any}
 use Rattle.std.specs.Prelude.{Option, Some, None, slice_get}
 use Rattle.ba_model.specs.declared.query.Atom.{Atom}
 use Rattle.ba_model.specs.declared.query.Op.TheVariants.{Eq}
 use Rattle.ba_model.specs.declared.query.Part.{Part}
-use Rattle.ba_facts.specs.Matches.{AreMatches, GivesAtom, HeadIs, IsMatch, terms_at}
+use Rattle.ba_facts.specs.Matches.{GivesAtom, terms_at}
 use Rattle.ba_facts.specs.declared.branch.Branch.{Branch}
-use Rattle.ba_facts.specs.declared.term.Mapping.{Mapping}
 use Rattle.ba_facts.specs.declared.term.Side.{Side}
 use Rattle.ba_facts.specs.declared.term.Side.TheVariants.{One, Two}
 use Rattle.ba_facts.specs.declared.term.Term.{Term}
@@ -23,20 +22,12 @@ use Rattle.ba_kernel.specs.declared.step.Step.TheVariants as steps
 use Rattle.ba_instant.proofs.ChaseLemmas.{new_on}
 use Rattle.ba_instant.proofs.OfferLemmas.{improves_as, improves_both, improves_next, improves_none}
 use Rattle.ba_instant.specs.Looks.{AreEquations}
-use Rattle.ba_instant.specs.Offers.{Improves, IsNewIn, IsSplitBy, IsSplitOfAtom, IsSplitOfConds, IsSplitOfFacts, IsSplitOfPart, IsSplitOfParts, IsSplitOfRules, IsSplitOfSides, IsSplitOfViews, IsSplitStep, Upto}
+use Rattle.ba_instant.specs.Offers.{Improves, IsNewIn, IsSplitBy, IsSplitOfAtom, IsSplitOfPart, IsSplitOfParts, IsSplitOfRules, IsSplitOfSides, IsSplitOfViews, IsSplitStep, Upto}
 use Rattle.ba_instant.specs.declared.batch.Batch.{Batch}
 use Rattle.ba_instant.specs.declared.order.Pick.{Pick}
 
 some_inj : {X : Type 0} (o : Option X) (x y : X) → o ≡ Some x → o ≡ Some y → x ≡ y
 some_inj o x y left right = cc
-
--- the element that a function takes to one that is there
-contains_map : {X Y : Type 0} (f : X → Y) (xs : List X) (y : Y) → Contains (map f xs) y → Any (λ x. f x ≡ y) xs
-contains_map f [] y (k, below, at) = absurd (omega arith)
-contains_map f (x ∷ xs) y (zero, below, at) = (zero, x, omega arith, refl, at)
-contains_map f (x ∷ xs) y (suc k, below, at) =
-    let it = contains_map f xs y (k, omega arith, at) in
-    (suc it.0, it.1, omega (arith, it.2), it.3, it.4)
 
 -- ---- sets by the elements of a list
 
@@ -80,13 +71,6 @@ module _ (c : Course) (pick : Pick) where
         (λ step e is. ((e.3).0, (e.3).1, (e.3).2, (e.3).3, (e.0, e.1, e.2, (e.3).4))) h
 
     module _ (b : Branch) where
-      pub split_conds : (facts : List ℕ) (conds : List Atom) (old new : Option Batch) → Improves c pick (λ step. Any (λ cond. IsSplitOfAtom b n facts cond step) conds) old new →
-          Improves c pick (IsSplitOfConds b n facts conds) old new
-      split_conds facts conds old new h =
-          improves_as c pick (λ step. Any (λ cond. IsSplitOfAtom b n facts cond step) conds) (IsSplitOfConds b n facts conds) old new
-          (λ step e is. ((e.4).0, (e.4).1, (e.0, e.1, e.2, e.3, (e.4).2)))
-          (λ step e is. ((e.2).0, (e.2).1, (e.2).2, (e.2).3, (e.0, e.1, (e.2).4))) h
-
       pub split_atom : (facts : List ℕ) (cond : Atom) (atom : TermAtom) (old new : Option Batch) → GivesAtom (map (terms_at b) facts) atom cond →
           Improves c pick (λ it. it ≡ steps.Split n atom) old new → Improves c pick (IsSplitOfAtom b n facts cond) old new
       split_atom facts cond atom old new gives h =
@@ -100,33 +84,6 @@ module _ (c : Course) (pick : Pick) where
               let left : one.left ≡ other.left = some_inj _ one.left other.left h.left k.left in
               let right : one.right ≡ other.right = some_inj _ one.right other.right h.right k.right in
               λ i. record { op = op i; left = left i; right = right i }
-
-      -- by the atoms over facts that give the row
-      pub split_facts : (facts : List ℕ) (part : Part) (row : Option (List Term)) (old new : Option Batch) → HeadIs b part facts row →
-          Improves c pick (IsSplitOfConds b n facts part.conds) old new → Improves c pick (IsSplitOfFacts b n part row facts) old new
-      split_facts facts part row old new head h =
-          improves_as c pick (IsSplitOfConds b n facts part.conds) (IsSplitOfFacts b n part row facts) old new (λ step e is. (head, e)) (λ step e is. e.1) h
-
-      -- none is offered where they don't give it
-      pub split_others : (facts : List ℕ) (part : Part) (row : Option (List Term)) (old : Option Batch) → (HeadIs b part facts row → ⊥) → Improves c pick (IsSplitOfFacts b n part row facts) old old
-      split_others facts part row old other = improves_none c pick (IsSplitOfFacts b n part row facts) old (λ step e new. absurd (other e.0))
-
-      -- by the atoms of all live mappings
-      pub split_part : (side : Side) (part : Part) (row : Option (List Term)) (found : List Mapping) (old new : Option Batch) → AreMatches b side part found →
-          Improves c pick (λ step. Any (λ m. IsSplitOfFacts b n part row m.facts step) found) old new → Improves c pick (IsSplitOfPart b n side row part) old new
-      split_part side part row found old new are h =
-          improves_as c pick (λ step. Any (λ m. IsSplitOfFacts b n part row m.facts step) found) (IsSplitOfPart b n side row part) old new
-          (λ step e is.
-          let match_ = All-contains (IsMatch b side part) found e.1 are.sound (e.0, e.2, e.3) in
-          (((e.4).1).0, ((e.4).1).1, (e.1).facts, record { live = match_.live; head = (e.4).0; stands = ((e.4).1).2 }))
-          (λ step e is.
-          let at = contains_map (λ (it : Mapping). it.facts) found e.2 (are.complete e.2 (e.3).live) in (
-            at.0,
-            at.1,
-            at.2,
-            at.3,
-            (subst (λ facts. HeadIs b part facts row) (sym at.4) (e.3).head, (e.0, e.1, subst (λ facts. Any (GivesAtom (map (terms_at b) facts) e.0) part.conds) (sym at.4) (e.3).stands)),
-          )) h
 
       -- no atom of a part that has only equations is split
       pub split_none : (open_ : IsOpen c.slots n b) (side : Side) (part : Part) (row : Option (List Term)) (old : Option Batch) → AreEquations part.conds →

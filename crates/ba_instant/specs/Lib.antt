@@ -1,6 +1,7 @@
 pub mod Order
 pub mod Dues
 pub mod Offers
+pub mod Spreads
 pub mod Windows
 pub mod Loose
 pub mod QuietKeys

@@ -1,5 +1,5 @@
 -- The new steps of the least round in a set, and the sets of steps that are looked through.
-use Rattle.std.specs.Prelude.{◌≡◌, ◌≢◌, ◌⊎◌, ℕ, ◌<◌, List, [], ◌∷◌, ◌++◌, Any, Contains, Bool, false, true, IsTrue, Option, Some, None, map, option_and_then, option_map, slice_get, unwrap_or}
+use Rattle.std.specs.Prelude.{◌≡◌, ◌≢◌, ◌⊎◌, ℕ, ◌<◌, List, [], ◌∷◌, ◌++◌, Contains, Bool, false, true, IsTrue, Option, Some, None, map, option_and_then, option_map, slice_get, unwrap_or}
 use Rattle.std.specs.Ordering.{is_gt, nat_cmp}
 use Rattle.std.specs.declared.cmp.Ordering.{Ordering}
 use Rattle.std.specs.declared.cmp.Ordering.TheVariants.{Less, Equal, Greater}
@@ -11,7 +11,7 @@ use Rattle.ba_model.specs.declared.schema.Rule.{Rule}
 use Rattle.ba_model.specs.declared.schema.Schema.{Schema}
 use Rattle.ba_model.specs.declared.schema.Table.{Table}
 use Rattle.ba_facts.specs.Known.{Known}
-use Rattle.ba_facts.specs.Matches.{GivesAtom, HeadIs, IsLiveAtom, Under, terms_at}
+use Rattle.ba_facts.specs.Matches.{GivesAtom, IsLiveAtom, Under, terms_at}
 use Rattle.ba_facts.specs.Searching.{Completes}
 use Rattle.ba_facts.specs.Shown.{ShowsOf}
 use Rattle.ba_facts.specs.declared.branch.Branch.{Branch}
@@ -237,14 +237,6 @@ IsSplitStep number step = (atom : TermAtom) × (step ≡ steps.Split number atom
 -- by what the part's atom is over the facts
 abbrev pub IsSplitOfAtom : Branch → ℕ → List ℕ → Atom → Step → Type 0
 IsSplitOfAtom b number facts cond step = (atom : TermAtom) × (step ≡ steps.Split number atom) × GivesAtom (map (terms_at b) facts) atom cond
-
--- by what one of the atoms is over them
-abbrev pub IsSplitOfConds : Branch → ℕ → List ℕ → List Atom → Step → Type 0
-IsSplitOfConds b number facts conds step = (atom : TermAtom) × (step ≡ steps.Split number atom) × Any (GivesAtom (map (terms_at b) facts) atom) conds
-
--- the same, if they give the row, where there is one, for the part's head
-abbrev pub IsSplitOfFacts : Branch → ℕ → Part → Option (List Term) → List ℕ → Step → Type 0
-IsSplitOfFacts b number part row facts step = HeadIs b part facts row × IsSplitOfConds b number facts part.conds step
 
 -- by an atom that some facts have by P
 abbrev pub IsSplitBy : (TermAtom → List ℕ → Type 0) → ℕ → Step → Type 0

@@ -1,24 +1,18 @@
 //! Steps by keys that tell only of unknowns of which nothing was learned before.
-ghost use Rattle.std.specs.Prelude.{◌≡◌, ◌↔◌, All, IfOk, IsTrue, false, nat_eq};
-ghost use Rattle.std.specs.Option.{option_copied};
+ghost use Rattle.std.specs.Prelude.{All, IfOk, IsTrue};
 ghost use Rattle.ba_facts.specs.Known.{OneClass};
-ghost use Rattle.ba_instant.specs.QuietKeys.{AreOne, AreQuietMoves, AsksLittle, ColumnsStay, FactStays, IsEquation, IsFilledBy, IsFree, IsQuietKey, IsUnmoved, IsUnmovedIf, LessonStays, moved, stand_in};
+ghost use Rattle.ba_instant.specs.QuietKeys.{AreOne, AreQuietMoves, ColumnsStay, FactStays, IsFilledBy, IsFree, IsQuietKey, LessonStays, stand_in};
 
+use crate::asked::is_left;
+use crate::moves::{Move, are_unmoved, cell, is_unmoved, is_unmoved_if, stand_in};
 use ba_facts::{Branch, Fact, Knowledge, Lesson, Side, Term};
 use ba_kernel::Problem;
-use ba_model::{Atom, Duplicate, Op, Part, Schema, Table};
+use ba_model::{Duplicate, Table};
 use std::alloc::{AllocError, Global};
 
-/// An unknown, by its number, and the term that stands for it.
-#[derive(Drop)]
-pub struct Move {
-    pub unknown: u32,
-    pub term: Term,
-}
-
 /// Whether the step by a key of the two facts tells only of unknowns that stand in nothing that was
-/// learned, and on side Two alone, in no column of a key or a link. Where there are no rules and the
-/// question has equations alone, no other step asks for these.
+/// learned, and on side Two alone, in no column of a key or a link, where neither the question nor a
+/// rule asks for them. No other step does.
 pub fn is_quiet_key(
     alloc: Global,
     problem: &Problem,
@@ -28,9 +22,6 @@ pub fn is_quiet_key(
 ) -> Result<bool, AllocError>
     ensures { IfOk result (λ it. IsTrue it → IsQuietKey problem.now branch.now left right) }
 {
-    if !asks_little(problem) {
-        return Ok(false);
-    }
     let Some(f) = branch.facts.find(left as usize) else {
         return Ok(false);
     };
@@ -47,34 +38,6 @@ pub fn is_quiet_key(
                 g.terms.as_slice(),
             ),
     )
-}
-
-/// Whether there are no rules, and the question has equations alone.
-fn asks_little(problem: &Problem) -> bool
-    ensures { IsTrue result → AsksLittle problem.now }
-{
-    problem.policy.schema.rules.as_slice().is_empty()
-        && problem
-            .goal
-            .parts
-            .as_slice()
-            .iter()
-            .all(|part| has_equations(part))
-}
-
-fn has_equations(part: &Part) -> bool
-    ensures { IsTrue result → All IsEquation part.now.conds }
-{
-    part.conds.as_slice().iter().all(|atom| is_equation(atom))
-}
-
-fn is_equation(atom: &Atom) -> bool
-    ensures { IsTrue result → IsEquation atom.now }
-{
-    match atom.op {
-        Op::Eq => true,
-        _ => false,
-    }
 }
 
 /// For each two terms of a column that aren't of one class the move of one of which nothing was
@@ -134,22 +97,22 @@ fn is_other(term: &Term, unknown: u32) -> bool {
     }
 }
 
-/// Whether the moved unknowns stand in nothing that was learned, on side Two alone, and in no column
-/// of a key or a link.
+/// Whether the moved unknowns stand in nothing that was learned, not in the goal row, and on side Two
+/// alone, where nothing asks for them.
 fn are_quiet(problem: &Problem, branch: &Branch, moves: &[Move]) -> bool
     ensures { IsTrue result → AreQuietMoves problem.now branch.now moves.now }
 {
     let known = &branch.known;
-    let schema = &problem.policy.schema;
     known
         .learned()
         .iter()
         .all(|lesson| lesson_stays(moves, lesson))
+        && are_unmoved(moves, branch.goal.as_slice())
         && branch
             .facts
             .as_slice()
             .iter()
-            .all(|fact| fact_stays(schema, moves, fact))
+            .all(|fact| fact_stays(problem, branch, moves, fact))
         && moves.iter().all(|it| is_filled_by(known, it))
 }
 
@@ -162,41 +125,21 @@ fn lesson_stays(moves: &[Move], lesson: &Lesson) -> bool
     }
 }
 
-fn is_unmoved(moves: &[Move], term: &Term) -> bool
-    ensures { IsTrue result → IsUnmoved moves.now term.now }
+fn fact_stays(problem: &Problem, branch: &Branch, moves: &[Move], fact: &Fact) -> bool
+    ensures { IsTrue result → FactStays problem.now branch.now moves.now fact.now }
 {
-    match term {
-        Term::Unknown(n) => moves.iter().all(|it| is_of_other(it, *n)),
-        Term::Val(_) => true,
-        Term::Param(_) => true,
-        Term::Var(_) => true,
+    are_unmoved(moves, fact.terms.as_slice()) || is_free(problem, branch, moves, fact)
+}
+
+/// Whether the fact is on side Two, none of the moved unknowns stands in a column of a key or a link,
+/// and nothing else asks for them.
+fn is_free(problem: &Problem, branch: &Branch, moves: &[Move], fact: &Fact) -> bool
+    ensures { IsTrue result → IsFree problem.now branch.now moves.now fact.now }
+{
+    if !is_left(problem, branch, moves, fact) {
+        return false;
     }
-}
-
-fn is_of_other(it: &Move, unknown: u32) -> bool
-    ensures { IsTrue result ↔ (nat_eq it.now.unknown unknown ≡ false) }
-{
-    it.unknown != unknown
-}
-
-fn fact_stays(schema: &Schema, moves: &[Move], fact: &Fact) -> bool
-    ensures { IsTrue result → FactStays schema.now moves.now fact.now }
-{
-    are_unmoved(moves, fact.terms.as_slice()) || is_free(schema, moves, fact)
-}
-
-fn are_unmoved(moves: &[Move], terms: &[Term]) -> bool
-    ensures { IsTrue result → All (IsUnmoved moves.now) terms.now }
-{
-    terms.iter().all(|term| is_unmoved(moves, term))
-}
-
-/// Whether the fact is on side Two, and none of the moved unknowns stands in a column of a key or a
-/// link.
-fn is_free(schema: &Schema, moves: &[Move], fact: &Fact) -> bool
-    ensures { IsTrue result → IsFree schema.now moves.now fact.now }
-{
-    let Some(table) = schema.tables.find(fact.table as usize) else {
+    let Some(table) = problem.policy.schema.tables.find(fact.table as usize) else {
         return false;
     };
     let terms = fact.terms.as_slice();
@@ -228,16 +171,7 @@ fn columns_stay(moves: &[Move], terms: &[Term], columns: &[u32]) -> bool
 {
     columns
         .iter()
-        .all(|column| is_unmoved_if(moves, terms.get(*column as usize)))
-}
-
-fn is_unmoved_if(moves: &[Move], term: Option<&Term>) -> bool
-    ensures { IsTrue result → IsUnmovedIf moves.now (option_copied term.entry) }
-{
-    match term {
-        Some(term) => is_unmoved(moves, term),
-        None => true,
-    }
+        .all(|column| is_unmoved_if(moves, cell(terms, *column)))
 }
 
 /// Whether the move's term is never NULL, if its unknown is never.
@@ -266,36 +200,5 @@ fn are_one(known: &Knowledge, moves: &[Move], left: &[Term], right: &[Term]) -> 
 fn is_one(known: &Knowledge, moves: &[Move], a: &Term, b: &Term) -> bool
     ensures { IsTrue result → OneClass known.now (stand_in moves.now a.now) (stand_in moves.now b.now) }
 {
-    known.one_class(stand_in(moves, a).by_ref(), stand_in(moves, b).by_ref())
-}
-
-/// The term that stands for this one: itself, if there is no move of it.
-fn stand_in<'a>(moves: &'a [Move], term: &'a Term) -> &'a Term
-    ensures { result.now ≡ stand_in moves.now term.now }
-{
-    match term {
-        Term::Unknown(n) => match moved(moves, *n) {
-            Some(other) => other,
-            None => term,
-        },
-        Term::Val(_) => term,
-        Term::Param(_) => term,
-        Term::Var(_) => term,
-    }
-}
-
-/// The term that the first move of the unknown has.
-fn moved(moves: &[Move], unknown: u32) -> Option<&Term>
-    ensures { option_copied result ≡ moved moves.now unknown }
-{
-    match moves.split_first() {
-        Some((first, rest)) => {
-            if first.unknown == unknown {
-                Some(&first.term)
-            } else {
-                moved(rest, unknown)
-            }
-        }
-        None => None,
-    }
+    known.one_class(stand_in(moves, a.by_ref()), stand_in(moves, b.by_ref()))
 }

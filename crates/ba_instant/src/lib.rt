@@ -3,6 +3,8 @@
 #![tactic(auto)]
 
 mod agenda;
+mod alike;
+mod asked;
 mod batch;
 mod chases;
 mod choices;
@@ -15,11 +17,14 @@ mod keys;
 pub mod laws;
 mod loose;
 mod mapped;
+mod moves;
 mod order;
 mod parts;
 mod quiet;
+mod reach;
 mod recent;
 mod splits;
+mod spread;
 mod standing;
 mod waiting;
 

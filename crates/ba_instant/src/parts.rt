@@ -1,14 +1,15 @@
 //! Rules, views and the goal.
 ghost use Rattle.std.specs.Prelude.{◌≡◌, ◌<◌, OnOk, Some, length, slice_get};
 ghost use Rattle.ba_instant.specs.Looks.{IsLook};
-ghost use Rattle.ba_instant.specs.Offers.{Improves, IsGoalStep, IsOfRule, IsOfSides, IsOfView, IsRuleStep, IsViewStep};
-ghost use Rattle.ba_instant.specs.declared.mapped.Form.TheVariants.{OfRule};
+ghost use Rattle.ba_instant.specs.Offers.{Improves, IsGoalStep, IsOfForm, IsOfRule, IsOfSides, IsOfView, IsRuleStep, IsViewStep};
+ghost use Rattle.ba_instant.specs.declared.mapped.Form.TheVariants.{OfGoal, OfRule};
 
 use crate::batch::{Batch, is_timely};
 use crate::found::{Spot, counted};
 use crate::mapped::{Form, Mapped};
-use ba_facts::Side;
-use ba_model::{Part, Rule, View};
+use crate::reach::Reach;
+use ba_facts::{Side, Term};
+use ba_model::{List, Part, Rule, View};
 use std::alloc::AllocError;
 
 impl<'a> Spot<'a> {
@@ -163,10 +164,30 @@ impl<'a> Spot<'a> {
     {
         let count = counted(self.goal_parts().len())?;
         for part in 0..count {
+            self.offer_goal(part, best)?;
+        }
+        Ok(())
+    }
+
+    /// Offers the steps that reach the goal by the part. They are listed only where there is one.
+    fn offer_goal(&self, number: u32, best: &mut Option<Batch>) -> Result<(), AllocError>
+        requires look { IsLook self.now.search.now self.now.number self.now.branch.now self.now.quiet self.now.recent.now }
+        requires below { number < length self.now.search.now.problem.goal.parts }
+        ensures { OnOk result (Improves self.now.search.now self.now.pick (IsOfForm self.now.number (OfGoal number)) best.old best.new) }
+    {
+        let part = self.goal_part(number);
+        let row: &List<Term> = &self.branch.goal;
+        let reach = Reach {
+            alloc: self.alloc,
+            branch: self.branch,
+            part,
+            row,
+        };
+        if reach.is_reached()? {
             let mapped = Mapped {
                 spot: &*self,
-                form: Form::OfGoal { part },
-                part: self.goal_part(part),
+                form: Form::OfGoal { part: number },
+                part,
                 side: Side::Two,
             };
             mapped.offer(best)?;

@@ -1,19 +1,18 @@
 //! Splits by atoms of live mappings.
-ghost use Rattle.std.specs.Prelude.{◌≡◌, ◌↔◌, ◌⊎◌, IfOk, IsTrue, OnOk, Some, map};
-ghost use Rattle.std.specs.List.{AllZip};
+ghost use Rattle.std.specs.Prelude.{◌≡◌, ◌↔◌, ◌⊎◌, IfOk, IsTrue, OnOk};
 ghost use Rattle.std.specs.Option.{option_copied};
 ghost use Rattle.ba_facts.specs.Known.{seen};
-ghost use Rattle.ba_facts.specs.Matches.{AreTheSame, HeadIs, row_of, term_of, terms_at};
 ghost use Rattle.ba_facts.specs.declared.term.Side.TheVariants.{One, Two};
 ghost use Rattle.ba_instant.specs.Looks.{AreEquations, IsLook};
-ghost use Rattle.ba_instant.specs.Offers.{Improves, IsSplitOfAtom, IsSplitOfConds, IsSplitOfFacts, IsSplitOfPart, IsSplitOfParts, IsSplitOfRules, IsSplitOfSides, IsSplitOfViews, IsSplitStep};
+ghost use Rattle.ba_instant.specs.Offers.{Improves, IsSplitOfAtom, IsSplitOfPart, IsSplitOfParts, IsSplitOfRules, IsSplitOfSides, IsSplitOfViews, IsSplitStep};
 
 use crate::batch::{Batch, is_timely};
 use crate::found::Spot;
+use crate::spread::Spread;
 use crate::standing::least_standing;
-use ba_facts::{Branch, Side, Term, TermAtom, TermRef};
+use ba_facts::{Side, Term, TermAtom, TermRef};
 use ba_kernel::Step;
-use ba_model::{Atom, Duplicate, List, Op, Operand, Part, Rule, Same, View};
+use ba_model::{Atom, Duplicate, List, Op, Part, Rule, Same, View};
 use std::alloc::{AllocError, Global};
 
 impl<'a> Spot<'a> {
@@ -104,50 +103,19 @@ impl<'a> Spot<'a> {
         if are_equations(part) {
             return Ok(());
         }
-        let found = self.branch.matches(self.alloc, part, side)?;
-        for mapping in found.as_slice() {
-            self.offer_facts(mapping.facts.as_slice(), part, row, best)?;
-        }
-        Ok(())
-    }
-
-    /// Offers the splits by the part's atoms over the facts, if these give the row, where there is one.
-    fn offer_facts(
-        &self,
-        facts: &[u32],
-        part: &Part,
-        row: Option<&List<Term>>,
-        best: &mut Option<Batch>,
-    ) -> Result<(), AllocError>
-        requires { IsLook self.now.search.now self.now.number self.now.branch.now self.now.quiet self.now.recent.now }
-        ensures { OnOk result (Improves self.now.search.now self.now.pick (IsSplitOfFacts self.now.branch.now self.now.number part.now (option_copied row.entry) facts.now) best.old best.new) }
-    {
-        if has_row(self.branch, part, facts, row) {
-            self.offer_atoms(facts, part.conds.as_slice(), best)?;
-        }
-        Ok(())
-    }
-
-    /// Offers the splits by the atoms over the facts.
-    fn offer_atoms(
-        &self,
-        facts: &[u32],
-        conds: &[Atom],
-        best: &mut Option<Batch>,
-    ) -> Result<(), AllocError>
-        requires { IsLook self.now.search.now self.now.number self.now.branch.now self.now.quiet self.now.recent.now }
-        ensures { OnOk result (Improves self.now.search.now self.now.pick (IsSplitOfConds self.now.branch.now self.now.number facts.now conds.now) best.old best.new) }
-    {
-        for atom in conds {
-            self.offer_atom(facts, atom, best)?;
-        }
-        Ok(())
+        let spread = Spread {
+            spot: &*self,
+            part,
+            side,
+            row,
+        };
+        spread.offer(best)
     }
 
     /// Offers the split by the atom over the facts. Its round, which takes long to find, is past the quiet
     /// ones and past those of the facts in which its terms stand: where a step of an earlier round was
     /// found, or a split of the same that is picked before, it isn't looked at.
-    fn offer_atom(
+    pub fn offer_atom(
         &self,
         facts: &[u32],
         atom: &Atom,
@@ -171,40 +139,6 @@ impl<'a> Spot<'a> {
             }
             _ => Ok(()),
         }
-    }
-}
-
-/// Whether the part's head over the facts is the same as the row, if one is given.
-fn has_row(branch: &Branch, part: &Part, facts: &[u32], row: Option<&List<Term>>) -> bool
-    ensures { IsTrue result ↔ HeadIs branch.now part.now facts.now (option_copied row.entry) }
-{
-    match row {
-        Some(row) => is_row(branch, part.head.as_slice(), facts, row.as_slice()),
-        None => true,
-    }
-}
-
-fn is_row(branch: &Branch, head: &[Operand], facts: &[u32], row: &[Term]) -> bool
-    ensures { IsTrue result ↔ AllZip (AreTheSame branch.now.known) (row_of branch.now facts.now head.now) (map Some row.now) }
-{
-    if head.len() != row.len() {
-        return false;
-    }
-    for i in 0..head.len() {
-        if !is_same(branch, facts, &head[i], &row[i]) {
-            return false;
-        }
-    }
-    true
-}
-
-/// Whether the operand over the facts stands for a term that is the same as the other.
-fn is_same(branch: &Branch, facts: &[u32], operand: &Operand, other: &Term) -> bool
-    ensures { IsTrue result ↔ AreTheSame branch.now.known (term_of (map (terms_at branch.now) facts.now) operand.now) (Some other.now) }
-{
-    match branch.term_of(facts, operand) {
-        Some(term) => branch.known.same(term, other.by_ref()),
-        None => false,
     }
 }
 

@@ -1,7 +1,6 @@
-use Rattle.std.proofs.Common.{◌≡◌, ◌≤◌, arith, length}
+use Rattle.std.proofs.Common.{◌≤◌, arith, length}
 use Rattle.std.proofs.lemmas.Grind.{common_steps}
-use Rattle.std.specs.Prelude.{Some, slice_get}
-use Rattle.ba_instant.proofs.MapLemmas.{goal_mapped, goal_past}
+use Rattle.ba_instant.proofs.MapLemmas.{goal_past}
 use Rattle.ba_instant.proofs.OfferLemmas.{improves_end, improves_next}
 use Rattle.ba_instant.specs.Offers.{IsOfForm}
 use Rattle.ba_instant.specs.declared.mapped.Form.TheVariants.{OfGoal}
@@ -9,9 +8,7 @@ use Rattle.ba_instant.proofs.found.Spot.offer_goals.Goals as goal
 
 pub loop-part-preserved : goal.loop-part-preserved
 loop-part-preserved c =
-    let there : slice_get c.args.self.now.search.now.problem.goal.parts c.loop-part.part ≡ Some c.goal_part.result.now = c.goal_part.ensures in
-    improves_next c.args.self.now.search.now c.args.self.now.pick (λ part. IsOfForm c.args.self.now.number (OfGoal part)) c.loop-part.part c.args.best.now c.loop-part.best c.offer.new.best c.loop-part.invariant
-    (goal_mapped c.args.self.now.search.now c.args.self.now.number c.args.self.now.branch.now c.requires.open_ c.args.self.now.pick c.loop-part.part c.goal_part.result.now c.loop-part.best c.offer.new.best there c.in_ok-offer.ensures)
+    improves_next c.args.self.now.search.now c.args.self.now.pick (λ part. IsOfForm c.args.self.now.number (OfGoal part)) c.loop-part.part c.args.best.now c.loop-part.best c.offer_goal.new.best c.loop-part.invariant c.in_ok-offer_goal.ensures
 
 pub returns : goal.returns
 returns c =

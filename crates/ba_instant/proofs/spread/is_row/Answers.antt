@@ -1,6 +1,6 @@
 use Rattle.std.proofs.Common.{◌<◌, arith, length}
 use Rattle.ba_facts.proofs.RoundLemmas.{pair_fails, pair_more}
-use Rattle.ba_instant.proofs.splits.is_row.Goals as goal
+use Rattle.ba_instant.proofs.spread.is_row.Goals as goal
 
 pub returns-then-not-is_same : goal.returns-then-not-is_same
 returns-then-not-is_same c = (

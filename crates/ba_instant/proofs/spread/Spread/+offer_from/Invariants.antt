@@ -1,0 +1,19 @@
+use Rattle.std.proofs.Common.{◌≡◌, ◌<◌, length}
+use Rattle.std.specs.List.{All}
+use Rattle.std.specs.Option.{option_copied}
+use Rattle.ba_instant.proofs.SpreadLemmas.{By}
+use Rattle.ba_instant.specs.Offers.{Improves, Upto}
+use Rattle.ba_instant.proofs.spread.Spread.+offer_from.Given as goal
+
+abbrev pub decreases-offer_from : goal.decreases-offer_from
+decreases-offer_from l = length l.from.now
+
+-- the chosen facts are as before, those that were tried are earlier ones, and the splits with the facts so far were offered
+abbrev pub invariant-loop-fact : goal.invariant-loop-fact
+invariant-loop-fact l = record {
+  chosen : l.chosen.items ≡ l.fn.chosen.items;
+  tried : All (λ other. other < l.fact) l.tried.items;
+  best : Improves l.self.spot.now.search.now l.self.spot.now.pick
+      (Upto (By l.self.spot.now.search.now l.self.spot.now.pick l.self.spot.now.branch.now l.self.spot.now.number l.self.side l.self.part.now (option_copied l.self.row) l.table l.rest l.fn.chosen.items)
+      l.fact) l.fn.best l.best;
+}
