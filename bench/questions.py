@@ -10,6 +10,12 @@ OWN = "SELECT UId, EId, At FROM Attendances WHERE UId = 2"
 ENTRIES = [(1, False), (8, False), (8, True), (64, False), (64, True), (255, False), (256, True)]
 # How many views a policy has: the greatest number is the most that it may have.
 VIEWS = [1, 8, 128]
+# How many rows are recorded, by one ask, before a question that compares.
+COMPARED = [1, 8, 64, 256]
+# How many answers of a hundred rows each, whose questions compare the rows' keys, are recorded before a question.
+ANSWERS = [1, 2, 5, 10]
+# The budgets that the hard case has.
+HARD_STEPS = [60, 120, 250, 500, 1_000, 2_000]
 # The budgets that are spent: the least that there may be, and on.
 STEPS = [16, 50, 100, 500, 1_000, 2_000, 5_000, 10_000, 20_000]
 
@@ -26,6 +32,12 @@ def after(count, event, said, is_together=False):
     question = f"SELECT Title FROM Events WHERE EId = {event}"
     name = f"title_after_{count}_own_attendances"
     return Ask(name, SCHEMA, POLICY, attended(count), {"MyUId": 2}, before, question, said)
+
+
+def compared_after(count):
+    """Another event's title, if the event is short, after so many recorded attendances, all by one ask."""
+    ask = after(count, 4, "refuted", True)
+    return ask._replace(name=f"{ask.name}_compared", question=f"{ask.question} AND Duration < 100")
 
 
 def cyclic(steps):
@@ -82,12 +94,12 @@ def in_chain(name, question):
     return Ask(name, CHAIN, COMPARED, {"T": [[1, 1, 1, 2]]}, {}, [], question, "")
 
 
-def many_rows():
-    """A trace of 255 entries with 100 rows each."""
-    tables = {"Users": [[n, f"name{n}"] for n in range(25_500)], "Events": [], "Attendances": []}
-    before = [f"SELECT UId, Name FROM Users WHERE UId >= {n * 100} AND UId < {n * 100 + 100}" for n in range(255)]
+def many_rows(answers, said=""):
+    """A trace of so many entries with 100 rows each."""
+    tables = {"Users": [[n, f"name{n}"] for n in range(answers * 100)], "Events": [], "Attendances": []}
+    before = [f"SELECT UId, Name FROM Users WHERE UId >= {n * 100} AND UId < {n * 100 + 100}" for n in range(answers)]
     question = "SELECT Title FROM Events WHERE EId = 5"
-    return Ask("25,500 recorded rows", SCHEMA, POLICY, tables, {"MyUId": 2}, before, question, "")
+    return Ask(f"{answers * 100:,} recorded rows", SCHEMA, POLICY, tables, {"MyUId": 2}, before, question, said)
 
 
 def hidden_last():
@@ -121,11 +133,16 @@ def greatest(wide):
     return Ask("32 parts after 25,500 recorded rows", CHAIN, COMPARED, tables, {}, before, wide, "")
 
 
+def hard(steps):
+    """Eight linked rows under 40 comparisons, with a budget."""
+    return in_chain(f"{steps:,} steps", chain(40))._replace(budget=steps)
+
+
 def slow():
     """Questions within the limits that take long."""
     wide = " UNION ".join(chain(63, f"t0.A < {n}") for n in range(32))
     return [in_chain("eight linked rows, 40 comparisons", chain(40)), in_chain("32 parts of 64 comparisons", wide)] + [
-        many_rows(),
+        many_rows(255),
         hidden_last(),
         odd_circle(),
         eight_places(),

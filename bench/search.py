@@ -3,7 +3,7 @@
 
     bench/search.py [--program FILE] [--parts PART,..] [--asks N] [--checks N] [--runs N] [--seconds N] [--memory MIB]
 
-The parts are `kinds` (with the solvers that are installed), `entries`, `views`, `memory` and `slow`. Each prints a table in Markdown. Without
+The parts are `kinds` (with the solvers that are installed), `entries`, `compared`, `views`, `memory`, `hard` and `slow`. Each prints a table in Markdown. Without
 --program it has the repository's own `blockaid` proved and built first; `--program none` measures the solvers alone.
 A solver has to say `sat` where the program refutes and `unsat` where it proves.
 """
@@ -95,6 +95,15 @@ class Bench:
             times = [f"{cost} ({count})" if cost else "" for count, cost in cells]
             line(count, "one ask" if is_together else "an ask each", *times)
 
+    def compared(self):
+        table("recorded rows, by one ask", "other short event, refuted (asks)")
+        for count in questions.COMPARED:
+            asked, cost = self.asked(questions.compared_after(count), max(1, self.given.asks // 10))
+            line(count, f"{cost} ({asked})")
+        table("recorded rows, by questions that compare", "said", "s", "MiB of the question", "MiB")
+        for answers in questions.ANSWERS:
+            line(f"{answers * 100:,}", *self.once(questions.many_rows(answers, "refuted")))
+
     def views(self):
         table("views", "asks", "first ask, refuted", "after an attendance, proof")
         for count in questions.VIEWS:
@@ -120,6 +129,11 @@ class Bench:
         for steps in questions.STEPS:
             line(f"{steps:,}", *self.once(questions.cyclic(steps)))
 
+    def hard(self):
+        table("steps", "said", "s", "MiB of the question", "MiB")
+        for steps in questions.HARD_STEPS:
+            line(f"{steps:,}", *self.once(questions.hard(steps)))
+
     def slow(self):
         table("question", "said", "s", "MiB of the question", "MiB")
         for ask in questions.slow():
@@ -128,7 +142,7 @@ class Bench:
 
 def arguments():
     reader = argparse.ArgumentParser(description=__doc__, formatter_class=argparse.RawDescriptionHelpFormatter)
-    parts = ["kinds", "entries", "views", "memory", "slow"]
+    parts = ["kinds", "entries", "compared", "views", "memory", "hard", "slow"]
     reader.add_argument("--program", help="the program to measure, or `none`")
     reader.add_argument("--parts", type=lambda text: text.split(","), default=parts)
     reader.add_argument("--asks", type=int, default=10_000, help="how often a question is asked")
