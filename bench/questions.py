@@ -11,7 +11,7 @@ ENTRIES = [(1, False), (8, False), (8, True), (64, False), (64, True), (255, Fal
 # How many views a policy has: the greatest number is the most that it may have.
 VIEWS = [1, 8, 128]
 # How many rows are recorded, by one ask, before a question that compares.
-COMPARED = [1, 8, 64, 256]
+COMPARED_ROWS = [1, 8, 64, 256]
 # How many answers of a hundred rows each, whose questions compare the rows' keys, are recorded before a question.
 ANSWERS = [1, 2, 5, 10]
 # The budgets that the hard case has.

@@ -97,7 +97,7 @@ class Bench:
 
     def compared(self):
         table("recorded rows, by one ask", "other short event, refuted (asks)")
-        for count in questions.COMPARED:
+        for count in questions.COMPARED_ROWS:
             asked, cost = self.asked(questions.compared_after(count), max(1, self.given.asks // 10))
             line(count, f"{cost} ({asked})")
         table("recorded rows, by questions that compare", "said", "s", "MiB of the question", "MiB")
