@@ -1,6 +1,6 @@
 //! What is told of a fault.
 
-use crate::place::{LIST_CHARS, Mark, Place, shown};
+use ba_place::{LIST_CHARS, Mark, Place, shown};
 use std::alloc::{AllocError, Global};
 
 /// Where a fault stands.

@@ -1,8 +1,8 @@
 //! Where a text has no tokens.
 
 use crate::hint::{Hint, Spot};
-use crate::place::{Mark, WORD_CHARS, shown};
 use ba_lex::LexFault;
+use ba_place::{Mark, WORD_CHARS, shown};
 use std::alloc::{AllocError, Global};
 
 /// Classes of bytes.

@@ -7,7 +7,6 @@
 mod grammar;
 mod hint;
 mod lex;
-mod place;
 mod policy;
 mod query;
 mod rows;
@@ -18,7 +17,6 @@ mod walk;
 mod words;
 
 pub use hint::{Hint, Spot};
-pub use place::{Mark, WORD_CHARS, Window, shown};
 pub use policy::policy_hint;
 pub use query::question_hint;
 pub use rows::{key_hint, link_hint, rows_hint};

@@ -1,9 +1,9 @@
 //! Files of rows that aren't read, or break a key or a link.
 
 use crate::hint::{Hint, Spot, listed};
-use crate::place::{Place, WORD_CHARS, shown};
 use crate::sight::push_columns;
 use ba_model::{Failure, Link, Schema, Table};
+use ba_place::{Place, WORD_CHARS, shown};
 use ba_tables::{TableFault, rows_of_file};
 use csv::{ByteRecord, ReaderBuilder};
 use std::alloc::{AllocError, Global};

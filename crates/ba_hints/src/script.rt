@@ -1,8 +1,8 @@
 //! Lines of a script that are none.
 
 use crate::hint::{Hint, Spot, listed};
-use crate::place::{WORD_CHARS, shown};
 use ba_model::{Counted, Failure, Kind, List, Parameter, Str};
+use ba_place::{WORD_CHARS, shown};
 use ba_script::{
     Given, LineFault, Member, ScriptFault, ScriptLine, read_line, read_script, script_lines,
 };

@@ -2,9 +2,9 @@
 
 use crate::grammar::Term;
 use crate::hint::{Hint, Spot};
-use crate::place::{Mark, WORD_CHARS, shown};
 use crate::walk::Taken;
 use ba_lex::{Lexeme, Token};
+use ba_place::{Mark, WORD_CHARS, shown};
 use std::alloc::{AllocError, Global};
 
 /// Tokens, and what the first of them were taken for.

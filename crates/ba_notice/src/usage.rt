@@ -1,6 +1,6 @@
 //! Words that are no command's form.
 
-use ba_hints::{WORD_CHARS, shown};
+use ba_place::{WORD_CHARS, shown};
 use std::alloc::{AllocError, Global};
 
 /// A command.

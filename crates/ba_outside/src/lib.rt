@@ -9,9 +9,11 @@
 mod count;
 mod disk_files;
 mod files;
+mod first_piece;
 mod free_gate;
 mod gate;
 mod hold_gate;
+mod kept_files;
 mod mem_files;
 mod mem_sink;
 mod sink;
@@ -21,9 +23,11 @@ mod sure_sink;
 
 pub use disk_files::DiskFiles;
 pub use files::{Files, ReadFail};
+pub use first_piece::FirstPiece;
 pub use free_gate::FreeGate;
 pub use gate::Gate;
 pub use hold_gate::HoldGate;
+pub use kept_files::KeptFiles;
 pub use mem_files::{Held, MemFiles};
 pub use mem_sink::MemSink;
 pub use sink::{Sink, WriteFail};

@@ -1,15 +1,14 @@
 //! A run, and its replies in words.
 
 use crate::given::Given;
-use crate::outside::{FirstPiece, KeptFiles};
 use crate::page::Page;
 use crate::telling::tell;
 use crate::words::{Names, Wanted};
 use ba_command::WordsFault;
 use ba_lanes::Journal;
 use ba_model::Failure;
-use ba_notice::notice;
-use ba_outside::{FreeGate, Held};
+use ba_notice::{FolderFiles, notice};
+use ba_outside::{FirstPiece, FreeGate, Held, KeptFiles};
 use ba_top::{Outcome, blockaid};
 use std::alloc::{AllocError, Global};
 use std::io;
@@ -87,7 +86,9 @@ where
     let Ok(system) = rt.clone() else {
         return Err(AllocError);
     };
-    let mut files = KeptFiles::new(system, alloc, asked.prefix, names);
+    let wanted = names.all();
+    let folder = FolderFiles::new(system, alloc, asked.prefix);
+    let mut files = KeptFiles::new(alloc, folder, &wanted);
     let mut sink = FirstPiece::new(alloc);
     let outcome = blockaid(rt, alloc, asked.words, &mut files, &mut sink, &FreeGate);
     match &outcome.journal {
@@ -95,7 +96,7 @@ where
             let told = tell_all(alloc, files.kept(), names, journal, asked, out);
             Ok(Explained::told(alloc, status_of(&told, outcome.status)))
         }
-        None => complaint_of(rt, asked, files.asked(), &outcome, sink.text()),
+        None => complaint_of(rt, asked, files.files().asked(), &outcome, sink.text()),
     }
 }
 

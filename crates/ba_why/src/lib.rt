@@ -5,7 +5,6 @@ mod cover;
 mod derivation;
 mod explanation;
 mod given;
-mod outside;
 mod page;
 mod proof;
 mod refuted;

@@ -2,7 +2,8 @@
 
 use crate::given::Given;
 use crate::page::Page;
-use ba_hints::{Spot, Window, question_hint};
+use ba_hints::{Spot, question_hint};
+use ba_place::Window;
 use ba_sql_query::ReadQueryFault;
 use std::alloc::{AllocError, Global};
 

@@ -39,8 +39,12 @@ impl Names {
         }
     }
 
-    /// Whether this is one of them.
-    pub fn has(&self, name: &str) -> bool {
-        self.schema.as_str() == name || self.policy.as_str() == name || self.script.as_str() == name
+    /// All of them.
+    pub fn all(&self) -> [&str; 3] {
+        [
+            self.schema.as_str(),
+            self.policy.as_str(),
+            self.script.as_str(),
+        ]
     }
 }
