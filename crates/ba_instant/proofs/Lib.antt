@@ -9,6 +9,7 @@ mod LateLemmas
 mod LookLemmas
 mod PairLemmas
 mod TakeLemmas
+mod OvertakenLemmas
 mod PickLemmas
 mod DistinctLemmas
 mod AgendaLemmas

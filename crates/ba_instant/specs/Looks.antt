@@ -13,11 +13,14 @@ use Rattle.ba_kernel.specs.News.{IsNewOn, IsRound}
 use Rattle.ba_kernel.specs.Tests.{Course, KeyPasses}
 use Rattle.ba_kernel.specs.declared.problem.Problem.{Problem}
 use Rattle.ba_kernel.specs.declared.step.Step.{Step}
-use Rattle.ba_instant.specs.Offers.{IsKeyOfPair, IsKeyStep, fact_round}
+use Rattle.ba_kernel.specs.declared.step.Step.TheVariants as steps
+use Rattle.ba_instant.specs.Offers.{IsKeyOfPair, IsKeyStep, Leads, fact_round}
 use Rattle.ba_instant.specs.Windows.{IsQuietUpto}
 use Rattle.ba_instant.specs.declared.batch.Batch.{Batch}
 use Rattle.ba_instant.specs.declared.mapped.Form.{Form}
 use Rattle.ba_instant.specs.declared.mapped.Form.TheVariants.{OfRule, OfView, OfGoal}
+use Rattle.ba_instant.specs.declared.order.Pick.{Pick}
+use Rattle.ba_instant.specs.declared.order.Pick.TheVariants.{First}
 
 -- ---- recent facts
 
@@ -47,6 +50,17 @@ abbrev pub IsTimelyOf : Branch → Form → ℕ → Option Batch → Type 0
 IsTimelyOf b (OfRule rule part) fact best = IsTimely (fact_round b fact) best
 IsTimelyOf b (OfView view part) fact best = IsTimely (fact_round b fact) best
 IsTimelyOf b (OfGoal part) fact best = Unit {0}
+
+-- one of round 0, which closes its branch, was found that isn't picked after the step
+abbrev pub IsBehind : Pick → Option Batch → Step → Type 0
+IsBehind pick None step = ⊥
+IsBehind pick (Some best) step = (best.round ≡ 0) × Leads pick best.single step
+
+-- the first of the steps that reach the goal is looked for, and one was found that isn't picked after that on the chosen facts, nor so after one on more
+abbrev pub IsOvertaken : Pick → ℕ → Form → Option Batch → List ℕ → Type 0
+IsOvertaken pick number (OfRule rule part) best chosen = ⊥
+IsOvertaken pick number (OfView view part) best chosen = ⊥
+IsOvertaken pick number (OfGoal part) best chosen = (pick ≡ First) × IsBehind First best (steps.Goal number part chosen)
 
 -- the least round of a step of the form on the facts
 abbrev pub least_round : Branch → Form → List ℕ → ℕ

@@ -1,7 +1,7 @@
 //! The new steps of the least round that were found so far.
 ghost use Rattle.std.specs.Prelude.{◌≡◌, ◌↔◌, IfOk, IsTrue, OnOk, Some};
 ghost use Rattle.std.specs.Ordering.{nat_cmp};
-ghost use Rattle.ba_instant.specs.Looks.{IsTimely};
+ghost use Rattle.ba_instant.specs.Looks.{IsBehind, IsTimely};
 ghost use Rattle.ba_instant.specs.Offers.{Leads, Reaches, batch_of, empty_batch, first_single, is_single, with_found, with_found_by, with_step};
 
 use crate::found::Found;
@@ -145,6 +145,16 @@ pub fn is_reached(pick: Pick, best: &Option<Batch>, round: u64, step: &Step) -> 
 {
     match best {
         Some(batch) => batch.has_passed(pick, round, step),
+        None => false,
+    }
+}
+
+/// Whether one that closes the branch was found that isn't picked after the step.
+pub fn is_behind(pick: Pick, best: &Option<Batch>, step: &Step) -> bool
+    ensures { IsTrue result → IsBehind pick best.now step.now }
+{
+    match best {
+        Some(batch) => batch.round == 0 && is_led(pick, &batch.single, step),
         None => false,
     }
 }

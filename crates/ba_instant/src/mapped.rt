@@ -2,11 +2,12 @@
 ghost use Rattle.std.specs.Prelude.{◌≡◌, ◌↔◌, [], ◌∷◌, Any, IfOk, IsTrue, OnOk};
 ghost use Rattle.ba_facts.specs.Matches.{IsFactOf};
 ghost use Rattle.ba_kernel.specs.Effects.{rows_at};
-ghost use Rattle.ba_instant.specs.Looks.{AreOld, IsLook, IsTimelyOf, least_round};
+ghost use Rattle.ba_instant.specs.Looks.{AreOld, IsLook, IsOvertaken, IsTimelyOf, least_round};
 ghost use Rattle.ba_instant.specs.Offers.{Improves, IsHidden, IsMapped, IsMappedFrom, step_of};
 
-use crate::batch::{Batch, is_timely};
+use crate::batch::{Batch, is_behind, is_timely};
 use crate::found::{Spot, counted};
+use crate::order::Pick;
 use crate::recent::{fact_round, greatest_round};
 use ba_facts::{Branch, Side};
 use ba_kernel::Step;
@@ -83,6 +84,9 @@ impl<'a> Mapped<'a> {
         let Some((table, rest)) = from.split_first() else {
             return self.offer_on(chosen, best);
         };
+        if self.is_overtaken(chosen, best)? {
+            return Ok(());
+        }
         if is_hopeless(self.spot.branch, self.part, chosen) {
             return Ok(());
         }
@@ -155,6 +159,21 @@ impl<'a> Mapped<'a> {
             Form::OfRule { .. } => self.spot.offer_at(round, step, best),
             Form::OfView { .. } => self.spot.offer_at(round, step, best),
             Form::OfGoal { .. } => self.spot.offer_late(round, step, best),
+        }
+    }
+
+    /// Whether a step that reaches the goal was found that isn't picked after any on facts that begin
+    /// with the chosen ones.
+    fn is_overtaken(&self, chosen: &[u32], best: &Option<Batch>) -> Result<bool, AllocError>
+        ensures { IfOk result (λ it. IsTrue it → IsOvertaken self.now.spot.now.pick self.now.spot.now.number self.now.form best.now chosen.now) }
+    {
+        match (self.form, self.spot.pick, best) {
+            (Form::OfGoal { .. }, Pick::First, Some(_)) => {
+                let facts = copied(self.spot.alloc, chosen)?;
+                let step = self.form.on(self.spot.number, facts);
+                Ok(is_behind(Pick::First, best, &step))
+            }
+            _ => Ok(false),
         }
     }
 

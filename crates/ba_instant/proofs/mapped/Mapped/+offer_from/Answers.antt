@@ -2,6 +2,7 @@ use Rattle.std.proofs.Common.{◌≡◌, ◌≤◌, arith, length}
 use Rattle.std.proofs.lemmas.Grind.{common_steps}
 use Rattle.ba_facts.proofs.SearchingLemmas.{one_chosen}
 use Rattle.ba_instant.proofs.MapLemmas.{mapped_all, mapped_hopeless, mapped_more}
+use Rattle.ba_instant.proofs.OvertakenLemmas.{mapped_overtaken}
 use Rattle.ba_instant.proofs.TakeLemmas.{mapped_passed}
 use Rattle.ba_instant.proofs.mapped.Mapped.+offer_from.Goals as goal
 use Rattle.ba_instant.proofs.mapped.Mapped.+offer_from.Goals.{then-may_take+in_ok-push+in_ok-offer_from, else-may_take}
@@ -9,7 +10,11 @@ use Rattle.ba_instant.proofs.mapped.Mapped.+offer_from.Goals.{then-may_take+in_o
 pub returns-then-is_hopeless-clause-best : goal.returns-then-is_hopeless-clause-best
 returns-then-is_hopeless-clause-best t c =
     let hidden = c.is_hopeless.ensures.0 c.if-is_hopeless.true in
-    mapped_hopeless _ _ _ _ _ _ _ _ _ _ (rw c.deref-2.ensures.value at hidden)
+    mapped_hopeless _ _ _ _ _ _ _ _ _ _ (rw c.deref-3.ensures.value at hidden)
+
+pub returns-then-branch-clause-best : goal.returns-then-branch-clause-best
+returns-then-branch-clause-best t c =
+    mapped_overtaken _ _ _ _ _ _ _ _ _ _ (rw c.deref-2.ensures.value at c.in_ok-is_overtaken.ensures c.if-branch.true)
 
 pub loop-fact-preserved : goal.loop-fact-preserved
 loop-fact-preserved t c =
