@@ -1,9 +1,11 @@
 -- Inequalities that were learned, lesson by lesson.
-use Rattle.std.proofs.Common.{◌≡◌, ℕ, zero, suc, ◌<◌, ◌⊎◌, inl, inr, Bool, true, false, List, [], ◌∷◌, length, refl, sym, subst, arith}
+use Rattle.std.proofs.Common.{◌≡◌, ℕ, zero, suc, ◌<◌, ◌⊎◌, inl, inr, Bool, true, false, List, [], ◌∷◌, length, refl, sym, ap, subst, arith, ◌∙◌, Some}
 use Rattle.std.proofs.Math.ListN.{get_or}
 use Rattle.std.specs.Prelude.{IsTrue, ◌↔◌, MatchBool}
-use Rattle.std.specs.List.{AllWithin, Contains, HoldsAt}
+use Rattle.std.proofs.lemmas.Option.{get_or_from_slice_get, slice_get-get_or, slice_get_within}
+use Rattle.std.specs.List.{AllWithin, Contains, HoldsAt, slice_get}
 use Rattle.ba_model.specs.declared.query.Op.TheVariants.{Ne}
+use Rattle.ba_facts.specs.Apart.{AreListed, TellsApartAt}
 use Rattle.ba_facts.specs.Known.{Known}
 use Rattle.ba_facts.specs.Knowing.{IsClashing, IsRising}
 use Rattle.ba_facts.specs.Shown.{Absurd, HasEqualApart, RecordedApart, TellsApart}
@@ -24,6 +26,12 @@ pub some_found : {X : Type 0} (P : X → Type 0) (r : Bool) (xs : List X) → Is
 some_found P true xs h = let x = element_at xs h.0 h.1 in (λ yes. (x.0, (h.0, h.1, x.1), subst P x.1 (h.2 x.0)), λ it. refl)
 some_found P false xs h = (λ yes. cc, λ it. absurd (h it.1.0 it.0 (omega arith) it.1.1 (subst P (sym it.1.2) it.2)))
 
+contains_at : {X : Type 0} (xs : List X) (i : ℕ) (x : X) → slice_get xs i ≡ Some x → Contains xs x
+contains_at xs i x there = (i, slice_get_within xs i x there, get_or_from_slice_get xs i x x there)
+
+place_of : {X : Type 0} (xs : List X) (x : X) → Contains xs x → (i : ℕ) × (slice_get xs i ≡ Some x)
+place_of xs x there = (there.0, slice_get-get_or xs there.0 x there.1 ∙ ap Some there.2)
+
 -- the lesson of an inequality
 abbrev apart : Term → Term → Lesson
 apart x y = Holds (record { op = Ne; left = x; right = y })
@@ -38,8 +46,14 @@ told_apart k a b (Holds atom) there tells =
       sides = tells.1;
     }
 
-pub recorded_apart_found : (k : Known) (a b : Term) → ((x : Lesson) × Contains k.learned x × TellsApart k x a b) ↔ RecordedApart k a b
-recorded_apart_found k a b = (λ h. told_apart k a b h.0 h.1 h.2, λ it. (apart it.x it.y, it.learned, (refl, it.sides)))
+-- where the places of the inequalities are listed, it is told at one of them
+pub recorded_apart_at : (k : Known) (a b : Term) (places : List ℕ) → AreListed k.learned places → ((place : ℕ) × Contains places place × TellsApartAt k place a b) ↔ RecordedApart k a b
+recorded_apart_at k a b places listed = (
+  λ h. told_apart k a b h.2.lesson (contains_at k.learned h.0 h.2.lesson h.2.there) h.2.tells,
+  λ it.
+      let at = place_of k.learned (apart it.x it.y) it.learned in
+      (at.0, listed at.0 (apart it.x it.y) at.1 refl, record { lesson = apart it.x it.y; there = at.1; tells = (refl, it.sides) }),
+)
 
 -- a case of a branch that can't be
 absurd_or : (k : Known) → Absurd k → IsRising k ⊎ (IsClashing k ⊎ HasEqualApart k)

@@ -25,5 +25,7 @@ pub mod WebLemmas
 pub mod AddLemmas
 pub mod QueryLemmas
 pub mod LevelLemmas
+mod MemberLemmas
+pub mod LaidLemmas
 pub mod LessonLemmas
 pub mod SortLemmas

@@ -10,6 +10,9 @@ pub mod Naming
 pub mod Grouping
 pub mod Marks
 pub mod Webs
+pub mod Members
+pub mod Laid
 pub mod Rises
 pub mod Finding
 pub mod Telling
+pub mod Apart

@@ -1,9 +1,11 @@
-ghost use Rattle.std.specs.Prelude.{◌≡◌, ◌∷◌, ◌++◌, ◌↔◌, ◌+◌, ◌-◌, ◌≤◌, ◌^◌, [], length, map, take, IsTrue, IfOk, OnOk, OnErr};
+ghost use Rattle.std.specs.Prelude.{◌≡◌, ◌∷◌, ◌++◌, ◌↔◌, ◌+◌, ◌-◌, ◌≤◌, ◌^◌, [], length, map, take, Any, IsTrue, IfOk, OnOk, OnErr};
 ghost use Rattle.std.specs.List.{range_with_len};
 ghost use Rattle.std.specs.Option.{option_copied};
 ghost use Rattle.ba_facts.specs.Knowing.{IsBound, IsLeastOf, IsLiteralIn, LessonIsThere, sort_of};
+ghost use Rattle.ba_facts.specs.Laid.{BeginsBy, IsHolder, IsLaid};
 ghost use Rattle.ba_facts.specs.Laws.{with_lesson};
 ghost use Rattle.ba_facts.specs.Shown.{Absurd, Refutes, Shows, TheSame};
+ghost use Rattle.ba_facts.specs.declared.term.Term.TheVariants.{Unknown};
 
 use crate::copies::copy_shared;
 use crate::knowledge::Knowledge;
@@ -71,6 +73,23 @@ impl Branch {
                 Err(error)
             }
         }
+    }
+
+    /// The number of the fact that the unknown is a term of, if it is one of a fact's. The newest facts
+    /// are looked at first.
+    pub fn holder(&self, unknown: u32) -> Option<usize>
+        requires { IsLaid self.now }
+        ensures { IsHolder self.now.facts unknown result }
+    {
+        let mut number = self.facts.len();
+        while number > 0 {
+            number -= 1;
+            let fact = self.facts.get(number);
+            if begins_by(fact, unknown) {
+                return has_unknown(fact, unknown).then_some(number);
+            }
+        }
+        None
     }
 
     fn drop_last_fact(&mut self, alloc: Global)
@@ -162,6 +181,33 @@ impl Branch {
             facts: copy_facts(alloc, &self.facts)?,
             goal: self.goal.copy(alloc)?,
         })
+    }
+}
+
+/// Whether the fact's first term is an unknown of this number or a lesser one.
+fn begins_by(fact: &Fact, unknown: u32) -> bool
+    ensures { IsTrue result ↔ BeginsBy fact.now unknown }
+{
+    match fact.terms.find(0) {
+        Some(Term::Unknown(first)) => *first <= unknown,
+        _ => false,
+    }
+}
+
+/// Whether the unknown is a term of the fact.
+fn has_unknown(fact: &Fact, unknown: u32) -> bool
+    ensures { IsTrue result ↔ Any (λ term. term ≡ Unknown unknown) fact.now.terms }
+{
+    let terms = fact.terms.as_slice();
+    terms.iter().any(|term| is_unknown(term, unknown))
+}
+
+fn is_unknown(term: &Term, unknown: u32) -> bool
+    ensures { IsTrue result ↔ (term.now ≡ Unknown unknown) }
+{
+    match term {
+        Term::Unknown(number) => *number == unknown,
+        _ => false,
     }
 }
 

@@ -1,13 +1,16 @@
 ghost use Rattle.std.specs.Prelude.{◌≡◌, ◌∷◌, ◌++◌, ◌↔◌, ◌<◌, ◌⊎◌, ℤ, pos, ◌<ℤ◌, [], length, map, IsTrue, IfOk, OnOk, OnErr};
 ghost use Rattle.std.specs.Option.{option_copied};
+ghost use Rattle.ba_facts.specs.Apart.{AreListed};
 ghost use Rattle.ba_facts.specs.Known.{Chain, DifferentLiterals, OneClass, ShownGap, ShownNotNull, ShownNull, seen};
+ghost use Rattle.ba_facts.specs.Members.{AreMembers, IsOnlyClass};
 ghost use Rattle.ba_facts.specs.Shown.{TheSame};
 ghost use Rattle.ba_facts.specs.Knowing.{IsBound, IsLeastOf, IsLiteralIn, IsThere, LessonIsThere, IsClashing, IsRising, sort_of};
 
-use crate::copies::{copy_plain, copy_shared};
+use crate::copies::copy_plain;
+use crate::lessons::Lessons;
 use crate::term::{Lesson, Sort, TermRef};
 use crate::web::Web;
-use ba_model::{Column, Shared, Value};
+use ba_model::{Column, Duplicate, Shared, Value};
 use std::alloc::{AllocError, Global};
 use std::marker::Model;
 
@@ -19,7 +22,7 @@ use std::marker::Model;
 #[derive(Drop)]
 pub struct Knowledge {
     unknowns: Vec<Sort>,
-    learned: Vec<Shared<Lesson>>,
+    learned: Lessons,
     web: Web,
 }
 
@@ -29,9 +32,9 @@ impl Model for Knowledge {
 
     ghost Value = { Known };
 
-    ghost view = { λ k. record { unknowns = k.unknowns.items; learned = k.learned.items } };
+    ghost view = { λ k. record { unknowns = k.unknowns.items; learned = k.learned } };
 
-    ghost invariant = { λ k. IsWeb (record { unknowns = k.unknowns.items; learned = k.learned.items }) k.web };
+    ghost invariant = { λ k. IsWeb (record { unknowns = k.unknowns.items; learned = k.learned }) k.web };
 }
 
 impl Knowledge {
@@ -41,7 +44,7 @@ impl Knowledge {
     {
         Knowledge {
             unknowns: Vec::new(alloc),
-            learned: Vec::new(alloc),
+            learned: Lessons::new(alloc),
             web: Web::new(alloc),
         }
     }
@@ -57,7 +60,14 @@ impl Knowledge {
     pub fn learned(&self) -> &[Shared<Lesson>]
         ensures { result.now ≡ self.now.learned }
     {
-        &self.learned
+        self.learned.all()
+    }
+
+    /// The places of the learned inequalities, and maybe others.
+    pub(crate) fn apart(&self) -> &[usize]
+        ensures { AreListed self.now.learned result.now }
+    {
+        self.learned.apart()
     }
 
     /// New unknowns, one for each column, numbered on from those that were there. Without memory
@@ -78,12 +88,16 @@ impl Knowledge {
         ensures ok { OnOk result (self.new ≡ record self.old { learned = self.old.learned ++ lesson ∷ [] }) }
         ensures err { OnErr result (self.new ≡ self.old) }
     {
-        let alloc = *self.learned.allocator();
-        self.learned.reserve(1)?;
+        let alloc = *self.unknowns.allocator();
         let lesson = Shared::new(alloc, lesson)?;
-        self.web.tell(alloc, &self.unknowns, &lesson)?;
-        self.learned.push(lesson)?;
-        Ok(())
+        self.learned.add(lesson.copy(alloc)?)?;
+        match self.web.tell(alloc, &self.unknowns, &lesson) {
+            Ok(()) => Ok(()),
+            Err(error) => {
+                self.learned.drop_last();
+                Err(error)
+            }
+        }
     }
 
     /// Whether the two terms are of one class.
@@ -98,6 +112,22 @@ impl Knowledge {
         ensures { IsTrue result ↔ TheSame self.now (seen a.entry) (seen b.entry) }
     {
         self.web.same(a, b)
+    }
+
+    /// The unknowns that are of one class with the term, by number.
+    pub fn members(&self, a: TermRef<'_>) -> Result<Vec<u32>, AllocError>
+        ensures { IfOk result (λ it. AreMembers self.now (seen a.entry) it.items) }
+    {
+        let alloc = *self.unknowns.allocator();
+        self.web.members(alloc, a)
+    }
+
+    /// Whether what is the same as the term is sure to be of its class. It may be even where this says
+    /// no.
+    pub fn is_only_class(&self, a: TermRef<'_>) -> bool
+        ensures { IsTrue result → IsOnlyClass self.now (seen a.entry) }
+    {
+        self.web.is_unplaced(a)
     }
 
     /// Whether the term's class has the literal NULL.
@@ -175,7 +205,7 @@ impl Knowledge {
     {
         Ok(Knowledge {
             unknowns: copy_plain(alloc, &self.unknowns)?,
-            learned: copy_shared(alloc, &self.learned)?,
+            learned: self.learned.copy(alloc)?,
             web: self.web.copy(alloc)?,
         })
     }

@@ -13,6 +13,7 @@ mod found;
 mod groups;
 mod knowledge;
 pub mod laws;
+mod lessons;
 mod marking;
 mod marks;
 mod matches;

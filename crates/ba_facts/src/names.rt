@@ -3,6 +3,7 @@ ghost use Rattle.std.specs.Prelude.{◌≡◌, ◌≢◌, ℕ, ◌↔◌, ◌<�
 ghost use Rattle.ba_facts.specs.Known.{seen};
 ghost use Rattle.ba_facts.specs.Naming.{number_in};
 ghost use Rattle.ba_facts.specs.declared.term.Term.{Term};
+ghost use Rattle.ba_facts.specs.declared.term.Term.TheVariants.{Unknown};
 ghost use Rattle.ba_model.specs.declared.value.Value.{Value};
 ghost use Rattle.std.specs.Option.{option_copied};
 
@@ -180,6 +181,17 @@ impl Names {
     {
         match &self.terms[n as usize] {
             Term::Val(value) => Some(value),
+            _ => None,
+        }
+    }
+
+    /// The unknown that the number's term is, if it is one.
+    pub(crate) fn unknown(&self, n: u32) -> Option<u32>
+        requires { n < length self.now }
+        ensures { (u : ℕ) → (result ≡ Some u) ↔ (slice_get self.now n ≡ Some (Unknown u)) }
+    {
+        match &self.terms[n as usize] {
+            Term::Unknown(u) => Some(*u),
             _ => None,
         }
     }

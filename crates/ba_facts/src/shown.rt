@@ -1,5 +1,6 @@
 //! Which atoms are shown, and which are refuted.
 ghost use Rattle.std.specs.Prelude.{◌↔◌, IsTrue};
+ghost use Rattle.ba_facts.specs.Apart.{IsEqualApartAt, TellsApartAt};
 ghost use Rattle.ba_facts.specs.Known.{seen};
 ghost use Rattle.ba_facts.specs.Shown.{Absurd, AreTheTwo, EitherNull, HasEqualApart, IsEqualApart, IsAtMost, IsEqual, IsLess, IsUnequal, NeitherNull, RecordedApart, RefutesOf, ShowsOf, TellsApart, TheSame};
 
@@ -42,9 +43,18 @@ impl Knowledge {
     fn recorded_apart(&self, a: TermRef<'_>, b: TermRef<'_>) -> bool
         ensures { IsTrue result ↔ RecordedApart self.now (seen a.entry) (seen b.entry) }
     {
-        self.learned()
+        self.apart()
             .iter()
-            .any(|lesson| self.tells_apart(lesson, a, b))
+            .any(|place| self.tells_apart_at(*place, a, b))
+    }
+
+    fn tells_apart_at(&self, place: usize, a: TermRef<'_>, b: TermRef<'_>) -> bool
+        ensures { IsTrue result ↔ TellsApartAt self.now place (seen a.entry) (seen b.entry) }
+    {
+        match self.learned().get(place) {
+            Some(lesson) => self.tells_apart(lesson, a, b),
+            None => false,
+        }
     }
 
     fn tells_apart(&self, lesson: &Lesson, a: TermRef<'_>, b: TermRef<'_>) -> bool
@@ -107,9 +117,18 @@ impl Knowledge {
     fn some_apart_is_equal(&self) -> bool
         ensures { IsTrue result ↔ HasEqualApart self.now }
     {
-        self.learned()
+        self.apart()
             .iter()
-            .any(|lesson| self.is_equal_apart(lesson))
+            .any(|place| self.is_equal_apart_at(*place))
+    }
+
+    fn is_equal_apart_at(&self, place: usize) -> bool
+        ensures { IsTrue result ↔ IsEqualApartAt self.now place }
+    {
+        match self.learned().get(place) {
+            Some(lesson) => self.is_equal_apart(lesson),
+            None => false,
+        }
     }
 
     fn is_equal_apart(&self, lesson: &Lesson) -> bool

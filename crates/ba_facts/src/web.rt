@@ -1,5 +1,5 @@
 //! Numbered terms with their classes, marks and order.
-ghost use Rattle.std.specs.Prelude.{◌≡◌, ◌≢◌, ℕ, ℤ, pos, ◌+◌, ◌<◌, ◌≤◌, ◌^◌, ◌++◌, ◌∷◌, [], length, slice_get, slice_set, IsTrue, ◌↔◌, IfErr, IfOk, OnOk, OnErr, Some, MatchOption};
+ghost use Rattle.std.specs.Prelude.{◌≡◌, ◌≢◌, ℕ, ℤ, pos, ◌+◌, ◌<◌, ◌≤◌, ◌^◌, ◌++◌, ◌∷◌, [], length, option_to_list, slice_get, slice_set, Contains, IsTrue, ◌↔◌, IfErr, IfOk, OnOk, OnErr, Some, MatchOption};
 ghost use Rattle.std.specs.Option.{option_copied};
 ghost use Rattle.ba_classes.specs.Chains.{IsAbsurd};
 ghost use Rattle.ba_classes.specs.Image.{IsGreatest};
@@ -7,6 +7,7 @@ ghost use Rattle.ba_classes.specs.Merged.{IsLabel};
 ghost use Rattle.ba_facts.specs.Known.{Known, DifferentLiterals, OneClass, ShownGap, ShownNotNull, seen};
 ghost use Rattle.ba_facts.specs.Knowing.{IsBound, IsClashing, IsLiteralIn, IsRising, IsThere, LessonIsThere};
 ghost use Rattle.ba_facts.specs.Marks.{AreLiterals};
+ghost use Rattle.ba_facts.specs.Members.{AreMembers, AreMembersBelow, IsOnlyClass};
 ghost use Rattle.ba_facts.specs.Shown.{TheSame};
 ghost use Rattle.ba_facts.specs.Telling.{AreThere, CanTell, atom, told};
 ghost use Rattle.ba_facts.specs.Webs.{AnyRise, Denies, HasPlace, IsClassMark, IsLevel, IsSomeWeb, IsWeb, Joins, KeepsOrder, PlaceOf, Raises};
@@ -14,6 +15,7 @@ ghost use Rattle.ba_facts.specs.Finding.{AreFound, AreNumbered, AreThose};
 ghost use Rattle.ba_facts.specs.declared.marks.Place.{Place};
 ghost use Rattle.ba_facts.specs.declared.term.Lesson.{Lesson};
 ghost use Rattle.ba_facts.specs.declared.term.Term.{Term};
+ghost use Rattle.ba_facts.specs.declared.term.Term.TheVariants.{Unknown};
 ghost use Rattle.ba_model.specs.declared.query.Op.{Op};
 
 use crate::copies::copy_plain;
@@ -49,6 +51,29 @@ fn next_number(count: usize) -> Result<u32, AllocError>
 {
     let next = number_after(count, 1)?;
     Ok(next - 1)
+}
+
+/// The unknown that the term is, if it is one, alone.
+fn own_members(alloc: Global, a: TermRef<'_>) -> Result<Vec<u32>, AllocError>
+    ensures { IfOk result (λ it. (u : ℕ) → Contains it.items u ↔ (seen a.entry ≡ Unknown u)) }
+{
+    let mut members = Vec::new(alloc);
+    if let TermRef::Unknown(u) = a {
+        members.push(u)?;
+    }
+    Ok(members)
+}
+
+fn add_any(members: &mut Vec<u32>, member: Option<u32>) -> Result<(), AllocError>
+    ensures { OnOk result (members.new.items ≡ members.old.items ++ option_to_list member) }
+{
+    match member {
+        Some(u) => {
+            members.push(u)?;
+            Ok(())
+        }
+        None => Ok(()),
+    }
 }
 
 impl Web {
@@ -341,6 +366,40 @@ impl Web {
             Some(y) => self.classes.same(x, y),
             None => false,
         }
+    }
+
+    /// The unknowns of the term's class, by number.
+    pub(crate) fn members(&self, alloc: Global, a: TermRef<'_>) -> Result<Vec<u32>, AllocError>
+        requires { IsSomeWeb self.now }
+        ensures { IfOk result (λ it. (k : Known) → IsWeb k self.now → AreMembers k (seen a.entry) it.items) }
+    {
+        match self.names.find(a) {
+            Some(x) => self.members_of(alloc, x),
+            None => own_members(alloc, a),
+        }
+    }
+
+    // The unknowns of the number's class. None of their numbers is less than its label.
+    fn members_of(&self, alloc: Global, x: u32) -> Result<Vec<u32>, AllocError>
+        requires some { IsSomeWeb self.now }
+        requires numbered { x < length self.now.names }
+        ensures { IfOk result (λ it. AreMembersBelow self.now.names self.now.classes.merges x (length self.now.names) it.items) }
+    {
+        let mut members = Vec::new(alloc);
+        for n in self.classes.label(x)..self.names.len() as u32 {
+            if self.classes.same(x, n) {
+                add_any(&mut members, self.names.unknown(n))?;
+            }
+        }
+        Ok(members)
+    }
+
+    /// Whether the term has no place in the order.
+    pub(crate) fn is_unplaced(&self, a: TermRef<'_>) -> bool
+        requires { IsSomeWeb self.now }
+        ensures { (k : Known) → IsWeb k self.now → IsTrue result → IsOnlyClass k (seen a.entry) }
+    {
+        self.place_of(a).is_none()
     }
 
     /// Whether the two terms are the same: of one class, or each shown to be at most the other.

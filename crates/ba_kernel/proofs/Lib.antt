@@ -27,6 +27,7 @@ pub mod TidyRuns
 pub mod AskedLemmas
 pub mod ZipLemmas
 pub mod NewLemmas
+mod TargetLemmas
 pub mod LeastLemmas
 pub mod OneCase
 pub mod OneFault

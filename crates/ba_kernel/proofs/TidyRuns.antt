@@ -1,6 +1,6 @@
 -- The open branches of a course are tidy.
 use Rattle.std.proofs.Common.{◌≡◌, ℕ, ◌+◌, ◌≤◌, List, [], ◌∷◌, ◌++◌, length, map, refl, ap, sym, ◌∙◌, subst, arith}
-use Rattle.std.proofs.lemmas.List.{length-map}
+use Rattle.std.proofs.lemmas.List.{length-append, length-map}
 use Rattle.std.proofs.lemmas.List.FromFn.{length-range_with_len}
 use Rattle.std.proofs.lemmas.List.Elements.{All-append, All-cons, All-head, All-map, All-nil, All-push, All-set, All-tail, All-weaker}
 use Rattle.std.specs.List.{All, AllZip, range_with_len}
@@ -19,7 +19,10 @@ use Rattle.ba_kernel.proofs.StepFits.{All-at}
 use Rattle.ba_kernel.proofs.TidyLemmas.{counted, facts_there, more_unknowns, new_there, row_there_more}
 use Rattle.ba_kernel.specs.Courses.{EntryFits, IsStartOf, LinkFits, ProblemFits, RuleFits, Runs, Slots, after, branch_of, nothing_known, start, next}
 use Rattle.ba_kernel.specs.Effects.{IsCase, Leads, LinkLeads, rows_at, with_fact, with_facts, with_lessons}
+use Rattle.ba_facts.proofs.LaidLemmas.{laid_push}
 use Rattle.ba_facts.specs.Known.{Known}
+use Rattle.ba_facts.specs.Knowing.{sort_of}
+use Rattle.ba_facts.specs.Laid.{AreLaid, IsLaid}
 use Rattle.ba_facts.specs.Matches.{round_of, term_of}
 use Rattle.ba_kernel.specs.Tests.{FactIsTidy, IsTidy, RunsAreTidy}
 use Rattle.ba_facts.specs.declared.branch.Branch.{Branch}
@@ -61,9 +64,24 @@ module _ (p : Problem) where
         goal_wide = h.goal_wide;
         params = h.params;
         vars = h.vars;
+        laid = h.laid;
       }
 
   module _ (side : Side) (round : ℕ) where
+    fact_laid : (b : Branch) (table : ℕ) → IsLaid b → IsLaid (with_fact s side round b table)
+    fact_laid b table h =
+        let first = length b.known.unknowns in
+        let count = length (columns_of s.tables table) in
+        let fact : Fact = record { side = side; table = table; terms = map Unknown (range_with_len first count); round = round } in
+        let long : length fact.terms ≡ count = length-map (range_with_len first count) Unknown ∙ length-range_with_len first count in
+        let all : first + count ≡ length (with_fact s side round b table).known.unknowns =
+        omega (arith, length-append b.known.unknowns (map sort_of (columns_of s.tables table)), length-map (columns_of s.tables table) sort_of) in
+        subst (AreLaid 0 (with_fact s side round b table).facts) all (laid_push 0 first count b.facts fact h refl long)
+
+    facts_laid : (from : List ℕ) (b : Branch) → IsLaid b → IsLaid (with_facts s side round b from)
+    facts_laid [] b h = h
+    facts_laid (table ∷ from) b h = facts_laid from (with_fact s side round b table) (fact_laid b table h)
+
     new_tidy : (b : Branch) (table : ℕ) → IsTable s table →
         FactIsTidy s (with_fact s side round b table).known (record {
           side = side;
@@ -120,6 +138,7 @@ module _ (p : Problem) where
           goal_wide = h.goal_wide;
           params = h.params;
           vars = h.vars;
+          laid = fact_laid b table h.laid;
         }
 
     facts_tidy : (from : List ℕ) (b : Branch) → All (IsTable s) from → IsTidy p b → IsTidy p (with_facts s side round b from)
@@ -200,6 +219,7 @@ module _ (p : Problem) where
               p.goal.parts fits.goal.fits.parts;
           params = same_params One 0 part.from (nothing_known p);
           vars = same_vars One 0 part.from (nothing_known p);
+          laid = facts_laid One 0 part.from (nothing_known p) refl;
         } in
         subst (IsTidy p) (sym h.new_is) it
 

@@ -9,5 +9,6 @@ pub mod Tidy
 pub mod Spares
 pub mod News
 pub mod NewParts
+pub mod Targets
 pub mod Asked
 pub mod Drafts

@@ -10,6 +10,7 @@ use Rattle.ba_model.specs.declared.schema.Kind.{Kind}
 use Rattle.ba_model.specs.declared.schema.Link.{Link}
 use Rattle.ba_model.specs.declared.schema.Schema.{Schema}
 use Rattle.ba_model.specs.declared.schema.Table.{Table}
+use Rattle.ba_facts.specs.Laid.{IsLaid}
 use Rattle.ba_facts.specs.Known.{Known}
 use Rattle.ba_facts.specs.Knowing.{IsThere}
 use Rattle.ba_facts.specs.Laws.{kind_of_term}
@@ -103,6 +104,7 @@ pub record IsTidy (p : Problem) (b : Branch) : Type 0 where
   pub goal_wide : All (λ part. length part.head ≡ length b.goal) p.goal.parts
   pub params : b.params ≡ kinds_of p.policy.params
   pub vars : b.vars ≡ p.vars
+  pub laid : IsLaid b
 
 abbrev pub AllTidy : Problem → Slots → Type 0
 AllTidy p slots = (n : ℕ) (b : Branch) → IsOpen slots n b → IsTidy p b

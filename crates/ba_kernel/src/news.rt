@@ -33,6 +33,7 @@ pub fn new_round(problem: &Problem, branch: &Branch, step: &Step) -> Option<u64>
 /// The round of a step that passes its tests, if it tells the branch what it doesn't have yet.
 fn told_round(problem: &Problem, branch: &Branch, step: &Step) -> Option<u64>
     requires fits { ProblemFits problem.now }
+    requires tidy { IsTidy problem.now branch.now }
     requires passes { Passes problem.now branch.now step.now }
     ensures { IsToldRound problem.now branch.now step.now result }
 {

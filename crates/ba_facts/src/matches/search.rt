@@ -78,15 +78,15 @@ impl<'a> Search<'a> {
         ensures chosen { chosen.new.items ≡ chosen.old.items }
         ensures found { IsTrue result ↔ IsAnsweredFrom self.now.branch.now self.now.side self.now.part.now self.now.wanted (row_of self.now.branch.now row.now.facts.now row.now.operands.now) from.now chosen.old.items }
     {
+        if self.gives_other(self.part.head.as_slice(), chosen.as_slice(), row) {
+            return false;
+        }
         if self.is_hopeless(chosen.as_slice()) {
             return false;
         }
         match from.split_first() {
             None => self.gives(chosen.as_slice(), row),
             Some((table, rest)) => {
-                if self.gives_other(self.part.head.as_slice(), chosen.as_slice(), row) {
-                    return false;
-                }
                 for number in 0..self.branch.facts.len() {
                     if self.is_fact(*table, number) {
                         chosen.push(number);

@@ -1,9 +1,11 @@
 //! Whether a branch has what a key or a link tells already.
-ghost use Rattle.std.specs.Prelude.{◌↔◌, All, Any, IsTrue};
+ghost use Rattle.std.specs.Prelude.{◌↔◌, ℕ, All, Any, IsTrue, option_map};
 ghost use Rattle.std.specs.List.{AllZip, zip};
+ghost use Rattle.ba_facts.specs.Laid.{IsLaid};
 ghost use Rattle.ba_facts.specs.Shown.{TheSame};
 ghost use Rattle.ba_kernel.specs.NewParts.{IsTargetOf};
 ghost use Rattle.ba_kernel.specs.News.{AreEqualIn, KeyIsMet, LinkIsMet};
+ghost use Rattle.ba_kernel.specs.Targets.{AreTheSameIfAny, HasTargetWith, HaveTargetsIfAny, IsTargetAt};
 
 use crate::passes::row::link_of;
 use crate::problem::Problem;
@@ -40,6 +42,7 @@ fn are_the_same(branch: &Branch, left: &[Term], right: &[Term]) -> bool
 
 /// Whether the link of the fact's table has its target among the branch's facts.
 pub fn link_is_met(problem: &Problem, branch: &Branch, link: u32, fact: u32) -> bool
+    requires { IsLaid branch.now }
     ensures { IsTrue result ↔ LinkIsMet problem.now.policy.schema branch.now link fact }
 {
     let Some(f) = branch.facts.find(fact as usize) else {
@@ -51,9 +54,74 @@ pub fn link_is_met(problem: &Problem, branch: &Branch, link: u32, fact: u32) -> 
     }
 }
 
-/// Whether one of the branch's facts is the target of the fact's link. The newest come first: mostly it
-/// is one of these.
+/// Whether one of the branch's facts is the target of the fact's link.
 fn has_target(branch: &Branch, fact: &Fact, link: &Link) -> bool
+    requires { IsLaid branch.now }
+    ensures { IsTrue result ↔ Any (IsTargetOf branch.now fact.now link.now) branch.now.facts }
+{
+    match sought(branch, fact, link) {
+        Some(unknowns) => has_target_in(branch, fact, link, &unknowns),
+        None => has_target_among(branch, fact, link),
+    }
+}
+
+/// Whether a fact with one of the unknowns is the target.
+fn has_target_in(branch: &Branch, fact: &Fact, link: &Link, unknowns: &[u32]) -> bool
+    requires { IsLaid branch.now }
+    ensures { IsTrue result ↔ Any (HasTargetWith branch.now fact.now link.now) unknowns.now }
+{
+    unknowns
+        .iter()
+        .any(|unknown| has_target_with(branch, fact, link, *unknown))
+}
+
+/// The unknowns of which each target of the link has one, where they can be told: those that the
+/// link's first term is the same as.
+fn sought(branch: &Branch, fact: &Fact, link: &Link) -> Option<Vec<u32>>
+    requires { IsLaid branch.now }
+    ensures { HaveTargetsIfAny branch.now fact.now link.now (option_map (λ it. it.items) result) }
+{
+    let column = link.columns.find(0)?;
+    link.target_columns.find(0)?;
+    let term = fact.terms.find(*column as usize)?;
+    sought_by(branch, term)
+}
+
+/// The unknowns that the term is the same as, where they can be told.
+fn sought_by(branch: &Branch, term: &Term) -> Option<Vec<u32>>
+    ensures { AreTheSameIfAny branch.now.known term.now (option_map (λ it. it.items) result) }
+{
+    if !branch.known.is_only_class(term.by_ref()) {
+        return None;
+    }
+    match branch.known.members(term.by_ref()) {
+        Ok(members) => Some(members),
+        Err(_) => None,
+    }
+}
+
+/// Whether the fact with the unknown is the target.
+fn has_target_with(branch: &Branch, fact: &Fact, link: &Link, unknown: u32) -> bool
+    requires { IsLaid branch.now }
+    ensures { IsTrue result ↔ HasTargetWith branch.now fact.now link.now unknown }
+{
+    match branch.holder(unknown) {
+        Some(number) => is_target_at(branch, fact, link, number),
+        None => false,
+    }
+}
+
+fn is_target_at(branch: &Branch, fact: &Fact, link: &Link, number: usize) -> bool
+    ensures { IsTrue result ↔ IsTargetAt branch.now fact.now link.now number }
+{
+    match branch.facts.find(number) {
+        Some(other) => is_target_of(branch, fact, link, other),
+        None => false,
+    }
+}
+
+/// The same of any fact. The newest come first: mostly it is one of these.
+fn has_target_among(branch: &Branch, fact: &Fact, link: &Link) -> bool
     ensures { IsTrue result ↔ Any (IsTargetOf branch.now fact.now link.now) branch.now.facts }
 {
     let facts = branch.facts.as_slice();

@@ -6,6 +6,6 @@ use Rattle.ba_facts.proofs.knowledge.Knowledge.add_unknowns.Goals as goal
 
 pub invariant_of-self-2 : goal.invariant_of-self-2
 invariant_of-self-2 c =
-    let learned = c.self.inside.learned.items in
+    let learned = c.self.inside.learned in
     subst (λ (us : List Sort). IsWeb (record { unknowns = us; learned = learned }) c.self.inside.web) (sym c.in_ok-append.ensures.items)
     (wider_whole (record { unknowns = c.self.inside.unknowns.items; learned = learned }) c.in_ok-sorts.sorts.items c.self.invariant)

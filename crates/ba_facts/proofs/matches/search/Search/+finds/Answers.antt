@@ -9,12 +9,12 @@ use Rattle.ba_facts.proofs.matches.search.Search.+finds.Goals.{then-is_fact+else
 pub returns-then-is_hopeless-clause-found : goal.returns-then-is_hopeless-clause-found
 returns-then-is_hopeless-clause-found t c =
     let fails = c.is_hopeless.ensures.0 c.if-is_hopeless.true in
-    (λ e. cc, λ h. absurd (not_answered _ _ _ _ _ _ _ (rw c.as_slice.ensures.value at fails) h))
+    (λ e. cc, λ h. absurd (not_answered _ _ _ _ _ _ _ (rw c.as_slice-3.ensures.value at fails) h))
 
 pub returns-then-gives_other-clause-found : goal.returns-then-gives_other-clause-found
 returns-then-gives_other-clause-found t c =
     let other = c.gives_other.ensures c.if-gives_other.true in
-    (λ e. cc, λ h. absurd (front_lost _ _ _ _ _ _ _ (rw c.as_slice-in-Some-2.ensures.value at (rw c.as_slice-in-Some.ensures at other)) h))
+    (λ e. cc, λ h. absurd (front_lost _ _ _ _ _ _ _ (rw c.as_slice-2.ensures.value at (rw c.as_slice.ensures at other)) h))
 
 pub returns-then-found-clause-found : goal.returns-then-found-clause-found
 returns-then-found-clause-found t c = (
