@@ -4,7 +4,7 @@ use Rattle.std.proofs.Math.Nat.{eq-or-lt_of_le}
 use Rattle.std.proofs.lemmas.Bool.{cases_lt, false≢true}
 use Rattle.std.proofs.lemmas.Option.{get_or_from_slice_get, none-some, same_Some, slice_get_within}
 use Rattle.std.specs.Bool.{then_some}
-use Rattle.std.specs.List.{Any, range_with_len, slice_get, slice_index_or}
+use Rattle.std.specs.List.{Any, slice_get, slice_index_or}
 use Rattle.ba_facts.specs.Laid.{AreLaid, BeginsBy, IsHolder, IsTermOf, unknowns_from}
 use Rattle.ba_facts.specs.declared.term.Fact.{Fact}
 use Rattle.ba_facts.specs.declared.term.Term.{Term}

@@ -1,12 +1,12 @@
 -- The target of a link has one of the unknowns that the link's first term is the same as.
-use Rattle.std.proofs.Common.{◌≡◌, ◌∙◌, ◌↔◌, ℕ, Bool, false, IsTrue, List, [], ◌∷◌, refl, sym, ap, subst}
+use Rattle.std.proofs.Common.{◌≡◌, ◌∙◌, ◌↔◌, ℕ, Bool, false, IsTrue, List, [], ◌∷◌, sym, ap, subst}
 use Rattle.std.proofs.lemmas.Bool.{false≢true}
 use Rattle.std.proofs.lemmas.Option.{get_or_from_slice_get, none-some, same_Some, slice_get-get_or, slice_get_within}
-use Rattle.std.specs.List.{All, Any, Contains, zip}
+use Rattle.std.specs.List.{Any, zip}
 use Rattle.std.specs.Prelude.{Option, None, Some, slice_get}
 use Rattle.ba_model.specs.declared.schema.Link.{Link}
 use Rattle.ba_facts.proofs.LaidLemmas.{laid_unknown}
-use Rattle.ba_facts.specs.Known.{Known, OneClass}
+use Rattle.ba_facts.specs.Known.{Known}
 use Rattle.ba_facts.specs.Laid.{IsHolder, IsLaid}
 use Rattle.ba_facts.specs.Members.{AreMembers, IsOnlyClass}
 use Rattle.ba_facts.specs.Shown.{TheSame}

@@ -1,4 +1,4 @@
-use Rattle.std.proofs.Common.{◌≡◌, ◌↔◌, IsTrue, ◌+◌, ◌-◌, ◌≤◌, ◌<◌, ℕ, ◌∙◌, refl, sym, subst, arith, length}
+use Rattle.std.proofs.Common.{◌≡◌, ◌↔◌, IsTrue, ◌+◌, ◌-◌, ◌∙◌, sym, subst, arith, length}
 use Rattle.std.proofs.lemmas.Bool.{false≢true}
 use Rattle.ba_facts.proofs.LaidLemmas.{HaveNone, here_or_none, no_holder, none_more, none_past}
 use Rattle.std.specs.List.{Any}

@@ -1,4 +1,4 @@
-use Rattle.std.proofs.Common.{◌≡◌, ◌+◌, ◌≤◌, ℕ, List, sym, subst, refl, arith, length}
+use Rattle.std.proofs.Common.{◌≡◌, ◌+◌, sym, subst, arith, length}
 use Rattle.std.proofs.lemmas.Grind.{common_steps}
 use Rattle.ba_facts.specs.Members.{AreMembersBelow}
 use Rattle.ba_facts.proofs.ClassLemmas.{label_below}

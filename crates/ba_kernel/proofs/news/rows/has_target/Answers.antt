@@ -1,9 +1,7 @@
-use Rattle.std.specs.List.{Any}
 use Rattle.std.specs.Option.{option_map}
-use Rattle.std.specs.Prelude.{List}
-use Rattle.std.proofs.Common.{ℕ, sym, subst}
+use Rattle.std.proofs.Common.{sym, subst}
 use Rattle.ba_kernel.proofs.TargetLemmas.{some_with, with_some}
-use Rattle.ba_kernel.specs.Targets.{HasTargetWith, HaveTargets, HaveTargetsIfAny}
+use Rattle.ba_kernel.specs.Targets.{HaveTargets, HaveTargetsIfAny}
 use Rattle.ba_kernel.proofs.news.rows.has_target.Goals as goal
 
 pub returns-in-Some : goal.returns-in-Some

@@ -1,5 +1,3 @@
-use Rattle.std.proofs.Common.{refl}
-use Rattle.std.proofs.lemmas.Option.{none-some, same_Some}
 use Rattle.ba_kernel.proofs.TargetLemmas.{held_at, held_nowhere}
 use Rattle.ba_kernel.proofs.news.rows.has_target_with.Goals as goal
 
