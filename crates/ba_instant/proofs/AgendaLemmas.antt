@@ -1,8 +1,8 @@
 -- The agenda of a branch: its due step, what is left of it, and how it is filled.
-use Rattle.std.proofs.Common.{◌≡◌, ◌∙◌, ℕ, zero, suc, ◌-◌, ◌<◌, ◌≤◌, ◌⊎◌, Bool, true, false, inl, inr, List, [], ◌++◌, length, take, refl, sym, ap, subst, arith}
+use Rattle.std.proofs.Common.{◌≡◌, ◌∙◌, ℕ, zero, suc, ◌+◌, ◌-◌, ◌<◌, ◌≤◌, ◌⊎◌, Bool, true, false, inl, inr, List, [], ◌++◌, length, take, refl, sym, ap, subst, arith}
 use Rattle.std.proofs.lemmas.Bool.{cases_lt}
 use Rattle.std.proofs.lemmas.Cmp.{back_total}
-use Rattle.std.proofs.lemmas.List.{get_or-take, length-take-le}
+use Rattle.std.proofs.lemmas.List.{get_or-take, length-append, length-take-le}
 use Rattle.std.proofs.lemmas.List.Elements.{Contains-append_cases, Contains-append_left, Contains-append_right}
 use Rattle.std.proofs.lemmas.List.Sorted.{Contains-permutation, IsPermutation-sym, searchable_from_sorted}
 use Rattle.std.proofs.lemmas.Option.{get_or_from_slice_get, slice_get_within}
@@ -11,9 +11,10 @@ use Rattle.std.specs.List.Sorted.{IsSortedBy}
 use Rattle.std.specs.Ordering.{flip_args, is_lt, ordering_index, ordering_reverse}
 use Rattle.std.specs.declared.cmp.Ordering.{Ordering}
 use Rattle.std.specs.declared.cmp.Ordering.TheVariants.{Less, Equal, Greater}
-use Rattle.std.specs.Prelude.{◌≢◌, Contains, IsTrue, Option, Some, None, option_to_list, slice_get, slice_index_or}
+use Rattle.std.specs.Prelude.{◌≢◌, Contains, IsTrue, Option, Some, None, min, option_to_list, slice_get, slice_index_or}
 use Rattle.ba_model.proofs.ElementLemmas.{Contains-nil}
 use Rattle.ba_facts.specs.declared.branch.Branch.{Branch}
+use Rattle.ba_facts.specs.declared.term.Fact.{Fact}
 use Rattle.ba_kernel.specs.Courses.{IsOpen, branch_of}
 use Rattle.ba_kernel.specs.News.{IsNewOn, IsNewRound, IsRound}
 use Rattle.ba_kernel.specs.Tests.{Course, open_at}
@@ -21,10 +22,11 @@ use Rattle.ba_kernel.specs.declared.problem.Problem.{Problem}
 use Rattle.ba_kernel.specs.declared.step.Step.{Step}
 use Rattle.ba_instant.proofs.ChaseLemmas.{new_on}
 use Rattle.ba_instant.proofs.DueLemmas.{closing_on, closing_round, gt_false, new_in, not_greater, of_kind, one_open, round_in, round_on, telling_on}
+use Rattle.ba_instant.proofs.GrowthLemmas.{get_cases}
 use Rattle.ba_instant.proofs.OrderLemmas.{pick_total}
 use Rattle.ba_instant.proofs.QuietLemmas.{quiet_at_first}
 use Rattle.ba_instant.proofs.RoundLemmas.{is_new, not_new, round_at_once}
-use Rattle.ba_instant.specs.Agendas.{AreInTurn, EndsOld, IsAgenda, IsAgendaAt, IsAgendaOf, IsFirstOf, IsInTurn, IsListed, IsNewHere, IsNone, IsPast, IsQuietAgenda, IsTrimmed, IsWithoutLast}
+use Rattle.ba_instant.specs.Agendas.{AreInTurn, AreOlder, EndsOld, IsAgenda, IsAgendaAt, IsAgendaOf, IsBlank, IsFirstOf, IsInTurn, IsListed, IsNewHere, IsNone, IsPast, IsQuietAgenda, IsSilent, IsTrimmed, IsWithoutLast, MOST_ROUND}
 use Rattle.ba_instant.specs.Dues.{IsDue}
 use Rattle.ba_instant.specs.Loose.{IsQuietBeside}
 use Rattle.ba_instant.specs.Offers.{Improves, IsByMapping, IsClosing, IsDueIfAny, IsDueOn, IsFound, IsHeld, IsNewIn, IsRoundIn, IsTelling, IsWhole, Leads, NoneCloses, Offers, Reaches, is_single}
@@ -141,14 +143,24 @@ agenda_of pick batch items sorted are turn agenda round_is items_are = record {
 
 -- ---- an agenda
 
+-- an agenda that says nothing of the facts, nor of what closes the branch
+blank_older : (b : Branch) (agenda : Agenda) → IsBlank agenda → AreOlder b agenda.older (min agenda.round MOST_ROUND)
+blank_older b agenda blank =
+    let none = blank.older in
+    record { within = omega (arith, none); older = λ number fact below there. let no : ⊥ = omega (arith, below, none) in absurd no }
+
+blank_silent : (p : Problem) (n : ℕ) (b : Branch) (agenda : Agenda) → IsBlank agenda → IsTrue agenda.silent → IsSilent p n b
+blank_silent p n b agenda blank told = let no = blank.silent in cc
+
 pub none_is_agenda : (pick : Pick) (p : Problem) (n : ℕ) (b : Branch) (agenda : Agenda) → IsNone agenda → IsAgenda pick p n b agenda
-none_is_agenda pick p n b agenda none = record {
-  on = λ step in_. absurd (Contains-nil step (subst (λ xs. Contains xs step) none.1 in_));
-  in_turn = none_in_turn pick agenda.steps.items none.1;
+none_is_agenda pick p n b agenda (none, blank) = record {
+  on = λ step in_. absurd (Contains-nil step (subst (λ xs. Contains xs step) blank.steps in_));
+  in_turn = none_in_turn pick agenda.steps.items blank.steps;
+  older = blank_older b agenda blank;
+  silent = blank_silent p n b agenda blank;
   listed = λ step round telling is_new round_is low.
       let late : 0 < round = quiet_at_first p b n step round telling is_new round_is in
-      let zero = none.0 in
-      absurd (let no : ⊥ = omega (arith, late, low, zero) in no);
+      absurd (let no : ⊥ = omega (arith, late, low, none) in no);
 }
 
 past_late : (pick : Pick) (round : ℕ) (found : Option Batch) (it : Found) → IsPast round found → Reaches pick found it → round < it.round
@@ -174,9 +186,11 @@ module _ (pick : Pick) (c : Course) (n : ℕ) (b : Branch) (round : ℕ) (found 
 
   quiet_is_agenda : (agenda : Agenda) → IsQuietAgenda round found agenda → IsAgenda pick c.problem n b agenda
   quiet_is_agenda agenda (inl none) = none_is_agenda pick c.problem n b agenda none
-  quiet_is_agenda agenda (inr (past, round_are, none)) = record {
-    on = λ step in_. absurd (Contains-nil step (subst (λ xs. Contains xs step) none in_));
-    in_turn = none_in_turn pick agenda.steps.items none;
+  quiet_is_agenda agenda (inr (past, round_are, blank)) = record {
+    on = λ step in_. absurd (Contains-nil step (subst (λ xs. Contains xs step) blank.steps in_));
+    in_turn = none_in_turn pick agenda.steps.items blank.steps;
+    older = blank_older b agenda blank;
+    silent = blank_silent c.problem n b agenda blank;
     listed = λ step its telling is_new round_is low.
         let late : round < its = telling_late past step its telling is_new round_is in
         absurd (let no : ⊥ = omega (arith, late, low, round_are) in no);
@@ -188,6 +202,25 @@ module _ (pick : Pick) (c : Course) (n : ℕ) (b : Branch) (round : ℕ) (found 
 not_listed : (pick : Pick) (step : Step) → IsListed pick [] step → ⊥
 not_listed pick step (inl in_) = Contains-nil step in_
 not_listed pick step (inr stood) = Contains-nil stood.other stood.there
+
+-- what is older than a round is older than a later one
+pub older_still : (b : Branch) (end bound more : ℕ) → bound ≤ more → AreOlder b end bound → AreOlder b end more
+older_still b end bound more low older =
+    record { within = older.within; older = λ number fact below there. let less = older.older number fact below there in omega (arith, low, less) }
+
+-- and so it is where more facts are added
+pub older_on : (b c : Branch) (end bound : ℕ) (more : List Fact) → c.facts ≡ b.facts ++ more → AreOlder b end bound → AreOlder c end bound
+older_on b c end bound more facts_are older =
+    let within = older.within in
+    let count : length c.facts ≡ length b.facts + length more = ap length facts_are ∙ length-append b.facts more in
+    record {
+      within = omega (arith, within, count);
+      older = λ number fact below there.
+          elim (get_cases b.facts more number fact (subst (λ fs. slice_get fs number ≡ Some fact) facts_are there)) [
+            | inl before ↦ older.older number fact below before
+            | inr late ↦ let past = late.1 in absurd (let no : ⊥ = omega (arith, below, within, past) in no)
+          ];
+    }
 
 -- a branch is quiet up to the round of its agenda, if nothing is left of it
 pub empty_is_quiet : (pick : Pick) (p : Problem) (n : ℕ) (b : Branch) (agenda : Agenda) → IsAgenda pick p n b agenda → agenda.steps.items ≡ [] → IsQuietUpto p b n agenda.round
@@ -203,7 +236,8 @@ quiet_below p b n bound round low quiet step its telling is_new round_is = let l
 
 module _ (c : Course) (n : ℕ) (b : Branch) (open_ : IsOpen c.slots n b) (pick : Pick) (old new : Agenda) (ends : EndsOld c old) (is : IsAgenda pick c.problem n b old)
     (round_is : new.round ≡ old.round) (items_are : new.steps.items ≡ take (length old.steps.items - 1) old.steps.items)
-    (single : (step : Step) → slice_get old.steps.items (length old.steps.items - 1) ≡ Some step → is_single step ≡ false) where
+    (single : (step : Step) → slice_get old.steps.items (length old.steps.items - 1) ≡ Some step → is_single step ≡ false) (older_is : new.older ≡ old.older)
+    (silent_is : new.silent ≡ old.silent) where
   still_listed : (step : Step) → IsNewHere c old.round step → IsListed pick old.steps.items step → IsListed pick (take (length old.steps.items - 1) old.steps.items) step
   still_listed step here (inl in_) = elim (front_or_last old.steps.items ends.step step ends.last in_) [
     | inl front ↦ inl front
@@ -227,16 +261,18 @@ module _ (c : Course) (n : ℕ) (b : Branch) (open_ : IsOpen c.slots n b) (pick 
         let here : IsNewHere c old.round step =
         (new_in c n b open_ step on is_new, subst (IsRoundIn c step) was.0 (round_in c n b open_ step round on its_round)) in
         (was.0 ∙ sym round_is, subst (λ xs. IsListed pick xs step) (sym items_are) (still_listed step here was.1));
+    older = subst (λ end. AreOlder b end (min new.round MOST_ROUND)) (sym older_is) (subst (λ round. AreOlder b old.older (min round MOST_ROUND)) (sym round_is) is.older);
+    silent = λ told. is.silent (subst IsTrue silent_is told);
   }
 
 pub without_last : (c : Course) (old new : Agenda) → EndsOld c old → IsWithoutLast old new → IsTrimmed c old new
 without_last c old new ends (inl none) = record { keeps = λ pick n b open_ is. none_is_agenda pick c.problem n b new none }
-without_last c old new ends (inr rest) = record { keeps = λ pick n b open_ is. front_is_agenda c n b open_ pick old new ends is rest.0 rest.1 rest.2 }
+without_last c old new ends (inr rest) = record { keeps = λ pick n b open_ is. front_is_agenda c n b open_ pick old new ends is rest.0 rest.1 rest.2 rest.3 rest.4 }
 
 pub shorter : (c : Course) (old new : Agenda) → EndsOld c old → IsWithoutLast old new → length new.steps.items < length old.steps.items
 shorter c old new ends (inl none) =
     let some : length old.steps.items - 1 < length old.steps.items = slice_get_within old.steps.items (length old.steps.items - 1) ends.step ends.last in
-    let count : length new.steps.items ≡ 0 = ap length none.1 in
+    let count : length new.steps.items ≡ 0 = ap length (none.1).steps in
     omega (arith, some, count)
 shorter c old new ends (inr rest) =
     let some : length old.steps.items - 1 < length old.steps.items = slice_get_within old.steps.items (length old.steps.items - 1) ends.step ends.last in
@@ -293,6 +329,25 @@ module _ (c : Course) (n : ℕ) (b : Branch) (open_ : IsOpen c.slots n b) (pick 
   due_on_it = record { on = on; due = it_is_due; first = it_is_first; round_is = here.1 }
 
 module _ (c : Course) (n : ℕ) (b : Branch) (open_ : IsOpen c.slots n b) (pick : Pick) where
+  -- ---- what closes the branch
+
+  pub silent_of : NoneCloses c n → IsSilent c.problem n b
+  silent_of closes step closing is_new = closes.none step closing (new_in c n b open_ step (closing_on c pick n step closing) is_new)
+
+  pub closes_of : IsSilent c.problem n b → NoneCloses c n
+  closes_of silent = record { none = λ step closing is_new. silent step closing (new_on c n b step open_ (closing_on c pick n step closing) is_new) }
+
+  pub silenced : (agenda new : Agenda) → NoneCloses c n → new.round ≡ agenda.round → new.older ≡ agenda.older → new.steps.items ≡ agenda.steps.items → IsAgenda pick c.problem n b agenda → IsAgenda pick c.problem n b new
+  silenced agenda new closes round_is older_is steps_are is = record {
+    on = λ step in_. is.on step (subst (λ xs. Contains xs step) steps_are in_);
+    in_turn = subst (AreInTurn pick) (sym steps_are) is.in_turn;
+    listed = λ step round telling is_new its low.
+        let was = is.listed step round telling is_new its (omega (arith, low, round_is)) in
+        (was.0 ∙ sym round_is, subst (λ xs. IsListed pick xs step) (sym steps_are) was.1);
+    older = subst (λ end. AreOlder b end (min new.round MOST_ROUND)) (sym older_is) (subst (λ round. AreOlder b agenda.older (min round MOST_ROUND)) (sym round_is) is.older);
+    silent = λ told. silent_of closes;
+  }
+
   last_in : (xs : List Step) (x : Step) → slice_get xs (length xs - 1) ≡ Some x → Contains xs x
   last_in xs x is = (length xs - 1, slice_get_within xs (length xs - 1) x is, get_or_from_slice_get xs (length xs - 1) x x is)
 
@@ -385,8 +440,22 @@ module _ (c : Course) (n : ℕ) (b : Branch) (open_ : IsOpen c.slots n b) (pick 
         batch_due (IsTelling n) h (telling_on c pick n)
         (λ other round on is_new round_is. elim (of_kind c pick n other on) [ inl closing ↦ absurd (closes.none other closing is_new) | inr telling ↦ inr telling ])
 
-    pub batch_is_agenda : Improves c pick (IsTelling n) None (Some batch) → IsAgenda pick c.problem n b agenda
-    batch_is_agenda h = record {
+    -- the batch is past the round up to which the branch is quiet
+    past_quiet : (bound : ℕ) → IsQuietUpto c.problem b n bound → Improves c pick (IsTelling n) None (Some batch) → bound < batch.round
+    past_quiet bound quiet h =
+        let some = whole (IsTelling n) h in
+        let found = from_batch (IsTelling n) h some.step (of.has some.step some.there) in
+        let on = telling_on c pick n some.step found.of in
+        quiet some.step batch.round found.of (new_on c n b some.step open_ on found.new_) (round_on c n b open_ some.step batch.round on found.round_is)
+
+    pub batch_is_agenda : (bound : ℕ) → bound ≤ MOST_ROUND → IsQuietUpto c.problem b n bound → AreOlder b agenda.older bound → NoneCloses c n → Improves c pick (IsTelling n) None (Some batch) →
+        IsAgenda pick c.problem n b agenda
+    batch_is_agenda bound most quiet older closes h = record {
+      older =
+          let past = past_quiet bound quiet h in
+          let level = of.round in
+          older_still b agenda.older bound (min agenda.round MOST_ROUND) (omega (arith, most, past, level)) older;
+      silent = λ told. silent_of closes;
       on = λ step in_. telling_on c pick n step (from_batch (IsTelling n) h step in_).of;
       in_turn = of.in_turn;
       listed = λ step round telling is_new round_is low.

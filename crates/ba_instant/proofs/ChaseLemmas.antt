@@ -49,18 +49,6 @@ module _ (c : Course) (n : ℕ) (b : Branch) (open_ : IsOpen c.slots n b) where
       let at : IsNewIn c (steps.Key n key left right) = subst (IsNewIn c) is new in
       (new_on c n b (steps.Key n key left right) open_ refl at).passes
 
-  pub key_left_past : (key left right : ℕ) (step : Step) → length b.facts ≤ left → step ≡ steps.Key n key left right → IsNewIn c step → ⊥
-  key_left_past key left right step past is new =
-      let h = key_passes key left right step is new in
-      let below : left < length b.facts = slice_get_within b.facts left h.f h.pair.left_is in
-      omega (arith, past, below)
-
-  pub key_right_past : (key left right : ℕ) (step : Step) → length b.facts ≤ right → step ≡ steps.Key n key left right → IsNewIn c step → ⊥
-  key_right_past key left right step past is new =
-      let h = key_passes key left right step is new in
-      let below : right < length b.facts = slice_get_within b.facts right h.g h.pair.right_is in
-      omega (arith, past, below)
-
   pub key_past : (key left right : ℕ) (step : Step) → length (keys_at c.problem.policy.schema b left) ≤ key → step ≡ steps.Key n key left right → IsNewIn c step → ⊥
   key_past key left right step past is new =
       let h = key_passes key left right step is new in

@@ -1,10 +1,11 @@
 -- After a quiet step the branch of its number stays quiet up to each round before the step's.
-use Rattle.std.proofs.Common.{◌≡◌, ◌∙◌, ℕ, zero, suc, ◌+◌, ◌<◌, ◌≤◌, ◌⊎◌, inl, inr, List, [], ◌∷◌, length, map, refl, ap, sym, subst, arith}
-use Rattle.std.proofs.lemmas.List.{length-set}
-use Rattle.std.proofs.lemmas.List.Elements.{All-weaker}
+use Rattle.std.proofs.Common.{◌≡◌, ◌∙◌, ℕ, zero, suc, ◌+◌, ◌<◌, ◌≤◌, ◌⊎◌, inl, inr, List, [], ◌∷◌, ◌++◌, length, map, refl, ap, sym, subst, arith}
+use Rattle.std.proofs.lemmas.List.{append-nil, length-set}
+use Rattle.std.proofs.lemmas.List.Elements.{All-cons, All-nil, All-weaker}
 use Rattle.std.proofs.lemmas.Option.{same_Some, slice_get_within}
-use Rattle.std.specs.List.{All, AllZip, IsDistinct, zip}
+use Rattle.std.specs.List.{All, AllZip, IsDistinct, range_with_len, zip}
 use Rattle.std.specs.Prelude.{Some, None, nat_eq, slice_get, slice_set}
+use Rattle.ba_model.specs.SchemaFaults.{columns_of}
 use Rattle.ba_model.specs.declared.policy.View.{View}
 use Rattle.ba_model.specs.declared.query.Part.{Part}
 use Rattle.ba_model.specs.declared.schema.Link.{Link}
@@ -17,6 +18,7 @@ use Rattle.ba_facts.specs.declared.term.Fact.{Fact}
 use Rattle.ba_facts.specs.declared.term.Lesson.TheVariants.{Same}
 use Rattle.ba_facts.specs.declared.term.Side.TheVariants.{One, Two}
 use Rattle.ba_facts.specs.declared.term.Term.{Term}
+use Rattle.ba_facts.specs.declared.term.Term.TheVariants.{Unknown}
 use Rattle.ba_kernel.proofs.BuildNext.{row_there}
 use Rattle.ba_kernel.proofs.StepFits.{All-at}
 use Rattle.ba_kernel.specs.Courses.{IsOpen, ProblemFits, Slots, after, branch_of}
@@ -37,9 +39,11 @@ use Rattle.ba_instant.proofs.OldSplitLemmas.{get_within_front}
 use Rattle.ba_instant.proofs.QuietLemmas.{new_was_new, quiet_stays}
 use Rattle.ba_instant.proofs.QuietStepLemmas.{yields_gives}
 use Rattle.ba_instant.proofs.RoundLemmas.{round_once}
+use Rattle.ba_instant.proofs.SilentLemmas.{AreOfOne, silent_stays}
+use Rattle.ba_instant.specs.Agendas.{IsSilent}
 use Rattle.ba_instant.specs.Offers.{IsTelling}
 use Rattle.ba_instant.specs.QuietKeys.{AreOne, IsQuietKey}
-use Rattle.ba_instant.specs.QuietSteps.{FactsAreFilled, GivesRow, IsPlain, IsQuietEntry, IsQuietLink, IsQuietRule, IsQuietStep, IsQuietView, NewAfterQuietStep, QuietStepKeeps, TakesQuietly}
+use Rattle.ba_instant.specs.QuietSteps.{AddsToOne, FactsAreFilled, GivesRow, IsOfOne, IsPlain, IsQuietEntry, IsQuietLink, IsQuietRule, IsQuietStep, IsQuietView, NewAfterQuietStep, QuietStepKeeps, TakesQuietly}
 use Rattle.ba_instant.specs.Windows.{GrowsQuietly, IsGrounded, IsQuietUpto}
 
 -- ---- the case that keeps the number
@@ -93,9 +97,9 @@ at_least bound round b c low h =
 abbrev pub NoneIsNew : Problem → Branch → Branch → ℕ → Type 0
 NoneIsNew p b c n = (step : Step) (round : ℕ) → IsTelling n step → IsNewOn p c step × IsRound p c step round → IsNewOn p b step × IsRound p b step round
 
--- the branch grows quietly, or nothing is new that wasn't
+-- the branch grows quietly, or has the same facts and nothing new that wasn't
 abbrev pub IsKept : Problem → Branch → Branch → ℕ → ℕ → Type 0
-IsKept p b c n round = GrowsQuietly round b c ⊎ NoneIsNew p b c n
+IsKept p b c n round = GrowsQuietly round b c ⊎ (NoneIsNew p b c n × (c.facts ≡ b.facts))
 
 module _ (p : Problem) (b c : Branch) (grounded : IsGrounded b) (filled : FactsAreFilled p.policy.schema b) where
   entry_grows : (branch entry round : ℕ) (cases : List Branch) → EntryLeads p b entry cases → BeginsWith cases c → IsQuietEntry p b entry → IsRound p b (steps.Entry branch entry) round →
@@ -170,10 +174,15 @@ module _ (p : Problem) (b c : Branch) (grounded : IsGrounded b) (filled : FactsA
       (of_one cases (with_lessons b lessons) c leads.cases_are begins)
       (λ step round. new_before p b quiet.moves lessons quiet.quiet (told_of_rows b.known quiet.moves leads.f.terms leads.g.terms rows) n step round)
 
+  key_keeps : (key one other : ℕ) (cases : List Branch) → KeyLeads p b key one other cases → BeginsWith cases c → c.facts ≡ b.facts
+  key_keeps key one other cases leads begins =
+      let lessons = map (λ (two : Term × Term). Same two.0 two.1) (zip leads.f.terms leads.g.terms) in
+      subst (λ (d : Branch). d.facts ≡ b.facts) (of_one cases (with_lessons b lessons) c leads.cases_are begins) refl
+
   step_grows : (step : Step) (cases : List Branch) (round : ℕ) → Leads p b step cases → BeginsWith cases c → IsQuietStep p b step → IsRound p b step round → IsKept p b c (branch_of step) round
   step_grows (steps.Entry branch entry) cases round leads begins quiet round_at =
       inl (entry_grows branch entry round cases leads begins quiet round_at)
-  step_grows (steps.Key branch key left right) cases round leads begins quiet round_at = inr (key_adds branch key left right cases leads begins quiet)
+  step_grows (steps.Key branch key left right) cases round leads begins quiet round_at = inr (key_adds branch key left right cases leads begins quiet, key_keeps key left right cases leads begins)
   step_grows (steps.Link branch link fact) cases round leads begins quiet round_at =
       inl (subst (λ r. GrowsQuietly r b c) (sym round_at) (link_grows_by link fact cases leads begins quiet))
   step_grows (steps.Rule branch rule part facts) cases round leads begins quiet round_at =
@@ -184,6 +193,35 @@ module _ (p : Problem) (b c : Branch) (grounded : IsGrounded b) (filled : FactsA
   step_grows (steps.Absurd branch) cases round leads begins quiet round_at = absurd quiet
   step_grows (steps.Goal branch part facts) cases round leads begins quiet round_at = absurd quiet
 
+  -- ---- by a link of a fact of side One
+
+  -- there are more facts, all of side One
+  abbrev GainsOnes : Branch → Type 0
+  GainsOnes d = (more : List Fact) × (d.facts ≡ b.facts ++ more) × AreOfOne more
+
+  link_ones : (link fact : ℕ) (cases : List Branch) → LinkLeads p b link fact cases → BeginsWith cases c → IsOfOne b fact → GainsOnes c
+  link_ones link fact cases leads begins one =
+      let same : one.f ≡ leads.f = same_Some one.f leads.f (sym one.fact_is ∙ leads.fact_is) in
+      let side : leads.f.side ≡ One = subst (λ (x : Fact). x.side ≡ One) same one.side_is in
+      let mid = with_fact p.policy.schema leads.f.side (1 + leads.f.round) b leads.it.target in
+      let row : Fact = record { side = leads.f.side; table = leads.it.target; terms = map Unknown (range_with_len (length b.known.unknowns) (length (columns_of p.policy.schema.tables leads.it.target))); round = 1 + leads.f.round } in
+      subst GainsOnes (of_one cases (with_lessons mid leads.lessons) c leads.cases_are begins)
+      (row ∷ [], refl, All-cons (λ (f : Fact). f.side ≡ One) row [] side (All-nil (λ (f : Fact). f.side ≡ One)))
+
+  silent_step : (step : Step) (cases : List Branch) → Leads p b step cases → BeginsWith cases c → IsQuietStep p b step → AddsToOne b step → IsSilent p (branch_of step) b →
+      IsSilent p (branch_of step) c
+  silent_step (steps.Entry branch entry) cases leads begins quiet adds = absurd adds
+  silent_step (steps.Key branch key left right) cases leads begins quiet adds = absurd adds
+  silent_step (steps.Link branch link fact) cases leads begins quiet one =
+      let grows = link_grows_by link fact cases leads begins quiet in
+      let more = link_ones link fact cases leads begins one in
+      silent_stays p b c grounded grows.growth more.0 more.1 more.2 branch
+  silent_step (steps.Rule branch rule part facts) cases leads begins quiet adds = absurd adds
+  silent_step (steps.View branch view part facts) cases leads begins quiet adds = absurd adds
+  silent_step (steps.Split branch atom) cases leads begins quiet adds = absurd adds
+  silent_step (steps.Absurd branch) cases leads begins quiet adds = absurd adds
+  silent_step (steps.Goal branch part facts) cases leads begins quiet adds = absurd adds
+
 module _ (p : Problem) (taken : List Step) (step : Step) (old new : Slots) (b c : Branch) (round : ℕ) (fits : ProblemFits p) (it : TakesQuietly p taken step old new b c round) where
   grounded_there : IsGrounded b
   grounded_there = runs_are_grounded p taken old (branch_of step) b fits it.runs it.from
@@ -191,25 +229,39 @@ module _ (p : Problem) (taken : List Step) (step : Step) (old new : Slots) (b c 
   filled_there : FactsAreFilled p.policy.schema b
   filled_there = runs_are_filled p taken old (branch_of step) b it.runs it.from
 
-  kept_there : IsKept p b c (branch_of step) round
-  kept_there =
-      let n = branch_of step in
+  leads_there : Leads p b step it.takes.cases
+  leads_there =
       let same : it.takes.branch ≡ b = same_Some it.takes.branch b (same_Some (Some it.takes.branch) (Some b) (sym it.takes.open_ ∙ it.from)) in
-      let leads = subst (λ d. Leads p d step it.takes.cases) same it.takes.leads in
-      let begins = first_case old n it.takes.cases c (slice_get_within old n (Some b) it.from) (subst (λ slots. IsOpen slots n c) it.takes.new_is it.to) in
-      step_grows p b c grounded_there filled_there step it.takes.cases round leads begins it.quiet it.round_is
+      subst (λ d. Leads p d step it.takes.cases) same it.takes.leads
+
+  begins_there : BeginsWith it.takes.cases c
+  begins_there =
+      let n = branch_of step in
+      first_case old n it.takes.cases c (slice_get_within old n (Some b) it.from) (subst (λ slots. IsOpen slots n c) it.takes.new_is it.to)
+
+  kept_there : IsKept p b c (branch_of step) round
+  kept_there = step_grows p b c grounded_there filled_there step it.takes.cases round leads_there begins_there it.quiet it.round_is
+
+  pub more_facts : (more : List Fact) × (c.facts ≡ b.facts ++ more)
+  more_facts = elim kept_there as (λ _. (more : List Fact) × (c.facts ≡ b.facts ++ more)) [
+    | inl grows ↦ (grows.growth.facts, grows.growth.facts_are)
+    | inr none ↦ ([], none.1 ∙ sym (append-nil b.facts))
+  ]
+
+  pub stays_silent : AddsToOne b step → IsSilent p (branch_of step) b → IsSilent p (branch_of step) c
+  stays_silent = silent_step p b c grounded_there filled_there step it.takes.cases leads_there begins_there it.quiet
 
   pub was_new : (other : Step) (its_round : ℕ) → IsTelling (branch_of step) other → IsNewOn p c other → IsRound p c other its_round → its_round ≤ round →
       IsNewOn p b other × IsRound p b other its_round
   was_new other its_round telling is_new its low = elim kept_there as (λ _. IsNewOn p b other × IsRound p b other its_round) [
     | inl grows ↦ new_was_new p b c (branch_of step) round other its_round grounded_there grows telling low is_new its
-    | inr none ↦ none other its_round telling (is_new, its)
+    | inr none ↦ none.0 other its_round telling (is_new, its)
   ]
 
   pub stays_quiet : (bound : ℕ) → bound ≤ round → IsQuietUpto p b (branch_of step) bound → IsQuietUpto p c (branch_of step) bound
   stays_quiet bound low quiet = elim kept_there as (λ _. IsQuietUpto p c (branch_of step) bound) [
     | inl grows ↦ quiet_stays p b c (branch_of step) (branch_of step) bound grounded_there (at_least bound round b c low grows) quiet
-    | inr none ↦ λ other its_round telling is_new its. let old = none other its_round telling (is_new, its) in quiet other its_round telling old.0 old.1
+    | inr none ↦ λ other its_round telling is_new its. let old = none.0 other its_round telling (is_new, its) in quiet other its_round telling old.0 old.1
   ]
 
 pub new_after_quiet_step : NewAfterQuietStep

@@ -8,6 +8,7 @@ mod DueLemmas
 mod LateLemmas
 mod LookLemmas
 mod PairLemmas
+mod PartnerLemmas
 mod TakeLemmas
 mod OvertakenLemmas
 mod PickLemmas
@@ -31,6 +32,7 @@ mod QuietStepLemmas
 mod LinkRowLemmas
 mod FreshLemmas
 mod FreshStepLemmas
+mod SilentLemmas
 mod KeepLemmas
 mod LooseLemmas
 mod LooseStepLemmas

@@ -6,7 +6,7 @@ use Rattle.std.specs.Cmp.{nat_cmp_is, upto}
 use Rattle.std.specs.Option.{option_cmp}
 use Rattle.std.specs.Ordering.{is_gt, nat_cmp, ordering_then}
 use Rattle.std.specs.declared.cmp.Ordering.TheVariants.{Less, Greater}
-use Rattle.std.specs.Prelude.{◌≢◌, IfOk, Option, Some, None, Result, Ok, Err, option_and_then, slice_get, slice_set}
+use Rattle.std.specs.Prelude.{◌≢◌, Contains, IfOk, IsTrue, Option, Some, None, Result, Ok, Err, min, option_and_then, slice_get, slice_set}
 use Rattle.std.specs.declared.alloc.AllocError.{AllocError}
 use Rattle.ba_facts.proofs.PlaceLemmas.{upto as up_to_bound}
 use Rattle.ba_facts.specs.declared.branch.Branch.{Branch}
@@ -15,24 +15,25 @@ use Rattle.ba_model.specs.declared.failure.Failure.TheVariants.{Fault}
 use Rattle.ba_kernel.proofs.NewLemmas.{all_at}
 use Rattle.ba_kernel.proofs.TestLemmas.{not_both}
 use Rattle.ba_kernel.specs.Courses.{AllClosed, IsOpen, IsStart, ProblemFits, Runs, Slots, Takes, after, branch_of}
-use Rattle.ba_kernel.specs.News.{IsNewOn}
+use Rattle.ba_kernel.specs.News.{IsNewOn, IsRound}
 use Rattle.ba_kernel.specs.Tests.{Course, IsErrorOf, IsRefusedAt, open_at}
 use Rattle.ba_kernel.specs.declared.problem.Problem.{Problem}
 use Rattle.ba_kernel.specs.declared.step.Step.{Step}
 use Rattle.ba_kernel.specs.declared.step.StepFault.{StepFault}
 use Rattle.ba_instant.proofs.ChaseLemmas.{open_is}
 use Rattle.ba_instant.proofs.AfterSplitLemmas.{first_quiet, other_quiet, quiet_zero}
-use Rattle.ba_instant.proofs.AgendaLemmas.{none_is_agenda}
+use Rattle.ba_instant.proofs.AgendaLemmas.{none_is_agenda, older_on}
 use Rattle.ba_instant.proofs.DueLemmas.{gt_false, new_in, not_greater, one_open}
-use Rattle.ba_instant.proofs.KeepLemmas.{new_after_quiet_step}
+use Rattle.ba_instant.proofs.KeepLemmas.{more_facts, new_after_quiet_step, stays_silent}
 use Rattle.ba_instant.proofs.OfferLemmas.{not_behind}
 use Rattle.ba_instant.proofs.OrderLemmas.{pick_total}
 use Rattle.ba_instant.proofs.RoundLemmas.{round_once}
 use Rattle.ba_instant.specs.Dues.{DueList, Ends, HasNew, HaveNewBelow, IsDue, IsSaturated, Searches}
-use Rattle.ba_instant.specs.Agendas.{IsAgenda, IsAgendaAt, IsNone}
+use Rattle.ba_instant.specs.Agendas.{AreInTurn, AreOlder, IsAgenda, IsAgendaAt, IsListed, IsNone, IsSilent, MOST_ROUND}
 use Rattle.ba_instant.specs.Loose.{IsQuietBeside}
-use Rattle.ba_instant.specs.Nexts.{AreQuietBeside, IsQuietRound, AreWaiting, ComesLater, IsFirstBelow, IsLeafOf, IsLeastSaturated, IsLeft, IsPickedBelow, IsQuietAt, IsTaken, Passes, SaturatedAt, Waits, first_step}
-use Rattle.ba_instant.specs.Offers.{IsDueIfAny, IsDueOn, IsRoundAt, first_by}
+use Rattle.ba_instant.specs.Nexts.{AreQuietBeside, IsQuietRound, AreWaiting, ComesLater, IsFirstBelow, IsKept, IsLeafOf, IsLeastSaturated, IsLeft, IsPickedBelow, IsQuietAt, IsTaken, Passes, SaturatedAt, Waits, first_step}
+use Rattle.ba_instant.specs.Offers.{IsDueIfAny, IsDueOn, IsRoundAt, IsTelling, first_by}
+use Rattle.ba_instant.specs.QuietSteps.{AddsToOneAt, TakesQuietly}
 use Rattle.ba_instant.specs.Order.{atom_cmp, numbers_cmp, pick_cmp, step_atom, step_cmp, step_rank}
 use Rattle.ba_instant.specs.declared.waiting.Waiting.{Waiting}
 use Rattle.ba_instant.specs.declared.agenda.Agenda.{Agenda}
@@ -248,32 +249,61 @@ module _ (pick : Pick) (c : Course) (of : Due) (it : IsTaken pick c of) where
         round_once c.problem due.branch step of.found.round due.round
         (subst (λ at. IsRoundAt c.problem at step of.found.round) (open_is c.slots (branch_of step) due.branch due.open_) it.round_is) due.round_is
 
-    -- what is new after a quiet step was so before, so that it is listed
-    listed_after : (new : Course) (b : Branch) → Takes c.problem c.slots step new.slots → IsOpen new.slots (branch_of step) b →
-        IsQuietAt c.problem (open_at c.slots (branch_of step)) step → of.agenda.round ≤ of.found.round → IsAgenda pick c.problem (branch_of step) b of.agenda
-    listed_after new b takes to quiet low =
-        let was = it.agenda.of due.branch due.open_ in
+    -- what is known of the branch before a quiet step is known after it
+    module _ (new : Course) (b : Branch) (takes : Takes c.problem c.slots step new.slots) (to : IsOpen new.slots (branch_of step) b)
+        (quiet : IsQuietAt c.problem (open_at c.slots (branch_of step)) step) where
+      taken_quietly : TakesQuietly c.problem c.steps step c.slots new.slots due.branch b due.round
+      taken_quietly = record {
+        runs = runs_of pick c.problem c.steps c.slots searches;
+        takes = takes;
+        from = due.open_;
+        to = to;
+        quiet = subst (λ at. IsQuietAt c.problem at step) (open_is c.slots (branch_of step) due.branch due.open_) quiet;
+        round_is = due.round_is;
+      }
+
+      was : IsAgenda pick c.problem (branch_of step) due.branch of.agenda
+      was = it.agenda.of due.branch due.open_
+
+      -- what is new after it was so before, so that it is listed
+      listed_after : of.agenda.round ≤ of.found.round → (other : Step) (round : ℕ) → IsTelling (branch_of step) other → IsNewOn c.problem b other → IsRound c.problem b other round →
+          round ≤ of.agenda.round → (round ≡ of.agenda.round) × IsListed pick of.agenda.steps.items other
+      listed_after low other round telling is_new round_is early =
+          let before =
+          new_after_quiet_step c.problem c.steps step c.slots new.slots due.branch b due.round other round fits taken_quietly telling is_new round_is (omega (arith, early, low, due_round)) in
+          was.listed other round telling before.0 before.1 early
+
+      -- the facts that were there are
+      older_after : (end bound : ℕ) → AreOlder due.branch end bound → AreOlder b end bound
+      older_after end bound h =
+          let more = more_facts c.problem c.steps step c.slots new.slots due.branch b due.round fits taken_quietly in
+          older_on due.branch b end bound more.0 more.1 h
+
+      silent_after : AddsToOneAt (open_at c.slots (branch_of step)) step → IsTrue of.agenda.silent → IsSilent c.problem (branch_of step) b
+      silent_after adds told =
+          stays_silent c.problem c.steps step c.slots new.slots due.branch b due.round fits taken_quietly
+          (subst (λ at. AddsToOneAt at step) (open_is c.slots (branch_of step) due.branch due.open_) adds) (was.silent told)
+
+    kept_after : (new : Course) (left : Agenda) (b : Branch) → Takes c.problem c.slots step new.slots → IsOpen new.slots (branch_of step) b → IsKept c of left →
+        IsAgenda pick c.problem (branch_of step) b left
+    kept_after new left b takes to h =
+        let before = it.agenda.of due.branch due.open_ in
+        let round_is = h.round_is in
         record {
-          on = was.on;
-          in_turn = was.in_turn;
-          listed = λ other round telling is_new round_is early.
-              let before =
-              new_after_quiet_step c.problem c.steps step c.slots new.slots due.branch b due.round other round fits
-              (record {
-                runs = runs_of pick c.problem c.steps c.slots searches;
-                takes = takes;
-                from = due.open_;
-                to = to;
-                quiet = subst (λ at. IsQuietAt c.problem at step) (open_is c.slots (branch_of step) due.branch due.open_) quiet;
-                round_is = due.round_is;
-              }) telling is_new round_is (omega (arith, early, low, due_round)) in
-              was.listed other round telling before.0 before.1 early;
+          on = λ other in_. before.on other (subst (λ xs. Contains xs other) h.steps_are in_);
+          in_turn = subst (AreInTurn pick) (sym h.steps_are) before.in_turn;
+          listed = λ other round telling is_new its early.
+              let at = listed_after new b takes to h.quiet h.low other round telling is_new its (omega (arith, early, round_is)) in
+              (at.0 ∙ sym round_is, subst (λ xs. IsListed pick xs other) (sym h.steps_are) at.1);
+          older = subst (λ end. AreOlder b end (min left.round MOST_ROUND)) (sym h.older_is)
+              (subst (λ round. AreOlder b of.agenda.older (min round MOST_ROUND)) (sym round_is) (older_after new b takes to h.quiet of.agenda.older (min of.agenda.round MOST_ROUND) before.older));
+          silent = λ told. let both = h.silent told in silent_after new b takes to h.quiet both.1 both.0;
         }
 
     agenda_after : (new : Course) (left : Agenda) (b : Branch) → Takes c.problem c.slots step new.slots → IsOpen new.slots (branch_of step) b → IsLeft c of left →
         IsAgenda pick c.problem (branch_of step) b left
     agenda_after new left b takes to (inl none) = none_is_agenda pick c.problem (branch_of step) b left none
-    agenda_after new left b takes to (inr (quiet, same, low)) = subst (IsAgenda pick c.problem (branch_of step) b) (sym same) (listed_after new b takes to quiet low)
+    agenda_after new left b takes to (inr kept) = kept_after new left b takes to kept
 
     -- all other branches are as before
     pub waiting_after : (new : Course) (waiting : Waiting) (left : Agenda) → waiting.below ≡ length c.slots → waiting.but ≡ branch_of step → waiting.agenda ≡ left → IsNone waiting.next → IsLeft c of left →

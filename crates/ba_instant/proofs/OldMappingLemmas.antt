@@ -109,7 +109,7 @@ module _ (b c : Branch) (grounded : IsGrounded b) (growth : IsQuietGrowth b c) w
           same = same_back k l (IsThere k) growth.stands growth.itself on back h.left h.right (there facts x h.left h.left_is) right_there h.same;
         }
 
-    same_row_back : (facts : List ℕ) (head : List Operand) (row : List Term) → All (IsThere k) row → AllZip (AreTheSame l) (row_of b facts head) (map Some row) →
+    pub same_row_back : (facts : List ℕ) (head : List Operand) (row : List Term) → All (IsThere k) row → AllZip (AreTheSame l) (row_of b facts head) (map Some row) →
         AllZip (AreTheSame k) (row_of b facts head) (map Some row)
     same_row_back facts [] [] all h = tt
     same_row_back facts [] (t ∷ row) all h = absurd h

@@ -1,5 +1,5 @@
 -- Keys of two facts, of which one is recent.
-use Rattle.std.proofs.Common.{◌≡◌, ◌∙◌, ℕ, ◌+◌, ◌<◌, ◌≤◌, ◌⊎◌, inl, inr, List, [], ◌∷◌, length, refl, sym, ap, subst, arith}
+use Rattle.std.proofs.Common.{◌≡◌, ◌∙◌, ℕ, ◌+◌, ◌<◌, ◌≤◌, ◌⊎◌, inl, inr, List, [], ◌∷◌, refl, sym, ap, subst, arith}
 use Rattle.std.proofs.lemmas.Bool.{cases_lt}
 use Rattle.std.proofs.lemmas.Option.{get_or_from_slice_get, slice_get-get_or, slice_get_within}
 use Rattle.std.specs.List.{All, Any, Contains}
@@ -17,13 +17,14 @@ use Rattle.ba_kernel.specs.News.{IsRound}
 use Rattle.ba_kernel.specs.Tests.{Course, KeyPasses}
 use Rattle.ba_kernel.specs.declared.step.Step.{Step}
 use Rattle.ba_kernel.specs.declared.step.Step.TheVariants as steps
-use Rattle.ba_instant.proofs.ChaseLemmas.{key_left_past, key_right_past, new_on}
+use Rattle.ba_instant.proofs.ChaseLemmas.{new_on}
 use Rattle.ba_instant.proofs.DueLemmas.{round_on}
 use Rattle.ba_instant.proofs.LateLemmas.{improves_behind, untimely_reaches, untimely_some}
 use Rattle.ba_instant.proofs.LookLemmas.{recent_or}
-use Rattle.ba_instant.proofs.OfferLemmas.{improves_as, improves_both, improves_end, improves_next}
+use Rattle.ba_instant.proofs.OfferLemmas.{improves_as}
 use Rattle.ba_instant.specs.Looks.{AreEqualBy, AreRecent, IsKeyInTurn, IsKeyOfTwo, IsTimelyKey, IsTurn, KeysAreLate, ShareKey}
-use Rattle.ba_instant.specs.Offers.{Improves, IsFound, IsKeyOfPair, IsKeyStep, IsNewIn, OfAny, Upto, fact_round}
+use Rattle.ba_instant.specs.Offers.{Improves, IsFound, IsKeyStep, IsNewIn, OfAny, fact_round}
+use Rattle.ba_instant.specs.Partners.{ArePartners}
 use Rattle.ba_instant.specs.declared.batch.Batch.{Batch}
 use Rattle.ba_instant.specs.declared.found.Found.{Found}
 use Rattle.ba_instant.specs.declared.order.Pick.{Pick}
@@ -132,34 +133,21 @@ module _ (c : Course) (n quiet : ℕ) (b : Branch) (open_ : IsOpen c.slots n b) 
   late_two other it P (inr (key, is)) h = late_key other key other one it P is h (omega arith)
 
   -- it isn't the other's turn, or no key of the two may be new and come first
-  pub pair_passed : (other : ℕ) (old best last : Option Batch) → last ≡ best →
-      (IsTurn b quiet one other × IsTimelyKey b one other best × ShareKey c.problem.policy.schema b one other → ⊥) →
-      Improves c pick (Upto InTurn other) old best → Improves c pick (Upto InTurn (other + 1)) old last
-  pair_passed other old best last same none before =
-      subst (Improves c pick (Upto InTurn (other + 1)) old) (sym same)
-      (improves_next c pick InTurn other old best best before
-      (improves_behind c pick (InTurn other) best
+  pub pair_passed : (other : ℕ) (best : Option Batch) → (IsTurn b quiet one other × IsTimelyKey b one other best × ShareKey c.problem.policy.schema b one other → ⊥) →
+      Improves c pick (InTurn other) best best
+  pair_passed other best none =
+      improves_behind c pick (InTurn other) best
       (λ it h.
       untimely_reaches pick (max (fact_round b one) (fact_round b other)) best it (λ timely. none ((h.of).0, timely, shares other it.step (h.of).1 h.new_))
       (late_two other it (InTurn other) (h.of).1 h))
-      (λ step e new. untimely_some (max (fact_round b one) (fact_round b other)) best (λ timely. none (e.0, timely, shares other step e.1 new)))))
+      (λ step e new. untimely_some (max (fact_round b one) (fact_round b other)) best (λ timely. none (e.0, timely, shares other step e.1 new)))
 
-  pub pair_offered : (other : ℕ) (old best mid new last : Option Batch) → last ≡ new → IsTurn b quiet one other → Improves c pick (Upto InTurn other) old best →
-      Improves c pick (IsKeyOfPair n one other) best mid → Improves c pick (IsKeyOfPair n other one) mid new → Improves c pick (Upto InTurn (other + 1)) old last
-  pair_offered other old best mid new last same turn before first second =
-      subst (Improves c pick (Upto InTurn (other + 1)) old) (sym same)
-      (improves_next c pick InTurn other old best new before
-      (improves_as c pick (IsKeyOfTwo n one other) (InTurn other) best new (λ step e is. (turn, e)) (λ step e is. e.1)
-      (improves_both c pick (IsKeyOfPair n one other) (IsKeyOfPair n other one) best mid new first second)))
-
-  -- there is no fact past the last one
-  pair_past : (other : ℕ) (step : Step) → length b.facts ≤ other → IsKeyOfTwo n one other step → IsNewIn c step → ⊥
-  pair_past other step past (inl (key, is)) new = key_right_past c n b open_ key one other step past is new
-  pair_past other step past (inr (key, is)) new = key_left_past c n b open_ key other one step past is new
-
-  pub pairs_all : (bound : ℕ) (old new : Option Batch) → length b.facts ≤ bound → Improves c pick (Upto InTurn bound) old new → Improves c pick (OfAny InTurn) old new
-  pairs_all bound old new all h =
-      improves_end c pick InTurn bound old new h (λ other step more e is. pair_past other step (omega (arith, all, more)) e.1 is)
+  -- each that shares a key with the fact is one of its partners
+  pub partners_all : (partners : List ℕ) (old new : Option Batch) → ArePartners c.problem.policy.schema b one partners →
+      Improves c pick (λ step. Any (λ other. InTurn other step) partners) old new → Improves c pick (OfAny InTurn) old new
+  partners_all partners old new are h =
+      improves_as c pick (λ step. Any (λ other. InTurn other step) partners) (OfAny InTurn) old new (λ step e is. (e.1, e.4))
+      (λ step e is. let at = are e.0 (shares e.0 step (e.1).1 is) in (at.0, e.0, at.1, at.2, e.1)) h
 
 -- ---- the test
 

@@ -8,5 +8,6 @@ pub mod QuietKeys
 pub mod QuietSteps
 pub mod Givens
 pub mod Looks
+pub mod Partners
 pub mod Agendas
 pub mod Nexts

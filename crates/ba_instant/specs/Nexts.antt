@@ -1,5 +1,5 @@
 -- What a search does next.
-use Rattle.std.specs.Prelude.{◌≡◌, ◌≢◌, ◌⊎◌, ℕ, ◌+◌, ◌<◌, ◌≤◌, Bool, false, true, Option, Some, None, length}
+use Rattle.std.specs.Prelude.{◌≡◌, ◌≢◌, ◌⊎◌, ℕ, ◌+◌, ◌<◌, ◌≤◌, Bool, false, true, IsTrue, Option, Some, None, length}
 use Rattle.std.specs.Ordering.{is_gt}
 use Rattle.std.specs.declared.cmp.Ordering.TheVariants.{Greater}
 use Rattle.ba_facts.specs.declared.branch.Branch.{Branch}
@@ -12,7 +12,7 @@ use Rattle.ba_facts.specs.declared.term.TermAtom.{TermAtom}
 use Rattle.ba_instant.specs.Dues.{EachHasNew, HasNew, HaveNewBelow, IsDue, IsPicked, IsSaturated, Searches}
 use Rattle.ba_instant.specs.Offers.{IsRoundIn, first_by}
 use Rattle.ba_instant.specs.Order.{pick_cmp}
-use Rattle.ba_instant.specs.QuietSteps.{IsQuietStep}
+use Rattle.ba_instant.specs.QuietSteps.{AddsToOneAt, IsQuietStep}
 use Rattle.ba_instant.specs.Agendas.{IsAgendaAt, IsNone}
 use Rattle.ba_instant.specs.Loose.{IsLooseAtom, IsQuietBeside}
 use Rattle.ba_instant.specs.declared.found.Found.{Found}
@@ -111,9 +111,18 @@ abbrev pub IsQuietAt : Problem → Option Branch → Step → Type 0
 IsQuietAt p None step = ⊥
 IsQuietAt p (Some b) step = IsQuietStep p b step
 
--- nothing is left of the agenda, or all of it, and the step is quiet and of no lesser round
+-- all is left of the agenda after a quiet step of no lesser round, but that the branch is silent only where the step adds to side One alone
+pub record IsKept (c : Course) (it : Due) (left : Agenda) : Type 0 where
+  pub quiet : IsQuietAt c.problem (open_at c.slots (branch_of it.found.step)) it.found.step
+  pub low : it.agenda.round ≤ it.found.round
+  pub round_is : left.round ≡ it.agenda.round
+  pub older_is : left.older ≡ it.agenda.older
+  pub steps_are : left.steps.items ≡ it.agenda.steps.items
+  pub silent : IsTrue left.silent → IsTrue it.agenda.silent × AddsToOneAt (open_at c.slots (branch_of it.found.step)) it.found.step
+
+-- nothing is left of it, or it is kept so
 abbrev pub IsLeft : Course → Due → Agenda → Type 0
-IsLeft c it left = IsNone left ⊎ (IsQuietAt c.problem (open_at c.slots (branch_of it.found.step)) it.found.step × (left ≡ it.agenda) × (it.agenda.round ≤ it.found.round))
+IsLeft c it left = IsNone left ⊎ IsKept c it left
 
 -- its new steps aren't the next one: a step of a branch before it was found already
 abbrev pub ComesLater : Pick → Option Due → Type 0

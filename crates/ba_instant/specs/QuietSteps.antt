@@ -1,5 +1,5 @@
 -- Steps whose first case, which keeps the branch's number, grows quietly.
-use Rattle.std.specs.Prelude.{◌≡◌, ℕ, ◌≤◌, List, [], All, map, Option, Some, false, nat_eq, slice_get}
+use Rattle.std.specs.Prelude.{◌≡◌, ℕ, ◌≤◌, List, [], All, map, Option, Some, None, false, nat_eq, slice_get}
 use Rattle.std.specs.List.{AllZip, IsDistinct}
 use Rattle.ba_model.specs.SchemaFaults.{columns_of}
 use Rattle.ba_model.specs.declared.policy.View.{View}
@@ -17,6 +17,7 @@ use Rattle.ba_facts.specs.Shown.{RecordedApart}
 use Rattle.ba_facts.specs.declared.branch.Branch.{Branch}
 use Rattle.ba_facts.specs.declared.term.Fact.{Fact}
 use Rattle.ba_facts.specs.declared.term.Side.{Side}
+use Rattle.ba_facts.specs.declared.term.Side.TheVariants.{One}
 use Rattle.ba_facts.specs.declared.term.Term.{Term}
 use Rattle.ba_kernel.specs.Courses.{IsOpen, ProblemFits, Runs, Slots, Takes, branch_of}
 use Rattle.ba_kernel.specs.Effects.{IsCase, IsLinkOf, rows_at}
@@ -116,6 +117,29 @@ IsQuietStep p b (steps.View branch view part facts) = IsQuietView p b view part 
 IsQuietStep p b (steps.Split branch atom) = ⊥
 IsQuietStep p b (steps.Absurd branch) = ⊥
 IsQuietStep p b (steps.Goal branch part facts) = ⊥
+
+-- ---- steps that add to side One alone
+
+-- the fact is of side One
+pub record IsOfOne (b : Branch) (fact : ℕ) : Type 0 where
+  pub f : Fact
+  pub fact_is : slice_get b.facts fact ≡ Some f
+  pub side_is : f.side ≡ One
+
+-- the step is by a link of such a fact
+abbrev pub AddsToOne : Branch → Step → Type 0
+AddsToOne b (steps.Entry branch entry) = ⊥
+AddsToOne b (steps.Key branch key left right) = ⊥
+AddsToOne b (steps.Link branch link fact) = IsOfOne b fact
+AddsToOne b (steps.Rule branch rule part facts) = ⊥
+AddsToOne b (steps.View branch view part facts) = ⊥
+AddsToOne b (steps.Split branch atom) = ⊥
+AddsToOne b (steps.Absurd branch) = ⊥
+AddsToOne b (steps.Goal branch part facts) = ⊥
+
+abbrev pub AddsToOneAt : Option Branch → Step → Type 0
+AddsToOneAt None step = ⊥
+AddsToOneAt (Some b) step = AddsToOne b step
 
 -- ---- the laws
 

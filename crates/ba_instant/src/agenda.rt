@@ -1,7 +1,7 @@
 //! What is left to do of a round on a branch.
 ghost use Rattle.std.specs.Prelude.{◌≡◌, ◌↔◌, ◌++◌, ◌-◌, [], IfOk, IsTrue, OnOk, Some, false, length, option_to_list, slice_get};
 ghost use Rattle.ba_kernel.specs.declared.step.Step.{Step as AStep};
-ghost use Rattle.ba_instant.specs.Agendas.{EndsOld, IsAgendaOf, IsFirstOf, IsInTurn, IsNewHere, IsPast, IsQuietAgenda, IsTrimmed, IsWithoutLast};
+ghost use Rattle.ba_instant.specs.Agendas.{EndsOld, IsAgendaOf, IsFirstOf, IsInTurn, IsNewHere, IsNone, IsPast, IsQuietAgenda, IsTrimmed, IsWithoutLast};
 
 use crate::batch::{Batch, is_single};
 use crate::found::Found;
@@ -13,20 +13,26 @@ use std::alloc::{AllocError, Global};
 /// Steps of a round on a branch, those at the end to be picked first. No step of a lesser round that
 /// tells the branch something is new, and each new one of this round is listed, but for splits that
 /// are picked after the one that is.
+///
+/// The facts of a number less than `older` are of a lesser round. Where it is `silent`, no step that
+/// closes the branch is new.
 #[derive(Debug, Drop)]
 pub struct Agenda {
     pub round: u64,
+    pub older: u32,
+    pub silent: bool,
     pub steps: Vec<Step>,
 }
 
 impl Agenda {
     /// Nothing: no step that tells a branch something is of round 0.
     pub fn none(alloc: Global) -> Agenda
-        ensures round { result.round ≡ 0 }
-        ensures steps { result.steps.items ≡ [] }
+        ensures { IsNone result }
     {
         Agenda {
             round: 0,
+            older: 0,
+            silent: false,
             steps: Vec::new(alloc),
         }
     }
@@ -38,6 +44,8 @@ impl Agenda {
         if is_past(round, found) {
             Agenda {
                 round,
+                older: 0,
+                silent: false,
                 steps: Vec::new(alloc),
             }
         } else {
@@ -45,7 +53,7 @@ impl Agenda {
         }
     }
 
-    /// The steps of the batch.
+    /// The steps of the batch. Nothing is known of the branch beside them.
     pub fn of(pick: Pick, batch: Batch) -> Result<Agenda, AllocError>
         ensures { IfOk result (IsAgendaOf pick batch) }
     {
@@ -57,7 +65,12 @@ impl Agenda {
         let mut steps = steps.into_vec();
         add_single(single, &mut steps)?;
         put_in_turn(pick, &mut steps);
-        Ok(Agenda { round, steps })
+        Ok(Agenda {
+            round,
+            older: 0,
+            silent: false,
+            steps,
+        })
     }
 
     /// The step that is picked first, with the round.

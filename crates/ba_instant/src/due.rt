@@ -1,7 +1,7 @@
 //! The due step of a branch, and of all open branches.
 ghost use Rattle.std.specs.Prelude.{◌≡◌, ◌↔◌, [], IfOk, IsTrue, None, OnOk, Some};
 ghost use Rattle.ba_kernel.specs.Courses.{IsOpen};
-ghost use Rattle.ba_instant.specs.Agendas.{IsAgenda, IsAgendaAt};
+ghost use Rattle.ba_instant.specs.Agendas.{AreOlder, IsAgenda, IsAgendaAt};
 ghost use Rattle.ba_instant.specs.Loose.{IsQuietBeside};
 ghost use Rattle.ba_facts.specs.declared.branch.Branch.{Branch as ABranch};
 ghost use Rattle.ba_instant.specs.Looks.{IsLook};
@@ -13,7 +13,7 @@ use crate::agenda::Agenda;
 use crate::batch::Batch;
 use crate::found::{Found, Spot};
 use crate::order::Pick;
-use crate::recent::recent_facts;
+use crate::recent::{first_recent, recent_facts};
 use crate::waiting::Waiting;
 use ba_facts::Branch;
 use ba_kernel::{Search, Step};
@@ -103,6 +103,9 @@ impl Place<'_> {
         ensures due { IfOk result (IsDueIfAny self.now.search.now self.now.pick self.now.number) }
         ensures agenda { OnOk result (IsAgenda self.now.pick self.now.search.now.problem self.now.number self.now.branch.now agenda.new) }
     {
+        if agenda.silent {
+            return self.telling_step(alloc, agenda);
+        }
         let closing = self.closing_steps(alloc)?;
         match closing {
             Some(batch) => self.first_of(alloc, batch),
@@ -115,7 +118,7 @@ impl Place<'_> {
         requires { IsOpen self.now.search.now.slots self.now.number self.now.branch.now }
         ensures { IfOk result (Improves self.now.search.now self.now.pick (IsClosing self.now.number) None) }
     {
-        let recent = recent_facts(alloc, self.branch, 0)?;
+        let recent = recent_facts(alloc, self.branch, 0, 0)?;
         let spot = Spot {
             alloc,
             search: self.search,
@@ -135,7 +138,7 @@ impl Place<'_> {
         requires { IsOpen self.now.search.now.slots self.now.number self.now.branch.now }
         ensures { IfOk result (Improves self.now.search.now self.now.pick (IsByMapping self.now.number) None) }
     {
-        let recent = recent_facts(alloc, self.branch, 0)?;
+        let recent = recent_facts(alloc, self.branch, 0, 0)?;
         let spot = Spot {
             alloc,
             search: self.search,
@@ -169,6 +172,7 @@ impl Place<'_> {
         ensures due { IfOk result (IsDueIfAny self.now.search.now self.now.pick self.now.number) }
         ensures agenda { OnOk result (IsAgenda self.now.pick self.now.search.now.problem self.now.number self.now.branch.now agenda.new) }
     {
+        agenda.silent = true;
         agenda.drop_old(alloc, self.search);
         let first = agenda.first(alloc)?;
         match first {
@@ -186,10 +190,14 @@ impl Place<'_> {
         ensures due { IfOk result (IsDueIfAny self.now.search.now self.now.pick self.now.number) }
         ensures agenda { OnOk result (IsAgenda self.now.pick self.now.search.now.problem self.now.number self.now.branch.now agenda.new) }
     {
-        let telling = self.telling_steps(alloc, agenda.round)?;
+        let quiet = agenda.round.min(0xffff_ffff) as u32;
+        let older = first_recent(self.branch, agenda.older, quiet)?;
+        let telling = self.telling_steps(alloc, older, quiet)?;
         match telling {
             Some(batch) => {
                 *agenda = Agenda::of(self.pick, batch)?;
+                agenda.older = older;
+                agenda.silent = true;
                 let first = agenda.first(alloc)?;
                 Ok(first)
             }
@@ -197,14 +205,20 @@ impl Place<'_> {
         }
     }
 
-    /// The new steps of the least round that tell the branch something. It is past this one.
-    fn telling_steps(&self, alloc: Global, round: u64) -> Result<Option<Batch>, AllocError>
+    /// The new steps of the least round that tell the branch something. It is past this one. The facts
+    /// of a lesser number than `older` are of a lesser round.
+    fn telling_steps(
+        &self,
+        alloc: Global,
+        older: u32,
+        quiet: u32,
+    ) -> Result<Option<Batch>, AllocError>
         requires open { IsOpen self.now.search.now.slots self.now.number self.now.branch.now }
-        requires quiet { IsQuietUpto self.now.search.now.problem self.now.branch.now self.now.number round }
+        requires quiet { IsQuietUpto self.now.search.now.problem self.now.branch.now self.now.number quiet }
+        requires older { AreOlder self.now.branch.now older quiet }
         ensures { IfOk result (Improves self.now.search.now self.now.pick (IsTelling self.now.number) None) }
     {
-        let quiet = round.min(0xffff_ffff) as u32;
-        let recent = recent_facts(alloc, self.branch, quiet)?;
+        let recent = recent_facts(alloc, self.branch, older, quiet)?;
         let spot = Spot {
             alloc,
             search: self.search,

@@ -6,6 +6,7 @@ ghost use Rattle.ba_kernel.specs.Courses.{IsOpen};
 ghost use Rattle.ba_kernel.specs.Effects.{AreEqualAt};
 ghost use Rattle.ba_instant.specs.Looks.{AreEqualBy, IsKeyInTurn, IsLook, IsTimelyKey, IsTurn, ShareKey};
 ghost use Rattle.ba_instant.specs.Offers.{Improves, IsKeyOfPair, IsKeyStep, OfAny, keys_at};
+ghost use Rattle.ba_instant.specs.Partners.{ArePartners};
 
 use crate::batch::{Batch, is_timely};
 use crate::found::{Spot, counted};
@@ -43,12 +44,40 @@ impl<'a> Spot<'a> {
         requires { IsOpen self.now.search.now.slots self.now.number self.now.branch.now }
         ensures { OnOk result (Improves self.now.search.now self.now.pick (OfAny (IsKeyInTurn self.now.branch.now self.now.quiet self.now.number one)) best.old best.new) }
     {
-        let count = counted(self.branch.facts.len())?;
-        for other in 0..count {
-            if self.is_pair(one, other, best) {
-                self.offer_keys_between(one, other, best)?;
-                self.offer_keys_between(other, one, best)?;
-            }
+        let partners = self.partners(one)?;
+        self.offer_keys_with(one, &partners, best)
+    }
+
+    /// The same, where the facts that pass the test of some key with the fact are given.
+    fn offer_keys_with(
+        &self,
+        one: u32,
+        partners: &[u32],
+        best: &mut Option<Batch>,
+    ) -> Result<(), AllocError>
+        requires open { IsOpen self.now.search.now.slots self.now.number self.now.branch.now }
+        requires partners { ArePartners self.now.search.now.problem.policy.schema self.now.branch.now one partners.now }
+        ensures { OnOk result (Improves self.now.search.now self.now.pick (OfAny (IsKeyInTurn self.now.branch.now self.now.quiet self.now.number one)) best.old best.new) }
+    {
+        for other in partners {
+            self.offer_keys_of_two(one, *other, best)?;
+        }
+        Ok(())
+    }
+
+    /// Offers the steps by keys of the fact and the other, if it is that one's turn.
+    fn offer_keys_of_two(
+        &self,
+        one: u32,
+        other: u32,
+        best: &mut Option<Batch>,
+    ) -> Result<(), AllocError>
+        requires { IsOpen self.now.search.now.slots self.now.number self.now.branch.now }
+        ensures { OnOk result (Improves self.now.search.now self.now.pick (IsKeyInTurn self.now.branch.now self.now.quiet self.now.number one other) best.old best.new) }
+    {
+        if self.is_pair(one, other, best) {
+            self.offer_keys_between(one, other, best)?;
+            self.offer_keys_between(other, one, best)?;
         }
         Ok(())
     }

@@ -19,6 +19,7 @@ mod loose;
 mod mapped;
 mod moves;
 mod order;
+mod partners;
 mod parts;
 mod quiet;
 mod reach;

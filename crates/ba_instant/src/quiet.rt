@@ -9,14 +9,14 @@ ghost use Rattle.ba_kernel.specs.Effects.{rows_at};
 ghost use Rattle.ba_kernel.specs.Tests.{open_at};
 ghost use Rattle.ba_instant.specs.Loose.{IsLooseAtom};
 ghost use Rattle.ba_instant.specs.Nexts.{IsLeft, IsQuietAt, IsQuietRound};
-ghost use Rattle.ba_instant.specs.QuietSteps.{IsPlain, IsQuietLink, IsQuietStep, IsQuietView};
+ghost use Rattle.ba_instant.specs.QuietSteps.{AddsToOne, AddsToOneAt, IsOfOne, IsPlain, IsQuietLink, IsQuietStep, IsQuietView};
 
 use crate::agenda::Agenda;
 use crate::found::Found;
 use crate::fresh::is_quiet_key;
 use crate::given::is_quiet_entry;
 use crate::loose::is_loose;
-use ba_facts::{Branch, Knowledge, TermAtom, TermRef};
+use ba_facts::{Branch, Knowledge, Side, TermAtom, TermRef};
 use ba_kernel::{Problem, Search, Step};
 use ba_model::{Atom, Op};
 use std::alloc::{AllocError, Global};
@@ -47,7 +47,7 @@ fn loose_round(known: &Knowledge, atom: &TermAtom, round: u64) -> u64
 }
 
 /// What is left of the agenda after the due step: all, if the step is sure to leave its branch as
-/// quiet as it was, else nothing.
+/// quiet as it was, else nothing. The branch stays silent where only a fact of side One is added.
 pub fn left_after(
     alloc: Global,
     search: &Search,
@@ -60,10 +60,39 @@ pub fn left_after(
     let problem = search.problem();
     let branch = search.branch(found.step.branch());
     let is_quiet = is_quiet_at(alloc, problem, branch, &found.step)?;
-    if is_quiet && agenda.round <= found.round {
-        Ok(agenda)
-    } else {
-        Ok(Agenda::none(alloc))
+    if !is_quiet || found.round < agenda.round {
+        return Ok(Agenda::none(alloc));
+    }
+    let mut left = agenda;
+    left.silent = left.silent && adds_to_one_at(branch, &found.step);
+    Ok(left)
+}
+
+/// Whether the step adds a fact of side One and no other.
+fn adds_to_one_at(branch: Option<&Branch>, step: &Step) -> bool
+    ensures { IsTrue result → AddsToOneAt (option_copied branch.entry) step.now }
+{
+    match branch {
+        Some(branch) => adds_to_one(branch, step),
+        None => false,
+    }
+}
+
+fn adds_to_one(branch: &Branch, step: &Step) -> bool
+    ensures { IsTrue result → AddsToOne branch.now step.now }
+{
+    match step {
+        Step::Link { fact, .. } => is_of_one(branch, *fact),
+        _ => false,
+    }
+}
+
+fn is_of_one(branch: &Branch, fact: u32) -> bool
+    ensures { IsTrue result ↔ IsOfOne branch.now fact }
+{
+    match branch.facts.find(fact as usize) {
+        Some(it) => it.side == Side::One,
+        None => false,
     }
 }
 

@@ -119,7 +119,7 @@ impl Reach<'_> {
     fn is_lost(&self, chosen: &[u32]) -> bool
         ensures { IsTrue result → IsLost self.now.branch.now self.now.part.now Shown (Some self.now.row.now) chosen.now }
     {
-        self.is_hopeless(chosen) || self.has_other(chosen)
+        self.has_other(chosen) || self.is_hopeless(chosen)
     }
 
     /// Whether the last fact chosen makes some atom one that isn't shown.

@@ -1,6 +1,7 @@
 //! Recent facts.
 ghost use Rattle.std.specs.Prelude.{◌≡◌, IfOk};
 ghost use Rattle.ba_facts.specs.Matches.{round_of};
+ghost use Rattle.ba_instant.specs.Agendas.{AreOlder};
 ghost use Rattle.ba_instant.specs.Looks.{AreRecent};
 ghost use Rattle.ba_instant.specs.Offers.{fact_round};
 
@@ -8,13 +9,35 @@ use crate::found::counted;
 use ba_facts::Branch;
 use std::alloc::{AllocError, Global};
 
-/// The facts whose round is at least the bound, by number.
-pub fn recent_facts(alloc: Global, branch: &Branch, bound: u32) -> Result<Vec<u32>, AllocError>
+/// The first number of a fact whose round is at least the bound, or that past the last fact. Those of
+/// a lesser number than `older` aren't looked at.
+pub fn first_recent(branch: &Branch, older: u32, bound: u32) -> Result<u32, AllocError>
+    requires { AreOlder branch.now older bound }
+    ensures { IfOk result (λ it. AreOlder branch.now it bound) }
+{
+    let count = counted(branch.facts.len())?;
+    for number in older..count {
+        if fact_round(branch, number) >= bound {
+            return Ok(number);
+        }
+    }
+    Ok(count)
+}
+
+/// The facts whose round is at least the bound, by number. Those of a lesser number than `older`
+/// aren't looked at.
+pub fn recent_facts(
+    alloc: Global,
+    branch: &Branch,
+    older: u32,
+    bound: u32,
+) -> Result<Vec<u32>, AllocError>
+    requires { AreOlder branch.now older bound }
     ensures { IfOk result (λ it. AreRecent branch.now bound it.items) }
 {
     let count = counted(branch.facts.len())?;
     let mut recent = Vec::new(alloc);
-    for number in 0..count {
+    for number in older..count {
         if fact_round(branch, number) >= bound {
             recent.push(number)?;
         }

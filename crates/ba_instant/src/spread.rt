@@ -98,7 +98,7 @@ impl<'a> Spread<'a> {
     fn is_lost(&self, chosen: &[u32]) -> bool
         ensures { IsTrue result → IsLost self.now.spot.now.branch.now self.now.part.now Live (option_copied self.now.row) chosen.now }
     {
-        self.is_hopeless(chosen) || self.has_other(chosen)
+        self.has_other(chosen) || self.is_hopeless(chosen)
     }
 
     /// Offers those of the mappings to facts that are like the chosen ones.

@@ -18,3 +18,8 @@ returns-in-Some-clause-looked c =
     (agenda_at c.args.pick c.args.search.now c.args.number c.in_Some-search.branch.now c.due_step.new.agenda
     (open_back c.args.search.now.slots c.args.number c.in_Some-search.branch.now (sym c.in_Some-search.ensures)) c.in_ok-due-in_Some-search.ensures.agenda) c.args.first.now
     c.keep_picked.new.first c.keep_picked.ensures
+
+pub due_step-requires-clause-agenda : goal.due_step-requires-clause-agenda
+due_step-requires-clause-agenda c =
+    let taken = c.take_agenda-agenda.ensures.agenda c.args.pick c.args.search.now c.requires in
+    taken.of c.in_Some-search.branch.now (open_back c.args.search.now.slots c.args.number c.in_Some-search.branch.now (sym c.in_Some-search.ensures))

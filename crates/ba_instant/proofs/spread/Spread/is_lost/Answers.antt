@@ -1,5 +1,5 @@
 use Rattle.std.proofs.Common.{inr}
 use Rattle.ba_instant.proofs.spread.Spread.is_lost.Goals as goal
 
-pub returns-else-is_hopeless : goal.returns-else-is_hopeless
-returns-else-is_hopeless c = λ e. inr (c.has_other.ensures e)
+pub returns-then-has_other : goal.returns-then-has_other
+returns-then-has_other c = λ e. inr (c.has_other.ensures c.if-has_other.true)

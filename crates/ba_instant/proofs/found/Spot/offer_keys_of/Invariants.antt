@@ -1,7 +1,0 @@
-use Rattle.ba_instant.specs.Looks.{IsKeyInTurn}
-use Rattle.ba_instant.specs.Offers.{Improves, Upto}
-use Rattle.ba_instant.proofs.found.Spot.offer_keys_of.Given as goal
-
--- the keys of the fact and the facts so far were offered
-abbrev pub invariant-loop-other : goal.invariant-loop-other
-invariant-loop-other l = Improves l.self.search.now l.self.pick (Upto (IsKeyInTurn l.self.branch.now l.self.quiet l.self.number l.one) l.other) l.fn.best l.best
