@@ -16,8 +16,8 @@ COMPARED_ROWS = [1, 8, 64, 256]
 ANSWERS = [1, 2, 5, 10]
 # The budgets that the hard case has.
 HARD_STEPS = [60, 120, 250, 500, 1_000, 2_000]
-# The budgets that are spent: the least that there may be, and on.
-STEPS = [16, 50, 100, 500, 1_000, 2_000, 5_000, 10_000, 20_000]
+# The budgets that are spent: from the least that there may be to the greatest.
+STEPS = [16, 50, 100, 500, 1_000, 2_000, 5_000, 10_000, 20_000, 50_000, 100_000]
 
 
 def attended(count):
@@ -53,7 +53,7 @@ def kinds():
         example("narrower_range", "narrower_range", "proof"),
         example("wider_range", "wider_range_is_refuted", "refuted"),
         example("sixteen_links_and_a_view", "sixteen_links_and_a_view", "proof", 18),
-        *(cyclic(it) for it in (50, 1_000, 2_000, 20_000)),
+        *(cyclic(it) for it in (50, 1_000, 2_000, 20_000, 100_000)),
         example("stuck_on_three_inequalities", "stuck_on_three_inequalities", "stuck"),
     ]
 
