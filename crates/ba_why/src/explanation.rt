@@ -1,127 +1,21 @@
-//! A run, and its replies in words.
+//! The replies of a run in words.
 
 use crate::given::Given;
 use crate::page::Page;
 use crate::telling::tell;
 use crate::words::{Names, Wanted};
-use ba_command::WordsFault;
 use ba_lanes::Journal;
-use ba_model::Failure;
-use ba_notice::{FolderFiles, notice};
-use ba_outside::{FirstPiece, FreeGate, Held, KeptFiles};
-use ba_top::{Outcome, blockaid};
-use std::alloc::{AllocError, Global};
+use ba_outside::Held;
+use std::alloc::Global;
 use std::io;
-use std::io::{ErrorKind, Write};
-use std::rt::Files;
-use std::sync::Wait;
-use std::thread::Threads;
+use std::io::Write;
 
-// The status for want of memory.
-const MEMORY: u8 = 6;
-
-/// What is explained, and how.
+/// What is told of a run, and how.
 #[derive(Clone, Copy)]
-pub struct Asked<'a> {
-    /// The words of a run, without the program's name.
-    pub words: &'a [String],
-    /// What goes before the names in them.
-    pub prefix: &'a str,
+pub struct Telling {
     pub wanted: Wanted,
     /// How many columns a line has at most: 40, or more.
     pub columns: usize,
-}
-
-/// How a run ended that was explained.
-#[derive(Drop)]
-pub struct Explained {
-    /// The run's status, or that for want of memory.
-    pub status: u8,
-    /// Where the run has no journal, its fault line and the line on why, each with its end.
-    pub complaint: String,
-}
-
-impl Explained {
-    // A run whose replies were told.
-    fn told(alloc: Global, status: u8) -> Explained {
-        Explained {
-            status,
-            complaint: String::new(alloc),
-        }
-    }
-}
-
-/// Runs the top call, and writes why each question that is wanted was answered or not, with an empty line between two. A write that fails
-/// ends the telling, and doesn't change the status.
-///
-/// # Errors
-/// A fault where the words are none of a run; then nothing is run.
-pub fn explain<R, W>(
-    rt: &R,
-    asked: &Asked<'_>,
-    out: &mut W,
-) -> Result<Explained, Failure<WordsFault>>
-where
-    R: Files + AllocGlobal + Threads + Wait + Sync + Clone + Drop,
-    W: Write,
-{
-    let names = Names::read(rt.alloc(), asked.words)?;
-    match explain_run(rt, asked, &names, out) {
-        Ok(explained) => Ok(explained),
-        Err(_) => Err(Failure::NoMemory),
-    }
-}
-
-fn explain_run<R, W>(
-    rt: &R,
-    asked: &Asked<'_>,
-    names: &Names,
-    out: &mut W,
-) -> Result<Explained, AllocError>
-where
-    R: Files + AllocGlobal + Threads + Wait + Sync + Clone + Drop,
-    W: Write,
-{
-    let alloc = rt.alloc();
-    let Ok(system) = rt.clone() else {
-        return Err(AllocError);
-    };
-    let wanted = names.all();
-    let folder = FolderFiles::new(system, alloc, asked.prefix);
-    let mut files = KeptFiles::new(alloc, folder, &wanted);
-    let mut sink = FirstPiece::new(alloc);
-    let outcome = blockaid(rt, alloc, asked.words, &mut files, &mut sink, &FreeGate);
-    match &outcome.journal {
-        Some(journal) => {
-            let told = tell_all(alloc, files.kept(), names, journal, asked, out);
-            Ok(Explained::told(alloc, status_of(&told, outcome.status)))
-        }
-        None => complaint_of(rt, asked, files.files().asked(), &outcome, sink.text()),
-    }
-}
-
-// The status of a run that was told so.
-fn status_of(told: &io::Result<()>, status: u8) -> u8 {
-    match told {
-        Err(e) if e.kind() == ErrorKind::OutOfMemory => MEMORY,
-        _ => status,
-    }
-}
-
-// Says why a run has no journal: its fault line, and what is told of that.
-fn complaint_of<R: Files + AllocGlobal>(
-    rt: &R,
-    asked: &Asked<'_>,
-    names: &[String],
-    outcome: &Outcome,
-    line: &str,
-) -> Result<Explained, AllocError> {
-    let why = notice(rt, asked.words, asked.prefix, names, outcome)?;
-    let complaint = format!(in rt.alloc(); "{line}{why}\n")?;
-    Ok(Explained {
-        status: outcome.status,
-        complaint,
-    })
 }
 
 // The bytes that were read as the script, behind the schema and the policy.
@@ -134,13 +28,17 @@ fn script_in<'a>(kept: &'a [Held], names: &Names) -> &'a [u8] {
     &[]
 }
 
-// Explains the questions that are wanted.
-fn tell_all<W: Write>(
+/// Writes why each question that is wanted was answered or not, with an empty line between two, by
+/// what the run kept of its files and by its journal.
+///
+/// # Errors
+/// A write that fails ends the telling; `OutOfMemory` tells that memory was wanting.
+pub fn tell_all<W: Write>(
     alloc: Global,
     kept: &[Held],
     names: &Names,
     journal: &Journal,
-    asked: &Asked<'_>,
+    telling: Telling,
     out: &mut W,
 ) -> io::Result<()> {
     let [schema, policy, rest @ ..] = kept else {
@@ -148,9 +46,9 @@ fn tell_all<W: Write>(
     };
     let script = script_in(rest, names);
     let given = Given::read(alloc, &schema.bytes, &policy.bytes, script)?;
-    match asked.wanted {
-        Wanted::All => tell_each(alloc, &given, journal, asked.columns, out),
-        Wanted::Line(line) => tell_line(alloc, &given, journal, asked.columns, line, out),
+    match telling.wanted {
+        Wanted::All => tell_each(alloc, &given, journal, telling.columns, out),
+        Wanted::Line(line) => tell_line(alloc, &given, journal, telling.columns, line, out),
     }
 }
 

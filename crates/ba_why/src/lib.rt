@@ -1,4 +1,4 @@
-//! Runs the top call, whose lines it drops, and explains its replies in words, from the evidence in the journal.
+//! The replies of a run in words, from the evidence in its journal.
 #![tactic(auto)]
 
 mod cover;
@@ -16,6 +16,6 @@ mod undecided;
 mod unread;
 mod words;
 
-pub use explanation::{Asked, Explained, explain};
+pub use explanation::{Telling, tell_all};
 pub use page::USUAL_COLUMNS;
-pub use words::Wanted;
+pub use words::{Names, Wanted};

@@ -1,8 +1,8 @@
 // A case: what the program is run on, how the run ends and how it must end.
+use ba_explain::{Asked, Telling, USUAL_COLUMNS, Wanted, explain};
 use ba_notice::{FolderFiles, notice};
 use ba_outside::{FreeGate, MemSink};
 use ba_top::blockaid;
-use ba_why::{Asked, USUAL_COLUMNS, Wanted, explain};
 use std::alloc::{AllocError, Global};
 use std::rt::Files;
 use std::sync::Wait;
@@ -171,8 +171,10 @@ impl Case {
         let asked = Asked {
             words: &words,
             prefix: prefix.as_str(),
-            wanted: Wanted::All,
-            columns: USUAL_COLUMNS,
+            telling: Telling {
+                wanted: Wanted::All,
+                columns: USUAL_COLUMNS,
+            },
         };
         let mut told = Vec::new(alloc);
         match explain(rt, &asked, &mut told) {

@@ -1,22 +1,27 @@
 //! `blockaid run --schema S --policy P --tables D --script F`: answers the questions of F over the tables of D that the
 //! policy P lets through, and blocks the others. `blockaid check --schema S --policy P --proof F`: says whether the proof F is accepted.
 //! `blockaid gen --seed N --requests R`: serves a generated workload, and prints the summary; with `--print` prints its script.
+//! `blockaid why run --schema S ..`: tells in words why each question of a run was answered or not.
 //! Where its status isn't 0, one line on standard error says why. Where the environment has `BLOCKAID_PROGRESS=1`, lines of
 //! standard error tell how far the script is served.
 #![tactic(auto)]
 
 mod progress;
+mod reasons;
 
 use ba_notice::{FolderFiles, notice};
 use ba_outside::StdSink;
 use ba_top::{Outcome, blockaid};
 use progress::Progress;
+use reasons::explain_words;
 use std::alloc::{AllocError, Global};
 use std::env;
 use std::env::{Args, Env};
-use std::io::ErrorKind;
+use std::io::{ErrorKind, Write};
 use std::process::ExitCode;
 use std::rt::Files;
+use std::sync::Wait;
+use std::thread::Threads;
 
 // The status for want of memory.
 const MEMORY: u8 = 6;
@@ -48,10 +53,28 @@ fn tell<R: Files + AllocGlobal + Eprint>(
     };
 }
 
-// Ends a run that found no memory for its words.
-fn end_early(rt: &impl Eprint) -> ExitCode {
+// Runs the top call on the words, over what standard output is, and gives the status.
+fn run<R, W>(rt: &R, out: W, words: &[String]) -> u8
+where
+    R: Files + AllocGlobal + Env + Eprint + Threads + Wait + Sync + Clone + Drop,
+    W: Write + Drop,
+{
+    let alloc = rt.alloc();
+    let Ok(system) = rt.clone() else {
+        return end_early(rt);
+    };
+    let mut sink = StdSink::new(out);
+    let mut files = FolderFiles::new(system, alloc, "");
+    let gate = Progress::new(rt, asks_progress(rt));
+    let outcome = blockaid(rt, alloc, words, &mut files, &mut sink, &gate);
+    tell(rt, words, files.asked(), &outcome);
+    outcome.status
+}
+
+// Tells that a run found no memory for its words, and gives the status.
+fn end_early(rt: &impl Eprint) -> u8 {
     let _ = eprintln!(rt; "blockaid: memory ran out, and nothing was answered");
-    ExitCode::from(MEMORY)
+    MEMORY
 }
 
 fn main(rt: HostRuntime) -> ExitCode {
@@ -63,15 +86,11 @@ fn main(rt: HostRuntime) -> ExitCode {
         Err(_) => Ok(Vec::new(alloc)),
     };
     let Ok(words) = read else {
-        return end_early(&rt);
+        return ExitCode::from(end_early(&rt));
     };
-    let Ok(other) = rt.clone() else {
-        return end_early(&rt);
+    let status = match words.as_slice() {
+        [first, rest @ ..] if first.as_str() == "why" => explain_words(&rt, rest),
+        all => run(&rt, rt.stdout(), all),
     };
-    let mut sink = StdSink::new(rt.stdout());
-    let mut files = FolderFiles::new(other, alloc, "");
-    let gate = Progress::new(&rt, asks_progress(&rt));
-    let outcome = blockaid(&rt, alloc, &words, &mut files, &mut sink, &gate);
-    tell(&rt, &words, files.asked(), &outcome);
-    ExitCode::from(outcome.status)
+    ExitCode::from(status)
 }

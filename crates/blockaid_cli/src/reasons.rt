@@ -1,15 +1,10 @@
-//! `blockaid_why run --schema S --policy P --tables D --script F [--workers N] [--budget B] [--line L]`: runs the top call, whose
-//! lines it drops, and explains each of its replies, or that of line L alone, from the evidence in the journal. `--line L` stands
-//! first or last. It ends with the status of the run.
-#![tactic(auto)]
+//! The reasons of a run, told in words.
 
+use ba_explain::{Asked, Explained, Telling, USUAL_COLUMNS, Wanted, explain};
 use ba_model::Failure;
-use ba_why::{Asked, Explained, USUAL_COLUMNS, Wanted, explain};
-use std::alloc::{AllocError, Global};
 use std::env;
-use std::env::{Args, Env};
-use std::io::{ErrorKind, writer};
-use std::process::ExitCode;
+use std::env::Env;
+use std::io::writer;
 use std::rt::Files;
 use std::sync::Wait;
 use std::thread::Threads;
@@ -24,25 +19,6 @@ const MEMORY: u8 = 6;
 const LEAST_COLUMNS: usize = 40;
 
 const MOST_COLUMNS: usize = 200;
-
-// The words behind the program's name.
-fn words_of(alloc: Global, args: Args) -> Result<Vec<String>, AllocError> {
-    args.skip(1).collect(alloc)
-}
-
-fn main(rt: HostRuntime) -> ExitCode {
-    let alloc = rt.alloc();
-    // Arguments that are no text are no words of a run.
-    let read = match env::args(&rt) {
-        Ok(args) => words_of(alloc, args),
-        Err(e) if e.kind() == ErrorKind::OutOfMemory => Err(AllocError),
-        Err(_) => Ok(Vec::new(alloc)),
-    };
-    let Ok(words) = read else {
-        return ExitCode::from(MEMORY);
-    };
-    ExitCode::from(explain_words(&rt, &words))
-}
 
 // The words of a run, and what stands behind `--line`, if these are the first two words or the last two.
 fn named_line(words: &[String]) -> (&[String], Option<&String>) {
@@ -75,8 +51,9 @@ fn columns_of<R: Env + AllocGlobal>(rt: &R) -> usize {
     }
 }
 
-// Explains the run of these words, and gives the status.
-fn explain_words<R>(rt: &R, words: &[String]) -> u8
+/// Explains the run of these words, and gives the status. They are the words of a run, with `--line L`
+/// first or last where the reply at line L alone is wanted.
+pub fn explain_words<R>(rt: &R, words: &[String]) -> u8
 where
     R: Files + AllocGlobal + Env + Print + Eprint + Threads + Wait + Sync + Clone + Drop,
 {
@@ -84,11 +61,11 @@ where
     let Some(wanted) = wanted_of(line) else {
         return tell_usage(rt);
     };
+    let columns = columns_of(rt);
     let asked = Asked {
         words,
         prefix: "",
-        wanted,
-        columns: columns_of(rt),
+        telling: Telling { wanted, columns },
     };
     match explain(rt, &asked, &mut writer(rt)) {
         Ok(explained) => tell_complaint(rt, &explained),
@@ -107,7 +84,7 @@ fn tell_complaint(rt: &impl Eprint, explained: &Explained) -> u8 {
 
 fn tell_usage(rt: &impl Eprint) -> u8 {
     let _ = eprintln!(rt;
-        "usage: blockaid_why run --schema S --policy P --tables D --script F [--workers N] [--budget B] [--line L]"
+        "usage: blockaid why run --schema S --policy P --tables D --script F [--workers N] [--budget B] [--line L]"
     );
     WORDS
 }
