@@ -11,7 +11,7 @@ use crate::copies::copy_shared;
 use crate::knowledge::Knowledge;
 use crate::number::number_after;
 use crate::term::{Fact, Lesson, Side, Term, TermAtom};
-use ba_model::{Column, Duplicate, Kind, List, Shared, Value};
+use ba_model::{Column, Duplicate, Kind, List, Owned, Shared, Value};
 use std::alloc::{AllocError, Global};
 use std::mem;
 
@@ -181,6 +181,14 @@ impl Branch {
             facts: copy_facts(alloc, &self.facts)?,
             goal: self.goal.copy(alloc)?,
         })
+    }
+
+    /// The same branch behind a pointer.
+    pub fn owned_copy(&self, alloc: Global) -> Result<Owned<Branch>, AllocError>
+        ensures { IfOk result (λ other. other ≡ self.now) }
+    {
+        let copy = self.copy(alloc)?;
+        Owned::new(alloc, copy)
     }
 }
 

@@ -14,14 +14,14 @@ use crate::quiet::{left_after, quiet_round};
 use crate::waiting::Waiting;
 use ba_facts::Branch;
 use ba_kernel::{Problem, Proved, Search, Step};
-use ba_model::{Duplicate, Failure, List};
+use ba_model::{Duplicate, Failure, List, Owned};
 use std::alloc::{AllocError, Global};
 
 /// The steps that were taken, and an open branch that they leave, on which no step is new.
 #[derive(Drop)]
 pub struct Leaf {
     pub steps: List<Step>,
-    pub branch: Branch,
+    pub branch: Owned<Branch>,
 }
 
 /// How a search ends.
@@ -178,7 +178,7 @@ fn saturated(alloc: Global, search: &Search, number: u32) -> Result<Settled, All
     match search.branch(number) {
         Some(branch) => {
             let steps = search.steps().copy(alloc)?;
-            let branch = branch.copy(alloc)?;
+            let branch = branch.owned_copy(alloc)?;
             Ok(Settled::Saturated(Leaf { steps, branch }))
         }
         None => unreachable!(),

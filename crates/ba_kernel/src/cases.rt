@@ -16,6 +16,7 @@ use crate::cases::equal::{key_cases, link_cases, split_cases};
 use crate::problem::Problem;
 use crate::step::Step;
 use ba_facts::Branch;
+use ba_model::Owned;
 use std::alloc::{AllocError, Global};
 
 /// The cases that a step, which passes its tests, makes of a branch: they take its place. Facts,
@@ -25,9 +26,9 @@ use std::alloc::{AllocError, Global};
 pub fn cases_of(
     alloc: Global,
     problem: &Problem,
-    branch: Branch,
+    branch: Owned<Branch>,
     step: &Step,
-) -> Result<Vec<Branch>, AllocError>
+) -> Result<Vec<Owned<Branch>>, AllocError>
     requires fits { ProblemFits problem.now }
     requires tidy { IsTidy problem.now branch }
     requires passes { Passes problem.now branch step.now }
@@ -76,9 +77,9 @@ pub fn closes(step: &Step) -> bool
 pub fn again(
     alloc: Global,
     problem: &Problem,
-    branch: Branch,
+    branch: Owned<Branch>,
     step: &Step,
-) -> Result<Option<Branch>, AllocError>
+) -> Result<Option<Owned<Branch>>, AllocError>
     requires fits { ProblemFits problem.now }
     requires one { (new : Branch) × LeadsTo problem.now branch step.now new }
     ensures { IfOk result (λ it. (new : Branch) → LeadsTo problem.now branch step.now new → it ≡ Some new) }

@@ -8,7 +8,7 @@ use crate::laws::closed_is_strong;
 use crate::problem::Problem;
 use crate::step::Step;
 use ba_facts::Branch;
-use ba_model::List;
+use ba_model::{List, Owned};
 use std::marker::Model;
 
 /// A problem and steps that prove it.
@@ -37,7 +37,7 @@ impl Proved {
     pub(crate) fn of_closed(
         problem: Problem,
         steps: List<Step>,
-        slots: Vec<Option<Branch>>,
+        slots: Vec<Option<Owned<Branch>>>,
     ) -> Proved
         requires fits { ProblemFits problem }
         requires few { length steps ≤ MAX_BUDGET }

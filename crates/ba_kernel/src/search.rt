@@ -15,7 +15,7 @@ use crate::proved::Proved;
 use crate::start::start_branches;
 use crate::step::{Step, StepFault};
 use ba_facts::Branch;
-use ba_model::{Failure, List};
+use ba_model::{Failure, List, Owned};
 use std::alloc::{AllocError, Global};
 use std::marker::Model;
 use std::mem;
@@ -30,10 +30,10 @@ use std::mem;
 pub struct Search {
     problem: Problem,
     steps: List<Step>,
-    slots: Vec<Option<Branch>>,
+    slots: Vec<Option<Owned<Branch>>>,
     /// The branch of the last step from before it, if the step made one case of it. The next step on
     /// that branch is made of it, after the last one, so that nothing is copied.
-    before: Option<Branch>,
+    before: Option<Owned<Branch>>,
 }
 
 impl Model for Search {
@@ -104,7 +104,7 @@ impl Search {
     }
 
     // The cases that a step leads to, which passes its tests.
-    fn cases(&mut self, alloc: Global, step: &Step) -> Result<Vec<Branch>, AllocError>
+    fn cases(&mut self, alloc: Global, step: &Step) -> Result<Vec<Owned<Branch>>, AllocError>
         requires { IsPassed self.old step.now }
         ensures ok { IfOk result (λ cases. LeadsAt self.old.problem (open_at self.old.slots (branch_of step.now)) step.now cases.items) }
         ensures same { self.new ≡ self.old }
@@ -119,7 +119,7 @@ impl Search {
 
     // The branch of a number, which is open: as it was before the last step, brought up to it, or else
     // a copy.
-    fn base(&mut self, alloc: Global, number: u32) -> Result<Branch, AllocError>
+    fn base(&mut self, alloc: Global, number: u32) -> Result<Owned<Branch>, AllocError>
         requires { (b : Branch) × (open_at self.old.slots number ≡ Some b) }
         ensures branch { IfOk result (λ branch. open_at self.old.slots number ≡ Some branch) }
         ensures same { self.new ≡ self.old }
@@ -128,13 +128,13 @@ impl Search {
             return Ok(branch);
         }
         match self.branch(number) {
-            Some(branch) => branch.copy(alloc),
+            Some(branch) => branch.owned_copy(alloc),
             None => unreachable!(),
         }
     }
 
     // The branch of a number, if it is kept from before the last step.
-    fn spare(&mut self, alloc: Global, number: u32) -> Result<Option<Branch>, AllocError>
+    fn spare(&mut self, alloc: Global, number: u32) -> Result<Option<Owned<Branch>>, AllocError>
         ensures spare { IfOk result (λ spare. (b : Branch) → spare ≡ Some b → open_at self.old.slots number ≡ Some b) }
         ensures same { self.new ≡ self.old }
     {
@@ -147,8 +147,8 @@ impl Search {
         &self,
         alloc: Global,
         number: u32,
-        before: Option<Branch>,
-    ) -> Result<Option<Branch>, AllocError>
+        before: Option<Owned<Branch>>,
+    ) -> Result<Option<Owned<Branch>>, AllocError>
         requires { IsSpare self.now before }
         ensures { IfOk result (λ spare. (b : Branch) → spare ≡ Some b → open_at self.now.slots number ≡ Some b) }
     {
@@ -178,7 +178,12 @@ impl Search {
     }
 
     // Puts the cases that a step leads to in its branch's place. Without memory nothing changes.
-    fn put(&mut self, alloc: Global, step: Step, cases: Vec<Branch>) -> Result<(), AllocError>
+    fn put(
+        &mut self,
+        alloc: Global,
+        step: Step,
+        cases: Vec<Owned<Branch>>,
+    ) -> Result<(), AllocError>
         requires few { length self.old.steps < MAX_BUDGET }
         requires leads { LeadsAt self.old.problem (open_at self.old.slots (branch_of step)) step cases.items }
         ensures slots { OnOk result (self.new.slots ≡ after self.old.slots (branch_of step) cases.items) }
@@ -273,8 +278,8 @@ impl Search {
 // The first case, and the others as open branches.
 fn first_and_others(
     alloc: Global,
-    cases: Vec<Branch>,
-) -> Result<(Option<Branch>, Vec<Option<Branch>>), AllocError>
+    cases: Vec<Owned<Branch>>,
+) -> Result<(Option<Owned<Branch>>, Vec<Option<Owned<Branch>>>), AllocError>
     ensures { IfOk result (λ two. (two.0 ≡ first_case cases.items) × (two.1.items ≡ other_cases cases.items)) }
 {
     let mut rest = cases.into_iter();
@@ -287,11 +292,11 @@ fn first_and_others(
 // neither changes.
 fn add_step(
     alloc: Global,
-    slots: &mut Vec<Option<Branch>>,
+    slots: &mut Vec<Option<Owned<Branch>>>,
     steps: &mut List<Step>,
     step: Step,
-    cases: Vec<Branch>,
-) -> Result<Option<Branch>, AllocError>
+    cases: Vec<Owned<Branch>>,
+) -> Result<Option<Owned<Branch>>, AllocError>
     requires { branch_of step < length slots.old.items }
     ensures old { IfOk result (λ old. old ≡ open_at slots.old.items (branch_of step)) }
     ensures slots { OnOk result (slots.new.items ≡ after slots.old.items (branch_of step) cases.items) }
@@ -312,7 +317,7 @@ fn add_step(
 }
 
 // Keeps what a branch was, if one case was made of it.
-fn keep(before: &mut Option<Branch>, cases: usize, old: Option<Branch>)
+fn keep(before: &mut Option<Owned<Branch>>, cases: usize, old: Option<Owned<Branch>>)
     ensures { before.new ≡ if cases == 1 then old else None }
 {
     *before = if cases == 1 { old } else { None };

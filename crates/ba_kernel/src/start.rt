@@ -9,12 +9,15 @@ use crate::cases::build::{add_facts, assume_all, numbers_from};
 use crate::cases::terms::operand_row;
 use crate::problem::Problem;
 use ba_facts::{Branch, Side};
-use ba_model::{Kind, List, Parameter, Part, Shared};
+use ba_model::{Kind, List, Owned, Parameter, Part, Shared};
 use std::alloc::{AllocError, Global};
 
 /// For each part of the goal a branch, in which the part gives the goal row and what is assumed is
 /// true. 2^32 unknowns or more are told as want of memory.
-pub fn start_branches(alloc: Global, problem: &Problem) -> Result<Vec<Option<Branch>>, AllocError>
+pub fn start_branches(
+    alloc: Global,
+    problem: &Problem,
+) -> Result<Vec<Option<Owned<Branch>>>, AllocError>
     requires { ProblemFits problem.now }
     ensures start { IfOk result (λ slots. IsStart problem.now slots.items) }
     ensures err { IfErr result (λ _. problem.now.goal.parts ≢ []) }
@@ -27,13 +30,13 @@ pub fn start_branches(alloc: Global, problem: &Problem) -> Result<Vec<Option<Bra
 }
 
 /// The branch in which the part gives the goal row.
-fn part_start(alloc: Global, problem: &Problem, part: &Part) -> Result<Branch, AllocError>
+fn part_start(alloc: Global, problem: &Problem, part: &Part) -> Result<Owned<Branch>, AllocError>
     requires fits { ProblemFits problem.now }
     requires part { IsPartOf problem.now part.now }
     ensures { IfOk result (IsStartOf problem.now part.now) }
 {
     let mut new = nothing(alloc, problem)?;
-    add_start(alloc, problem, part, &mut new)?;
+    add_start(alloc, problem, part, new.get_mut())?;
     Ok(new)
 }
 
@@ -64,12 +67,13 @@ fn add_start(
 }
 
 /// A branch of nothing, for the problem's parameters and variables.
-fn nothing(alloc: Global, problem: &Problem) -> Result<Branch, AllocError>
+fn nothing(alloc: Global, problem: &Problem) -> Result<Owned<Branch>, AllocError>
     ensures { IfOk result (λ it. it ≡ nothing_known problem.now) }
 {
     let params = param_kinds(alloc, problem.params())?;
     let vars = copy_kinds(alloc, problem.vars.as_slice())?;
-    Branch::new(alloc, List::from_vec(params), vars)
+    let new = Branch::new(alloc, List::from_vec(params), vars)?;
+    Owned::new(alloc, new)
 }
 
 fn param_kinds(alloc: Global, params: &[Parameter]) -> Result<Vec<Kind>, AllocError>

@@ -9,6 +9,7 @@ pub mod laws;
 mod limits;
 mod list;
 mod order;
+mod owned;
 mod policy;
 mod query;
 mod same;
@@ -30,6 +31,7 @@ pub use limits::{
     MAX_VIEWS, MAX_WORKERS, MIN_BUDGET, MIN_WORKERS, WORKERS,
 };
 pub use list::List;
+pub use owned::Owned;
 pub use policy::{CacheKey, Context, Parameter, Policy, View};
 pub use query::{Atom, Op, Operand, Part, Query};
 pub use same::{Duplicate, Same};

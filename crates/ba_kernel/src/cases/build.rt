@@ -7,7 +7,7 @@ ghost use Rattle.ba_kernel.specs.Tidy.{FactsAreThere, HasTerm, HasTerms, IsPartF
 use crate::cases::terms::operand_term;
 use crate::problem::Problem;
 use ba_facts::{Branch, Side, Term, TermAtom, number_after};
-use ba_model::{Atom, Duplicate, Operand, Part};
+use ba_model::{Atom, Duplicate, Operand, Owned, Part};
 use std::alloc::{AllocError, Global};
 
 /// For each of the parts the case where it gives the row. The last one is made of the branch itself,
@@ -15,12 +15,12 @@ use std::alloc::{AllocError, Global};
 pub fn part_cases(
     alloc: Global,
     problem: &Problem,
-    old: Branch,
+    old: Owned<Branch>,
     side: Side,
     round: u32,
     row: &[Term],
     parts: &[Part],
-) -> Result<Vec<Branch>, AllocError>
+) -> Result<Vec<Owned<Branch>>, AllocError>
     requires ready { IsReady old row.now }
     requires fits { All (IsPartFor problem.now.policy.schema (length row.now)) parts.now }
     ensures { IfOk result (λ cases. AllZip (IsCase problem.now.policy.schema old side round row.now) parts.now cases.items) }
@@ -30,7 +30,7 @@ pub fn part_cases(
     };
     let mut cases = copied_cases(alloc, problem, &old, side, round, row, front)?;
     let mut new = old;
-    add_part(alloc, problem, &mut new, side, round, last, row)?;
+    add_part(alloc, problem, new.get_mut(), side, round, last, row)?;
     cases.push(new)?;
     Ok(cases)
 }
@@ -44,7 +44,7 @@ fn copied_cases(
     round: u32,
     row: &[Term],
     parts: &[Part],
-) -> Result<Vec<Branch>, AllocError>
+) -> Result<Vec<Owned<Branch>>, AllocError>
     requires ready { IsReady old.now row.now }
     requires fits { All (IsPartFor problem.now.policy.schema (length row.now)) parts.now }
     ensures { IfOk result (λ cases. AllZip (IsCase problem.now.policy.schema old.now side round row.now) parts.now cases.items) }
@@ -66,13 +66,13 @@ fn part_case(
     round: u32,
     part: &Part,
     row: &[Term],
-) -> Result<Branch, AllocError>
+) -> Result<Owned<Branch>, AllocError>
     requires ready { IsReady old.now row.now }
     requires fits { IsPartFor problem.now.policy.schema (length row.now) part.now }
     ensures { IfOk result (IsCase problem.now.policy.schema old.now side round row.now part.now) }
 {
-    let mut new = old.copy(alloc)?;
-    add_part(alloc, problem, &mut new, side, round, part, row)?;
+    let mut new = old.owned_copy(alloc)?;
+    add_part(alloc, problem, new.get_mut(), side, round, part, row)?;
     Ok(new)
 }
 

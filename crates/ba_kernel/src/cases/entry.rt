@@ -11,16 +11,16 @@ use crate::cases::terms::operand_row;
 use crate::fact::fact_at;
 use crate::problem::Problem;
 use ba_facts::{Branch, Side};
-use ba_model::Part;
+use ba_model::{Owned, Part};
 use std::alloc::{AllocError, Global};
 
 /// For each part of the entry's query the case where it gives the entry's row on side One.
 pub fn entry_cases(
     alloc: Global,
     problem: &Problem,
-    branch: Branch,
+    branch: Owned<Branch>,
     entry: u64,
-) -> Result<Vec<Branch>, AllocError>
+) -> Result<Vec<Owned<Branch>>, AllocError>
     requires fits { ProblemFits problem.now }
     requires tidy { IsTidy problem.now branch }
     requires passes { EntryPasses problem.now entry }
@@ -39,11 +39,11 @@ pub fn entry_cases(
 pub fn view_cases(
     alloc: Global,
     problem: &Problem,
-    branch: Branch,
+    branch: Owned<Branch>,
     view: u32,
     part: u32,
     facts: &[u32],
-) -> Result<Vec<Branch>, AllocError>
+) -> Result<Vec<Owned<Branch>>, AllocError>
     requires fits { ProblemFits problem.now }
     requires tidy { IsTidy problem.now branch }
     requires passes { ViewPasses problem.now branch view part facts.now }
@@ -60,11 +60,11 @@ pub fn view_cases(
 pub fn rule_cases(
     alloc: Global,
     problem: &Problem,
-    branch: Branch,
+    branch: Owned<Branch>,
     rule: u32,
     part: u32,
     facts: &[u32],
-) -> Result<Vec<Branch>, AllocError>
+) -> Result<Vec<Owned<Branch>>, AllocError>
     requires fits { ProblemFits problem.now }
     requires tidy { IsTidy problem.now branch }
     requires passes { RulePasses problem.now branch rule part facts.now }
@@ -83,12 +83,12 @@ pub fn rule_cases(
 fn next_cases(
     alloc: Global,
     problem: &Problem,
-    branch: Branch,
+    branch: Owned<Branch>,
     side: Side,
     part: &Part,
     facts: &[u32],
     parts: &[Part],
-) -> Result<Vec<Branch>, AllocError>
+) -> Result<Vec<Owned<Branch>>, AllocError>
     requires there { FactsAreThere branch }
     requires terms { All (HasTerm (rows_at branch facts.now)) part.now.head }
     requires fits { All (IsPartFor problem.now.policy.schema (length part.now.head)) parts.now }

@@ -10,18 +10,18 @@ use crate::cases::rounds::round_after;
 use crate::fact::{copy_fact, fact_at};
 use crate::problem::Problem;
 use ba_facts::{Branch, Term, TermAtom};
-use ba_model::{Duplicate, Op};
+use ba_model::{Duplicate, Op, Owned};
 use std::alloc::{AllocError, Global};
 
 /// The one case of a key: the two facts' terms are the same, column by column.
 pub fn key_cases(
     alloc: Global,
     problem: &Problem,
-    branch: Branch,
+    branch: Owned<Branch>,
     key: u32,
     left: u32,
     right: u32,
-) -> Result<Vec<Branch>, AllocError>
+) -> Result<Vec<Owned<Branch>>, AllocError>
     requires tidy { IsTidy problem.now branch }
     requires passes { KeyPasses problem.now.policy.schema branch key left right }
     ensures { IfOk result (λ cases. KeyLeads problem.now branch key left right cases.items) }
@@ -31,7 +31,7 @@ pub fn key_cases(
     let terms = f.terms.as_slice();
     let others = g.terms.as_slice();
     let mut new = branch;
-    equate_rows(alloc, &mut new, terms, others)?;
+    equate_rows(alloc, new.get_mut(), terms, others)?;
     one_case(alloc, new)
 }
 
@@ -60,17 +60,17 @@ fn equate_rows(
 pub fn link_cases(
     alloc: Global,
     problem: &Problem,
-    branch: Branch,
+    branch: Owned<Branch>,
     link: u32,
     fact: u32,
-) -> Result<Vec<Branch>, AllocError>
+) -> Result<Vec<Owned<Branch>>, AllocError>
     requires fits { ProblemFits problem.now }
     requires tidy { IsTidy problem.now branch }
     requires passes { LinkPasses problem.now.policy.schema branch link fact }
     ensures { IfOk result (λ cases. LinkLeads problem.now branch link fact cases.items) }
 {
     let mut new = branch;
-    add_target(alloc, problem, &mut new, link, fact)?;
+    add_target(alloc, problem, new.get_mut(), link, fact)?;
     one_case(alloc, new)
 }
 
@@ -128,7 +128,7 @@ fn equate_columns(
     Ok(())
 }
 
-fn one_case(alloc: Global, new: Branch) -> Result<Vec<Branch>, AllocError>
+fn one_case(alloc: Global, new: Owned<Branch>) -> Result<Vec<Owned<Branch>>, AllocError>
     ensures { IfOk result (λ cases. cases.items ≡ new ∷ []) }
 {
     let mut cases = Vec::new(alloc);
@@ -139,16 +139,18 @@ fn one_case(alloc: Global, new: Branch) -> Result<Vec<Branch>, AllocError>
 /// The two cases of a split: the atom is true, or its negation is.
 pub fn split_cases(
     alloc: Global,
-    branch: Branch,
+    branch: Owned<Branch>,
     atom: &TermAtom,
-) -> Result<Vec<Branch>, AllocError>
+) -> Result<Vec<Owned<Branch>>, AllocError>
     requires { SplitFits branch atom.now }
     ensures { IfOk result (λ cases. SplitLeads branch atom.now cases.items) }
 {
-    let mut second = branch.copy(alloc)?;
-    second.assume(negation(alloc, atom)?)?;
+    let mut second = branch.owned_copy(alloc)?;
+    let denied = negation(alloc, atom)?;
+    second.get_mut().assume(denied)?;
     let mut first = branch;
-    first.assume(atom.copy(alloc)?)?;
+    let held = atom.copy(alloc)?;
+    first.get_mut().assume(held)?;
     let mut cases = Vec::new(alloc);
     cases.push(first)?;
     cases.push(second)?;
