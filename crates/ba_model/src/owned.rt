@@ -39,6 +39,7 @@ impl<T> Owned<T> {
     /// The value, to write to.
     pub fn get_mut(&mut self) -> &mut T
         ensures* writes_back { sem 𝓛 (Lends (the_row T.row) T.row self.entry result (λ w. w)) }
+        ensures value { result.now ≡ self.old }
     {
         &mut self.cell
     }
