@@ -12,20 +12,20 @@ def build(
     root: pathlib.Path, name: str, uses: str, crates: list[str], words: list[str], proofs: dict[str, str] | None = None,
     handles: str = "none", clone: pathlib.Path = HOME, instead: dict[str, str] | None = None,
 ) -> pathlib.Path:
-    """Copies the clone's crates and the program bench/NAME.txt below root, runs it once with `rt run`, and gives its path.
-    `proofs` gives for each further file of the program the text in bench/ that it is, and `instead` what is to stand for
+    """Copies the clone's crates and the program bench/programs/NAME.txt below root, runs it once with `rt run`, and gives its path.
+    `proofs` gives for each further file of the program the text in bench/programs/ that it is, and `instead` what is to stand for
     some texts in the program, where the crates of another clone have other names."""
     for crate in crates:
         shutil.copytree(clone / "crates" / crate, root / "crates" / crate, symlinks=True)
     home = root / "crates" / name
     (home / "src").mkdir(parents=True)
-    program = (HOME / "bench" / f"{name}.txt").read_text()
+    program = (HOME / "bench" / "programs" / f"{name}.txt").read_text()
     for found, wanted in (instead or {}).items():
         program = program.replace(found, wanted)
     (home / "src" / "main.rt").write_text(program)
     for path, text in (proofs or {}).items():
         (home / path).parent.mkdir(parents=True, exist_ok=True)
-        shutil.copy(HOME / "bench" / text, home / path)
+        shutil.copy(HOME / "bench" / "programs" / text, home / path)
     lines = (clone / "crates.txt").read_text().splitlines()
     kept = [line for line in lines if line.split(":")[0] in crates]
     (root / "crates.txt").write_text("\n".join(kept) + f"\n{name}: {uses}\n")

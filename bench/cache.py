@@ -1,7 +1,7 @@
 #!/usr/bin/env python3
 """Times calls on a cache from one thread and from four: python3 bench/cache.py [RUNS]
 
-Proves and builds the program bench/cache_bench.txt over ba_cache and ba_workers in a folder of its own, and prints a
+Proves and builds the program bench/programs/cache_bench.txt over ba_cache and ba_workers in a folder of its own, and prints a
 table in Markdown: nanoseconds by the clock and the calls of all threads together, of RUNS runs (5 if it isn't said).
 """
 

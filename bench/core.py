@@ -1,7 +1,7 @@
 #!/usr/bin/env python3
 """Times the machine of ba_core: python3 bench/core.py [RUNS]
 
-Proves and builds the program bench/core_bench.txt over ba_core in a folder of its own, and prints a table in
+Proves and builds the program bench/programs/core_bench.txt over ba_core in a folder of its own, and prints a table in
 Markdown: processor time for one of each, the least of RUNS (7 if it isn't said), by how many requests are open,
 each of which was told an answer.
 """

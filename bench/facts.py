@@ -1,7 +1,7 @@
 #!/usr/bin/env python3
 """Times branches of ba_facts: python3 bench/facts.py [RUNS]
 
-Proves and builds the program bench/facts_bench.txt over ba_facts in a folder of its own, and prints a table in
+Proves and builds the program bench/programs/facts_bench.txt over ba_facts in a folder of its own, and prints a table in
 Markdown: processor time for one of each, the least of RUNS (7 if it isn't said).
 """
 

@@ -1,7 +1,7 @@
 #!/usr/bin/env python3
 """Times templates: python3 bench/general.py [RUNS]
 
-Proves and builds the program bench/general_bench.txt over ba_general and ba_match in a folder of its own, and prints
+Proves and builds the program bench/programs/general_bench.txt over ba_general and ba_match in a folder of its own, and prints
 a table in Markdown: processor time to make one template, and to match one, the least of RUNS (7 if it isn't said).
 """
 

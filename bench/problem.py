@@ -1,7 +1,7 @@
 #!/usr/bin/env python3
 """Times how a question's problem is made: python3 bench/problem.py [RUNS]
 
-Proves and builds the program bench/problem_bench.txt over ba_kernel in a folder of its own, and prints a table in
+Proves and builds the program bench/programs/problem_bench.txt over ba_kernel in a folder of its own, and prints a table in
 Markdown: processor time for one problem, the least of RUNS (7 if it isn't said).
 """
 

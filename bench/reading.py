@@ -1,7 +1,7 @@
 #!/usr/bin/env python3
 """Measures how a question's text is read, alone: python3 bench/reading.py [--before FOLDER] [--runs N]
 
-Proves and builds the program bench/reading_bench.txt over ba_sql_query in a folder of its own, and prints a table in
+Proves and builds the program bench/programs/reading_bench.txt over ba_sql_query in a folder of its own, and prints a table in
 Markdown, a line for each text that bench/bench.py reads: the instructions to read it, as valgrind's callgrind counts them,
 and the processor time, each the difference of two runs by the further readings of the second.
 
