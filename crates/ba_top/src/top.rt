@@ -171,23 +171,27 @@ fn run<R: Threads + Wait + Sync, F: Files, S: Sink, G: Gate + Sync>(
 
 /// Does what the words say.
 ///
-/// `run --schema S --policy P --tables D --script F [--workers N] [--budget B]` reads the schema S, the policy P, the file D/T.csv of each
-/// table T in the schema's order and the script F, each once; then answers or blocks each question of the script; then writes a line for each
-/// line of the script, in order, and the summary. A question is answered where single views of the policy cover it under its request's
-/// context, or where at most B due steps prove that it is strongly compliant after what its request was told (Blockaid, OSDI 2022); else it
-/// is blocked, with a reason.
+/// `run --schema S --policy P --tables D --script F [--workers N] [--budget B]` reads the schema S,
+/// the policy P, the file D/T.csv of each table T in the schema's order and the script F, each once;
+/// then answers or blocks each question of the script; then writes a line for each line of the
+/// script, in order, and the summary. A question is answered where single views of the policy cover
+/// it under its request's context, where a template, which is an earlier proof made general, matches
+/// it after what its request was told, or where at most B due steps prove that it is strongly
+/// compliant after that (Blockaid, OSDI 2022); else it is blocked, with a reason.
 ///
-/// `check --schema S --policy P --proof F` reads the schema S, the policy P and the proof F, each once; then takes the proof's steps, one
-/// after another; then writes one line. The proof is accepted where each step is and no branch is left open (status 0); then its question is
-/// strongly compliant under its context and after its rows. Else the line tells the first step that isn't accepted and why, or how many
-/// branches are open (status 1).
+/// `check --schema S --policy P --proof F` reads the schema S, the policy P and the proof F, each
+/// once; then takes the proof's steps, one after another; then writes one line. The proof is accepted
+/// where each step is and no branch is left open (status 0); then its question is strongly compliant
+/// under its context and after its rows. Else the line tells the first step that isn't accepted and
+/// why, or how many branches are open (status 1).
 ///
-/// `gen --seed N --requests R [--workers N] [--print]` makes the schema, the policy, the tables and the script of a workload (`ba_workload`), and
-/// reads no file. With `--print` it writes the script; else it serves it as `run` does, with the default budget, and writes the summary alone.
+/// `gen --seed N --requests R [--workers N] [--print]` makes the schema, the policy, the tables and
+/// the script of a workload (`ba_workload`), and reads no file. With `--print` it writes the script;
+/// else it serves it as `run` does, with the default budget, and writes the summary alone.
 ///
-/// The first fault ends a command with one fault line: words of another form (status 2), a file that has no reading, or rows that break
-/// a key or a link (3), a file that can't be read (4), a count above its limit (7). A write that fails ends it with status 5, want
-/// of memory with 6.
+/// The first fault ends a command with one fault line: words of another form (status 2), a file that
+/// has no reading, or rows that break a key or a link (3), a file that can't be read (4), a count
+/// above its limit (7). A write that fails ends it with status 5, want of memory with 6.
 pub fn blockaid<R: Threads + Wait + Sync, F: Files, S: Sink, G: Gate + Sync>(
     rt: &R,
     alloc: Global,
