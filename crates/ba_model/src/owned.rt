@@ -43,13 +43,6 @@ impl<T> Owned<T> {
     {
         &mut self.cell
     }
-
-    /// The value itself.
-    pub fn into_inner(self) -> T
-        ensures { result ≡ self }
-    {
-        Box::into_inner(self.cell)
-    }
 }
 
 impl<T> Deref for Owned<T> {
