@@ -1,7 +1,7 @@
 use Rattle.std.proofs.Common.{◌≡◌, ℕ, ◌+◌, ◌*◌}
 use Rattle.ba_cache.specs.Passes.{AreFree, OnEach}
-use Rattle.ba_shared_tests.specs.Callers.{HasLeft}
-use Rattle.ba_shared_tests.proofs.tests.cache.calls.Given as goal
+use Rattle.ba_base_tests.specs.Callers.{HasLeft}
+use Rattle.ba_base_tests.proofs.tests.cache.calls.Given as goal
 
 abbrev pub invariant-loop-turn : goal.invariant-loop-turn
 invariant-loop-turn g l = record {

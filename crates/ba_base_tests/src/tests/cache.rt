@@ -1,8 +1,8 @@
-//! A cache: the shard of a template, and calls of three threads.
+//! A cache: calls of three threads.
 ghost use Rattle.std.specs.Prelude.{ℕ, ◌+◌, IfOk, OnOk};
 ghost use Rattle.std.specs.Thread.{IsSync};
 ghost use Rattle.ba_cache.specs.Passes.{AreFree, IsOpened, IsWhole, OnEach};
-ghost use Rattle.ba_shared_tests.specs.Callers.{Awaits, HasLeft};
+ghost use Rattle.ba_base_tests.specs.Callers.{Awaits, HasLeft};
 
 use super::plain::{Plain, Told};
 use super::templates::template;
@@ -297,30 +297,5 @@ fn three_threads(rt: HostRuntime) -> Result<(), Fail> {
     let (closed, mut told) = run(&rt, alloc)?;
     let text = summary(alloc, &closed, &mut told)?;
     assert_eq!(rt; text.as_str(), "0 0 0 24 12 0 0 0 ");
-    Ok(())
-}
-
-// ---- a shard
-
-/// One template is admitted. The call is on the shelf of its shard alone.
-fn one_admit<R: Wait>(rt: &R, alloc: Global) -> Result<(u32, Closed), AllocError> {
-    let (cache, mut pass) = Cache::new(alloc, 1)?;
-    let it = template(alloc, 1, 1)?;
-    let shard = it.shape().shard();
-    let _ = cache.admit(rt, &mut pass, it);
-    Ok((shard, cache.close(alloc, pass)?))
-}
-
-/// Its question has table 1 alone, one atom and one operand of the head.
-#[test]
-fn template_in_shard_three(rt: HostRuntime) -> Result<(), Fail> {
-    let alloc = rt.alloc();
-    let (shard, closed) = one_admit(&rt, alloc)?;
-    assert!(rt; shard == 3 && closed.len() == 8);
-    let mut text = String::new(alloc);
-    for (shelf, numbers) in &closed {
-        write!(text, "{} {}, ", shelf.calls().len(), numbers.len())?;
-    }
-    assert_eq!(rt; text.as_str(), "0 0, 0 0, 0 0, 1 1, 0 0, 0 0, 0 0, 0 0, ");
     Ok(())
 }

@@ -7,8 +7,8 @@ use Rattle.std.proofs.alloc.Global.TheSendSync as heap
 use Rattle.ba_cache.specs.contracts.cache.Cache as Cache
 use Rattle.ba_cache.specs.contracts.cache.CachePass as CachePass
 use Rattle.ba_cache.proofs.Crossing.{cache_pass_send, cache_sync}
-use Rattle.ba_shared_tests.proofs.Captures.{captures_send}
-use Rattle.ba_shared_tests.proofs.tests.cache.run.Goals as goal
+use Rattle.ba_base_tests.proofs.Captures.{captures_send}
+use Rattle.ba_base_tests.proofs.tests.cache.run.Goals as goal
 
 pub join-one-requires-send-F : goal.join-one-requires-send-F
 join-one-requires-send-F g c κs within =

@@ -1,4 +1,4 @@
-use Rattle.ba_shared_tests.proofs.tests.templates.is_checked.Goals as goal
+use Rattle.ba_base_tests.proofs.tests.templates.is_checked.Goals as goal
 
 pub returns : goal.returns
 returns c = λ e. record {

@@ -1,6 +1,6 @@
 use Rattle.std.proofs.Common.{◌-◌, ◌*◌, arith}
-use Rattle.ba_shared_tests.proofs.Callers.{fewer}
-use Rattle.ba_shared_tests.proofs.tests.cache.calls.Goals as goal
+use Rattle.ba_base_tests.proofs.Callers.{fewer}
+use Rattle.ba_base_tests.proofs.tests.cache.calls.Goals as goal
 
 pub three_calls-requires-clause-left : goal.three_calls-requires-clause-left
 three_calls-requires-clause-left g c =
