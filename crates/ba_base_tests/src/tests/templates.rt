@@ -46,7 +46,7 @@ fn schema(alloc: Global) -> Result<Shared<Schema>, AllocError> {
 }
 
 /// The policy.
-fn policy(alloc: Global) -> Result<Shared<Policy>, AllocError> {
+pub(super) fn policy(alloc: Global) -> Result<Shared<Policy>, AllocError> {
     let policy = Policy {
         schema: schema(alloc)?,
         params: List::new(alloc),
@@ -188,13 +188,22 @@ fn template_of(alloc: Global, proved: Proved) -> Result<Template, AllocError> {
     }
 }
 
-/// The template of `SELECT ..` a column so many times `FROM` table 1 `WHERE 0 =` the number. Its shape goes by the width.
+/// The template of `SELECT ..` a column so many times `FROM` table 1 `WHERE 0 =` the number, over the policy. Its shape goes by the width.
+pub(super) fn template_over(
+    alloc: Global,
+    policy: &Shared<Policy>,
+    width: u32,
+    number: i64,
+) -> Result<Shared<Template>, AllocError> {
+    let proved = proof_of(alloc, problem(alloc, policy, width, number)?, step(alloc)?)?;
+    Shared::new(alloc, template_of(alloc, proved)?)
+}
+
+/// The same over a policy of its own.
 pub(super) fn template(
     alloc: Global,
     width: u32,
     number: i64,
 ) -> Result<Shared<Template>, AllocError> {
-    let policy = policy(alloc)?;
-    let proved = proof_of(alloc, problem(alloc, &policy, width, number)?, step(alloc)?)?;
-    Shared::new(alloc, template_of(alloc, proved)?)
+    template_over(alloc, &policy(alloc)?, width, number)
 }
