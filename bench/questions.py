@@ -1,7 +1,7 @@
 """The questions that bench/search.py asks."""
 from asks import Ask, example
 
-FIRST_ASK = example("title_as_first_ask", "title_as_first_ask_is_refuted", "refuted")
+FIRST_ASK = example("title_as_first_ask", "search/title_as_first_ask_is_refuted", "refuted")
 SCHEMA, POLICY = FIRST_ASK.schema, FIRST_ASK.policy
 OWN = "SELECT UId, EId, At FROM Attendances WHERE UId = 2"
 
@@ -41,20 +41,20 @@ def compared_after(count):
 
 
 def cyclic(steps):
-    return example(f"cyclic_link_spends_the_budget of {steps:,}", "cyclic_link_spends_the_budget", "spent", steps)
+    return example(f"cyclic_link_spends_the_budget of {steps:,}", "search/cyclic_link_spends_the_budget", "spent", steps)
 
 
 def kinds():
     return [
         FIRST_ASK,
-        example("title_after_own_attendance", "title_after_own_attendance", "proof"),
+        example("title_after_own_attendance", "search/title_after_own_attendance", "proof"),
         after(32, 5, "proof"),
-        example("two_views_joined_by_a_key", "two_views_joined_by_a_key", "proof"),
-        example("narrower_range", "narrower_range", "proof"),
-        example("wider_range", "wider_range_is_refuted", "refuted"),
-        example("sixteen_links_and_a_view", "sixteen_links_and_a_view", "proof", 18),
+        example("two_views_joined_by_a_key", "search/two_views_joined_by_a_key", "proof"),
+        example("narrower_range", "search/narrower_range", "proof"),
+        example("wider_range", "search/wider_range_is_refuted", "refuted"),
+        example("sixteen_links_and_a_view", "search/sixteen_links_and_a_view", "proof", 18),
         *(cyclic(it) for it in (50, 1_000, 2_000, 20_000, 100_000)),
-        example("stuck_on_three_inequalities", "stuck_on_three_inequalities", "stuck"),
+        example("stuck_on_three_inequalities", "search/stuck_on_three_inequalities", "stuck"),
     ]
 
 

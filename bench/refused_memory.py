@@ -1,9 +1,9 @@
 #!/usr/bin/env python3
 """Refuses each request for memory of some runs of `blockaid` in turn: that one alone, and it with all later ones.
 
-    bench/refused_memory.py [--program FILE] [--workers N,..] [--cases NAME,..] [--most N]
+    bench/refused_memory.py [--program FILE] [--workers N,..] [--cases TOPIC/NAME,..] [--most N]
 
-A run is a worked example (a folder of crates/blockaid_cases/data). The requests are refused by bench/refuse.c, which `cc` compiles and the
+A run is a worked example (a folder TOPIC/NAME of crates/blockaid_cases/data). The requests are refused by bench/refuse.c, which `cc` compiles and the
 program is loaded with. Of each run with a refused request it tests that
 
 - it ends with status 0 or 6, and by no signal;
@@ -30,8 +30,8 @@ import tempfile
 HOME = os.path.dirname(os.path.dirname(os.path.abspath(__file__)))
 DATA = os.path.join(HOME, "crates", "blockaid_cases", "data")
 CASES = (
-    "covered_names,title_as_first_ask_is_refuted,cyclic_link_spends_the_budget,title_after_own_attendance,second_request_by_template,"
-    "pinned_version_over_a_publish,checked_proofs_accepted"
+    "texts/covered_names,search/title_as_first_ask_is_refuted,search/cyclic_link_spends_the_budget,search/title_after_own_attendance,"
+    "templates/second_request_by_template,sessions/pinned_version_over_a_publish,proofs/checked_proofs_accepted"
 )
 # A run that takes longer than this many seconds is a failed one.
 LONGEST = 60
@@ -46,8 +46,8 @@ class Case:
     """A worked example, run in a folder of its own."""
 
     def __init__(self, program, shim, name, workers, root):
-        self.program, self.shim, self.name, self.workers = program, shim, name, workers
-        self.folder = os.path.join(root, f"{name}-{workers}")
+        self.program, self.shim, self.name, self.workers = program, shim, os.path.basename(name), workers
+        self.folder = os.path.join(root, f"{self.name}-{workers}")
         shutil.copytree(os.path.join(DATA, name), self.folder)
         with open(os.path.join(self.folder, "words"), encoding="utf-8") as it:
             self.words = it.read().splitlines()

@@ -1,2 +1,4 @@
 pub mod FewLemmas
 pub mod JoinLemmas
+pub mod TableLemmas
+pub mod TraceLemmas

@@ -1,6 +1,15 @@
 mod answers;
-mod compared;
-mod covers;
+mod events;
+mod given;
+mod proofs;
 mod steps;
 mod tables;
+mod templates;
 mod written;
+
+use std::process::Abort;
+
+/// What a test has: memory, and an end of the process where there is none.
+pub trait Handle: AllocGlobal + Abort {}
+
+impl<R: AllocGlobal + Abort> Handle for R {}

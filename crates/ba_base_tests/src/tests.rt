@@ -1,11 +1,16 @@
-mod classes;
+mod cache;
 mod copies;
-mod drafts;
 mod files;
 mod gates;
-mod plans;
+mod plain;
+mod shelves;
 mod sinks;
-mod traces;
+mod templates;
 mod turns;
-mod values;
-mod written;
+
+use std::process::Abort;
+
+/// What a test has: memory, and an end of the process where there is none.
+pub trait Handle: AllocGlobal + Abort {}
+
+impl<R: AllocGlobal + Abort> Handle for R {}

@@ -3,9 +3,11 @@
 //! publish nothing, whether a run by four workers ended so too, but for which answers are by proof and which by template. (Left out is a case with
 //! a file `order`: its lines go by the order in which requests come.)
 //!
-//! A case is a folder: the input files, `words` (a word on each line, without the program's name), `expected` (the bytes
-//! that the run must write) and `status` (the status that it must end with). It may have `hint`, the line on why the run
-//! ends so that must be told, and `why`, the reasons of all its questions in words. Names in its words are relative to it.
+//! The folder holds a folder for each topic, and that a folder for each of its cases: the input files,
+//! `words` (a word on each line, without the program's name), `expected` (the bytes that the run must
+//! write) and `status` (the status that it must end with). It may have `hint`, the line on why the run
+//! ends so that must be told, and `why`, the reasons of all its questions in words. Names in its words
+//! are relative to it.
 #![tactic(auto)]
 
 mod case;
@@ -28,6 +30,21 @@ where
     }
     names.sort_unstable();
     Ok(names)
+}
+
+// The cases of a folder, rising: the name of a topic's folder, a slash and that of the case's folder in it.
+fn cases_in<R>(rt: &R, folder: &str) -> io::Result<Vec<String>>
+where
+    R: Files + AllocGlobal + Clone + Drop,
+{
+    let mut cases = Vec::new(rt.alloc());
+    for topic in &names_in(rt, folder)? {
+        let place = format!(in rt.alloc(); "{folder}/{topic}")?;
+        for name in &names_in(rt, place.as_str())? {
+            cases.push(format!(in rt.alloc(); "{topic}/{name}")?)?;
+        }
+    }
+    Ok(cases)
 }
 
 // A line, if it is text.
@@ -130,7 +147,7 @@ where
 {
     let mut passed = 0u64;
     let mut failed = 0u64;
-    for name in &names_in(rt, folder)? {
+    for name in &cases_in(rt, folder)? {
         match passes(rt, folder, name.as_str()) {
             Ok(true) => passed = passed.saturating_add(1),
             Ok(false) => failed = failed.saturating_add(1),

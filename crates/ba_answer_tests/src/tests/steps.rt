@@ -3,8 +3,9 @@ ghost use Rattle.std.specs.Prelude.{◌≡◌, ◌+◌, ◌<◌, ◌≤◌, ◌�
 ghost use Rattle.ba_model.specs.Meaning.{IsAnswer};
 ghost use Rattle.ba_answer_tests.specs.JoinSteps.{attended_titles, three_tables};
 
+use super::given::{policy, query};
 use super::tables::{attended_titles, three_tables};
-use super::written::{context, policy_over, query, rows};
+use super::written::{context, rows};
 use crate::laws::join_in_seven_steps;
 use ba_eval::{Steps, answer_counted};
 use ba_model::{Context, List, Query, Row, RowSet, Same};
@@ -97,11 +98,6 @@ fn answer_if_of_law(
     Ok(Some(list))
 }
 
-const SCHEMA: &str = "CREATE TABLE Users (UId INT PRIMARY KEY, Name TEXT NOT NULL);
-CREATE TABLE Events (EId INT PRIMARY KEY, Title TEXT NOT NULL, Duration INT NOT NULL);
-CREATE TABLE Attendances (UId INT NOT NULL REFERENCES Users (UId),
-  EId INT NOT NULL REFERENCES Events (EId), At INT NOT NULL, PRIMARY KEY (UId, EId));";
-
 const TABLES: &str = "1 ann; 2 bob;
 5 plan 30; 6 party 60;
 2 5 100; 1 6 200;";
@@ -112,8 +108,7 @@ const QUESTION: &str =
 /// What is read from the texts is what the law speaks of, and the answer in seven steps is the one title.
 #[test]
 fn a_join_in_seven_steps(rt: HostRuntime) {
-    let policy = policy_over(&rt, SCHEMA, "SELECT UId FROM Users");
-    let question = query(&rt, &policy, QUESTION);
+    let question = query(&rt, &policy(&rt), QUESTION);
     let mut tables = List::new(rt.alloc());
     for text in TABLES.lines() {
         tables.push(rows(&rt, text)).expect(&rt, "memory");

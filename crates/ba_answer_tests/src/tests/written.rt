@@ -1,50 +1,26 @@
 //! What is asked: a schema, a policy, a context and queries. The parameter N is 5.
 
-use ba_model::{
-    Atom, Context, List, Op, Operand, Part, Policy, Query, Row, Schema, Shared, Str, Value, View,
-};
+use super::Handle;
+use ba_model::{Context, List, Policy, Query, Row, Schema, Shared, Str, Value};
 use ba_policy::read_policy;
 use ba_sql_ddl::read_schema;
 use ba_sql_query::read_query;
 use std::alloc::{AllocError, Global};
-use std::process::Abort;
-
-/// What a test has: memory, and an end of the process where there is none.
-pub trait Handle: AllocGlobal + Abort {}
-
-impl<R: AllocGlobal + Abort> Handle for R {}
 
 const SCHEMA: &str = "CREATE TABLE Users (UId INT PRIMARY KEY, Name TEXT NOT NULL);
 CREATE TABLE Attendances (UId INT NOT NULL, EId INT NOT NULL, PRIMARY KEY (UId, EId));
 CREATE TABLE T (Hidden INT NOT NULL, Shown INT NOT NULL);
 CREATE TABLE U (Hidden INT NOT NULL, Shown INT NOT NULL);";
 
-fn schema(rt: &impl Handle, text: &str) -> Shared<Schema> {
-    let schema = read_schema(rt.alloc(), text.as_bytes()).expect(rt, "a schema");
+fn schema(rt: &impl Handle) -> Shared<Schema> {
+    let schema = read_schema(rt.alloc(), SCHEMA.as_bytes()).expect(rt, "a schema");
     Shared::new(rt.alloc(), schema).expect(rt, "memory")
 }
 
-/// The policy of the view V; its text may go on with further views.
-pub fn policy(rt: &impl Handle, view: &str) -> Policy {
-    policy_over(rt, SCHEMA, view)
-}
-
-/// The policy of the view V over a schema of this text.
-pub fn policy_over(rt: &impl Handle, tables: &str, view: &str) -> Policy {
-    let text = format!(in rt.alloc(); "PARAM N INT; CREATE VIEW V AS {view};");
-    let text = text.expect(rt, "memory");
-    read_policy(rt.alloc(), &schema(rt, tables), text.as_bytes()).expect(rt, "a policy")
-}
-
-/// A policy of one view, which is this query.
-pub fn policy_of(rt: &impl Handle, query: Query) -> Policy {
-    let name = Str::new(rt.alloc(), "V").expect(rt, "memory");
-    Policy {
-        schema: schema(rt, SCHEMA),
-        params: List::new(rt.alloc()),
-        views: one(rt, View { name, query }),
-        keys: List::new(rt.alloc()),
-    }
+/// A policy of the parameter N and a view.
+pub fn policy(rt: &impl Handle) -> Policy {
+    let text = b"PARAM N INT; CREATE VIEW V AS SELECT UId FROM Users;";
+    read_policy(rt.alloc(), &schema(rt), text).expect(rt, "a policy")
 }
 
 pub fn query(rt: &impl Handle, policy: &Policy, text: &str) -> Query {
@@ -67,23 +43,6 @@ pub fn one<T: Drop>(rt: &impl Handle, item: T) -> List<T> {
     let mut list = List::new(rt.alloc());
     list.push(item).expect(rt, "memory");
     list
-}
-
-/// The column Shown of T where the column of this number is NULL, or isn't: no text has such a condition.
-pub fn null_query(rt: &impl Handle, op: Op, column: u32) -> Query {
-    let atom = Atom {
-        op,
-        left: Operand::Col(0, column),
-        right: Operand::Col(0, column),
-    };
-    let part = Part {
-        from: one(rt, 2),
-        conds: one(rt, atom),
-        head: one(rt, Operand::Col(0, 1)),
-    };
-    Query {
-        parts: one(rt, part),
-    }
 }
 
 fn text(alloc: Global, text: &str) -> Result<Value, AllocError> {

@@ -1,17 +1,50 @@
 //! Copies of whole values. Those of their parts are made on the way.
 
-use super::written::{Handle, atom, numbers, one, operands, text, value};
+use super::Handle;
 use ba_model::{
-    CacheKey, Column, Context, Duplicate, Kind, Link, List, Parameter, Part, Policy, Query, Row,
-    RowSet, Rule, Same, Schema, Shared, Table, View,
+    Atom, CacheKey, Column, Context, Duplicate, Kind, Link, List, Op, Operand, Parameter, Part,
+    Policy, Query, Row, RowSet, Rule, Same, Schema, Shared, Str, Table, Value, View,
 };
 
-/// A query with an operand and a value of each form.
+fn text(rt: &impl Handle, text: &str) -> Str {
+    Str::new(rt.alloc(), text).expect(rt, "memory")
+}
+
+fn value(rt: &impl Handle, letters: &str) -> Value {
+    Value::text(rt.alloc(), text(rt, letters)).expect(rt, "memory")
+}
+
+fn one<T: Drop>(rt: &impl Handle, item: T) -> List<T> {
+    let mut list = List::new(rt.alloc());
+    list.push(item).expect(rt, "memory");
+    list
+}
+
+/// An operand and a value of each form.
+fn operands(rt: &impl Handle) -> List<Operand> {
+    let operands = vec![in rt.alloc();
+        Operand::Col(1, 1),
+        Operand::Val(Value::Null),
+        Operand::Val(Value::Int(7)),
+        Operand::Val(value(rt, "a")),
+        Operand::Param(0),
+        Operand::Var(0),
+    ];
+    List::from_vec(operands.expect(rt, "memory"))
+}
+
 fn query(rt: &impl Handle) -> Query {
+    let atom = Atom {
+        op: Op::Le,
+        left: Operand::Col(0, 0),
+        right: Operand::Val(Value::Int(5)),
+    };
+    let mut from = one(rt, 0);
+    from.push(0).expect(rt, "memory");
     let part = Part {
-        from: numbers(rt, "0 0"),
-        conds: one(rt, atom(rt, "0.0 <= 5")),
-        head: operands(rt, "1.1 NULL 7 'a ?0 $0"),
+        from,
+        conds: one(rt, atom),
+        head: operands(rt),
     };
     Query {
         parts: one(rt, part),
@@ -26,14 +59,14 @@ fn table(rt: &impl Handle) -> Table {
         nullable: true,
     };
     let link = Link {
-        columns: numbers(rt, "0"),
+        columns: one(rt, 0),
         target: 0,
-        target_columns: numbers(rt, "0"),
+        target_columns: one(rt, 0),
     };
     Table {
         name: text(rt, "T"),
         columns: one(rt, column),
-        keys: one(rt, numbers(rt, "0")),
+        keys: one(rt, one(rt, 0)),
         links: one(rt, link),
     }
 }
@@ -80,8 +113,8 @@ fn copy_of_a_policy(rt: HostRuntime) {
 }
 
 fn row(rt: &impl Handle) -> Row {
-    let mut row = one(rt, value(rt, "2"));
-    row.push(value(rt, "'ann")).expect(rt, "memory");
+    let mut row = one(rt, Value::Int(2));
+    row.push(value(rt, "ann")).expect(rt, "memory");
     row
 }
 

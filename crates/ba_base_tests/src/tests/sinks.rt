@@ -1,7 +1,7 @@
-//! Sinks in memory and over a writer.
+//! A sink over a writer.
 
-use super::written::Handle;
-use ba_outside::{MemSink, Sink, StdSink, SureSink, WriteFail};
+use super::Handle;
+use ba_outside::{Sink, StdSink, WriteFail};
 use std::io;
 use std::io::{ErrorKind, Write};
 
@@ -21,23 +21,6 @@ fn writes<S: Sink>(rt: &impl Handle, sink: &mut S, lines: &str) {
         let got = sink.write(piece.as_bytes());
         assert!(rt; is_told(&got, word), "{line}");
     }
-}
-
-#[test]
-fn sink_fails_in_mid_line(rt: HostRuntime) {
-    let failing = vec![in rt.alloc(); 1].expect(&rt, "memory");
-    let takes = vec![in rt.alloc(); 4, 0, 0].expect(&rt, "memory");
-    let mut sink = MemSink::new(rt.alloc(), failing, takes);
-    writes(&rt, &mut sink, ">0\nbegin:1>4\nn:1>failed\nrest>1\nest>3");
-    assert!(rt; sink.bytes() == b"begirest".as_slice());
-    assert_eq!(rt; sink.pieces().len(), 4);
-}
-
-#[test]
-fn sink_that_never_fails(rt: HostRuntime) {
-    let mut sink = SureSink::new(rt.alloc());
-    writes(&rt, &mut sink, ">0\nbegin>5\nend>3");
-    assert!(rt; sink.bytes() == b"beginend".as_slice());
 }
 
 /// A writer that keeps what it was given, with a bar at each flush. It takes at most two bytes a call, and nothing of a

@@ -132,6 +132,9 @@ entry 0 0: ok
 entry 0 1: ok
 entry 0 2: ok
 entry 0 3: ok
+mappings One | 2 | a.0 = 2: [1] [3]
+mappings One | 1 2 | a.0 = b.1: [0, 1] [0, 2]
+mappings One | 2 | a.0 = 3, a.2 < 9: [2]?1 [4]?1
 view 0 2 0 1 0: BadFact
 view 0 2 0 0: BadFact
 view 0 2 0 0 1 1: BadFact
@@ -139,6 +142,7 @@ view 0 2 0 0 3: CondNotShown(0)
 view 0 2 0 0 4: CondNotShown(0)
 view 0 2 0 0 2: CondNotShown(1)
 view 0 2 0 0 1: ok
+mappings Two | 1 2 | a.0 = b.1: [5, 6]
 view 0 2 0 5 6: BadFact
 view 0 2 0 0 6: BadFact
 view 0 2 0 5 1: BadFact

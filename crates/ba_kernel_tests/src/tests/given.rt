@@ -57,18 +57,3 @@ pub fn problem(rt: &impl Handle, text: &str) -> Problem
 {
     Problem::new(rt.alloc(), draft(rt, text)).expect(rt, "a problem")
 }
-
-/// Whether the problem has the content of the text.
-pub fn is_given(rt: &impl Handle, problem: &Problem, text: &str) -> bool {
-    let draft = draft(rt, text);
-    let wanted = Problem {
-        policy: draft.policy,
-        vars: draft.vars,
-        assumed: draft.assumed,
-        entries: draft.entries,
-        goal: draft.goal,
-    };
-    let left = format!(in rt.alloc(); "{problem:?}").expect(rt, "memory");
-    let right = format!(in rt.alloc(); "{wanted:?}").expect(rt, "memory");
-    left == right
-}

@@ -18,7 +18,7 @@ use ba_sql_ddl::read_schema;
 
 /// Users (0), events (1), who attends which event and when (2), notes (3), whose owner and words are
 /// made columns that may be NULL, and who is whose boss (4).
-const TABLES: &str = "CREATE TABLE Users (UId INT PRIMARY KEY, Name TEXT NOT NULL);
+pub const TABLES: &str = "CREATE TABLE Users (UId INT PRIMARY KEY, Name TEXT NOT NULL);
 CREATE TABLE Events (EId INT PRIMARY KEY, Title TEXT NOT NULL, Duration INT NOT NULL);
 CREATE TABLE Attendances (UId INT NOT NULL REFERENCES Users (UId),
   EId INT NOT NULL REFERENCES Events (EId), At INT NOT NULL, PRIMARY KEY (UId, EId));
@@ -62,7 +62,7 @@ fn checked(rt: &impl Handle, schema: &Schema, params: &List<Parameter>, query: Q
 
 /// Columns, a letter for each, which is its name: `i` is a whole number and `t` a text, and a capital
 /// letter may be NULL.
-pub fn columns(rt: &impl Handle, letters: &str) -> List<Column> {
+fn columns(rt: &impl Handle, letters: &str) -> List<Column> {
     let mut all = List::new(rt.alloc());
     for letter in letters.chars() {
         let name = format!(in rt.alloc(); "{letter}").expect(rt, "memory");

@@ -1,15 +1,18 @@
 //! Searches that are started from short texts, and lines that say what comes of their steps.
 //!
 //! A scene is its title, the text of a problem, `=>` and lines. A line is what is asked and what is
-//! told of it: after a step `ok` or its fault where it is taken, and `new` with its round or `old`
-//! where it is only asked of; after `branch` and a number the branch as it is spelled, or `-` where
-//! none of the number is open. The last line may be `proof` and the number of steps by which the
-//! search is proved; without it a branch has to be open.
+//! told of it: after a step `ok` or its fault; after `branch` and a number the branch as it is spelled,
+//! or `-` where none of the number is open; after `mappings`, a side and a part the live mappings of the
+//! part to facts of the side in branch 0, each with its facts, and behind `?` the first atom that isn't
+//! shown. The last line may be `proof` and the number of steps by which the search is proved; without it
+//! a branch has to be open.
 
 use super::given::problem;
+use super::policies::part;
 use super::spelled::spelled;
 use super::steps::step;
 use super::words::{Handle, number};
+use ba_facts::{Mapping, Side};
 use ba_kernel::{Search, Step};
 use ba_model::{Failure, MAX_BUDGET};
 
@@ -39,27 +42,39 @@ fn told_taken(rt: &impl Handle, search: &mut Search, step: Step) -> String {
     told.expect(rt, "memory")
 }
 
-/// Tells `new` with the step's round, or `old`.
-fn told_new(rt: &impl Handle, search: &Search, step: &Step) -> String {
-    let told = match (search.new_round(step), search.is_new(step)) {
-        (Some(round), true) => format!(in rt.alloc(); "new {round}"),
-        (None, false) => format!(in rt.alloc(); "old"),
-        _ => format!(in rt.alloc(); "new and old"),
+fn mapping(rt: &impl Handle, mapping: &Mapping) -> String {
+    let facts = mapping.facts.as_slice();
+    let told = match mapping.undecided {
+        Some(n) => format!(in rt.alloc(); " {facts:?}?{n}"),
+        None => format!(in rt.alloc(); " {facts:?}"),
     };
     told.expect(rt, "memory")
 }
 
-/// Tells what is asked; the answer that is wanted says whether a step is taken.
-fn told(rt: &impl Handle, search: &mut Search, asked: &str, wanted: &str) -> String {
+/// Tells the live mappings of a part in branch 0, or nothing where it isn't open.
+fn mappings(rt: &impl Handle, search: &Search, text: &str) -> String {
+    let (side, text) = text.split_once(" | ").unwrap_or((text, ""));
+    let side = if side == "Two" { Side::Two } else { Side::One };
+    let mut told = String::new(rt.alloc());
+    let Some(branch) = search.branch(0) else {
+        return told;
+    };
+    let found = branch.matches(rt.alloc(), &part(rt, text), side);
+    for it in found.expect(rt, "memory").as_slice() {
+        told.push_str(mapping(rt, it).as_str()).expect(rt, "memory");
+    }
+    told
+}
+
+/// Tells what is asked.
+fn told(rt: &impl Handle, search: &mut Search, asked: &str) -> String {
     if let Some(digits) = asked.strip_prefix("branch ") {
         return spelled(rt, search.branch(number(digits)));
     }
-    let step = step(rt, asked);
-    if wanted == "old" || wanted.starts_with("new ") {
-        told_new(rt, search, &step)
-    } else {
-        told_taken(rt, search, step)
+    if let Some(text) = asked.strip_prefix("mappings ") {
+        return mappings(rt, search, text);
     }
+    told_taken(rt, search, step(rt, asked))
 }
 
 /// How many steps prove the search's problem, if no branch is open.
@@ -77,8 +92,8 @@ fn play(rt: &impl Handle, scene: &str) {
     let mut search = Search::start(rt.alloc(), problem(rt, given)).expect(rt, "memory");
     for line in lines.lines() {
         let (asked, wanted) = line.split_once(": ").unwrap_or((line, ""));
-        let told = told(rt, &mut search, asked, wanted);
-        assert!(rt; told.as_str() == wanted, "{title} {line} ({told})");
+        let told = told(rt, &mut search, asked);
+        assert!(rt; told.as_str().trim() == wanted, "{title} {line} ({told})");
     }
     assert!(rt;
         proof(search) == steps.parse::<usize>().ok(),

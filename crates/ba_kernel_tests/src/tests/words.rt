@@ -134,14 +134,6 @@ fn term(operand: Operand) -> Term {
     }
 }
 
-pub fn terms(rt: &impl Handle, text: &str) -> List<Term> {
-    let mut all = List::new(rt.alloc());
-    for word in text.split_whitespace() {
-        all.push(term(operand(rt, word))).expect(rt, "memory");
-    }
-    all
-}
-
 pub fn term_atom(rt: &impl Handle, text: &str) -> TermAtom {
     let atom = atom(rt, text);
     TermAtom {

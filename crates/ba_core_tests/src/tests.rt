@@ -1,4 +1,0 @@
-mod events;
-mod given;
-mod proofs;
-mod templates;

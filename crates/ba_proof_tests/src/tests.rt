@@ -1,6 +1,0 @@
-mod checked;
-mod forged;
-mod generals;
-mod given;
-mod words;
-mod written;

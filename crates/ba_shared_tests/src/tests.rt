@@ -1,5 +1,0 @@
-mod cache;
-mod plain;
-mod shelves;
-mod templates;
-mod versions;
