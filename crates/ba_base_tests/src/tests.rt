@@ -7,6 +7,7 @@ mod shelves;
 mod sinks;
 mod templates;
 mod turns;
+mod versions;
 
 use std::process::Abort;
 
