@@ -303,13 +303,14 @@ def processors():
 
 
 def built():
-    """The repository's program, which `blockaid` proves and builds where that is still to be done."""
+    """The repository's proved program, which `blockaid` proves and builds where that is still to be done."""
     example = f"{HOME}/examples/first-run"
     words = [f"{HOME}/blockaid", "run", "--schema", f"{example}/schema.sql", "--policy", f"{example}/policy.sql"]
     words += ["--tables", f"{example}/t0", "--script", f"{example}/script.jsonl"]
     with open(f"{example}/expected.jsonl", "rb") as it:
         wanted = it.read()
-    expect(subprocess.run(words, stdout=subprocess.PIPE, check=False).stdout, wanted, "the example's lines")
+    proved = {**os.environ, "BLOCKAID_PROVED": "1"}
+    expect(subprocess.run(words, stdout=subprocess.PIPE, check=False, env=proved).stdout, wanted, "the example's lines")
     return f"{HOME}/out/blockaid"
 
 
