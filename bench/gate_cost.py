@@ -76,7 +76,8 @@ def print_table(sums):
 def main():
     parser = argparse.ArgumentParser(description=__doc__, formatter_class=argparse.RawDescriptionHelpFormatter)
     parser.add_argument("--clone", help="a folder for the clone, which stays; else a temporary one")
-    parser.add_argument("--log", help="a file for what the gate prints; else it goes to standard error")
+    parser.add_argument("--log", help="a file for what the gate prints, each line behind the minutes so far; "
+                        "else it goes to standard error")
     given = parser.parse_args()
     clone = os.path.abspath(given.clone or tempfile.mkdtemp(prefix="gate-cost-"))
     subprocess.run(["git", "clone", "--quiet", HOME, clone], check=True)
@@ -93,7 +94,7 @@ def main():
     with subprocess.Popen(["bash", ".ci/run"], cwd=clone, stdin=subprocess.DEVNULL, stdout=subprocess.PIPE,
                           stderr=subprocess.STDOUT, text=True, errors="replace") as gate:
         for line in gate.stdout:
-            print(line, end="", file=log, flush=True)
+            print(f"{(time.time() - begun) / 60:6.1f} {line}", end="", file=log, flush=True)
             last = line.strip() or last
     is_done.set()
     watcher.join()
