@@ -17,7 +17,7 @@ CRATES = """ba_model ba_outside ba_comply ba_turn ba_workers ba_classes ba_facts
 USES = "ba_model ba_outside ba_workers ba_kernel ba_template ba_cache anyhow"
 FILES = {
     "src/jobs.rt": "cache_bench_jobs.txt",
-    "src/templates.rt": "../crates/ba_base_tests/src/tests/templates.rt",
+    "src/templates.rt": "../../crates/ba_base_tests/src/tests/templates.rt",
     "proofs/Lib.antt": "cache_bench_lib.txt",
     "proofs/CallsCross.antt": "cache_bench_cross.txt",
     "proofs/jobs/run/Answers.antt": "cache_bench_run.txt",

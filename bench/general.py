@@ -24,8 +24,8 @@ KINDS = [
     ("passed", "and after 256 entries, of which the fifth serves", 200_000, 10),
 ]
 PROOFS = {
-    "proofs/Lib.antt": "../crates/ba_kernel_tests/proofs/Lib.antt",
-    "proofs/QuestionLemmas.antt": "../crates/ba_kernel_tests/proofs/QuestionLemmas.antt",
+    "proofs/Lib.antt": "../../crates/ba_kernel_tests/proofs/Lib.antt",
+    "proofs/QuestionLemmas.antt": "../../crates/ba_kernel_tests/proofs/QuestionLemmas.antt",
 }
 
 
