@@ -1,12 +1,13 @@
 //! A run, and its replies in words.
 
+use crate::ended::Ended;
 use ba_command::WordsFault;
 use ba_model::Failure;
 use ba_notice::{FolderFiles, notice};
 use ba_outside::{FirstPiece, FreeGate, KeptFiles};
 use ba_top::{Outcome, blockaid};
 use ba_why::{Names, Telling, tell_all};
-use std::alloc::{AllocError, Global};
+use std::alloc::AllocError;
 use std::io;
 use std::io::{ErrorKind, Write};
 use std::rt::Files;
@@ -26,42 +27,21 @@ pub struct Asked<'a> {
     pub telling: Telling,
 }
 
-/// How a run ended that was explained.
-#[derive(Drop)]
-pub struct Explained {
-    /// The run's status, or that for want of memory.
-    pub status: u8,
-    /// Where the run has no journal, its fault line and the line on why, each with its end.
-    pub complaint: String,
-}
-
-impl Explained {
-    // A run whose replies were told.
-    fn told(alloc: Global, status: u8) -> Explained {
-        Explained {
-            status,
-            complaint: String::new(alloc),
-        }
-    }
-}
-
 /// Runs the top call, and writes why each question that is wanted was answered or not, with an empty
 /// line between two. A write that fails ends the telling, and doesn't change the status.
 ///
+/// What is told of how it ended is the fault line and the line on why, where the run has no journal.
+///
 /// # Errors
 /// A fault where the words are none of a run; then nothing is run.
-pub fn explain<R, W>(
-    rt: &R,
-    asked: &Asked<'_>,
-    out: &mut W,
-) -> Result<Explained, Failure<WordsFault>>
+pub fn explain<R, W>(rt: &R, asked: &Asked<'_>, out: &mut W) -> Result<Ended, Failure<WordsFault>>
 where
     R: Files + AllocGlobal + Threads + Wait + Sync + Clone + Drop,
     W: Write,
 {
     let names = Names::read(rt.alloc(), asked.words)?;
     match explain_run(rt, asked, &names, out) {
-        Ok(explained) => Ok(explained),
+        Ok(ended) => Ok(ended),
         Err(_) => Err(Failure::NoMemory),
     }
 }
@@ -71,7 +51,7 @@ fn explain_run<R, W>(
     asked: &Asked<'_>,
     names: &Names,
     out: &mut W,
-) -> Result<Explained, AllocError>
+) -> Result<Ended, AllocError>
 where
     R: Files + AllocGlobal + Threads + Wait + Sync + Clone + Drop,
     W: Write,
@@ -88,7 +68,10 @@ where
     match &outcome.journal {
         Some(journal) => {
             let told = tell_all(alloc, files.kept(), names, journal, asked.telling, out);
-            Ok(Explained::told(alloc, status_of(&told, outcome.status)))
+            Ok(Ended {
+                status: status_of(&told, outcome.status),
+                told: Some(String::new(alloc)),
+            })
         }
         None => complaint_of(rt, asked, files.files().asked(), &outcome, sink.text()),
     }
@@ -109,11 +92,11 @@ fn complaint_of<R: Files + AllocGlobal>(
     names: &[String],
     outcome: &Outcome,
     line: &str,
-) -> Result<Explained, AllocError> {
+) -> Result<Ended, AllocError> {
     let why = notice(rt, asked.words, asked.prefix, names, outcome)?;
-    let complaint = format!(in rt.alloc(); "{line}{why}\n")?;
-    Ok(Explained {
+    let told = format!(in rt.alloc(); "{line}{why}\n")?;
+    Ok(Ended {
         status: outcome.status,
-        complaint,
+        told: Some(told),
     })
 }

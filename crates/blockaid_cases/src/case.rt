@@ -1,8 +1,6 @@
 // A case: what the program is run on, how the run ends and how it must end.
-use ba_explain::{Asked, Telling, USUAL_COLUMNS, Wanted, explain};
-use ba_notice::{FolderFiles, notice};
+use ba_explain::{Asked, Telling, USUAL_COLUMNS, Wanted, explain, run_words};
 use ba_outside::{FreeGate, MemSink};
-use ba_top::blockaid;
 use std::alloc::{AllocError, Global};
 use std::rt::Files;
 use std::sync::Wait;
@@ -128,19 +126,16 @@ impl Case {
     {
         let alloc = rt.alloc();
         let prefix = format!(in alloc; "{folder}/")?;
-        let mut files = FolderFiles::new(rt.clone()?, alloc, prefix.as_str());
         let mut sink = MemSink::new(alloc, Vec::new(alloc), Vec::new(alloc));
         let text = format!(in alloc; "{}{more}", self.words)?;
         let words = words_of(alloc, text.as_str())?;
-        let outcome = blockaid(rt, alloc, &words, &mut files, &mut sink, &FreeGate);
-        let hint = if self.has_hint {
-            let line = notice(rt, &words, prefix.as_str(), files.asked(), &outcome)?;
-            format!(in alloc; "{line}\n")?
-        } else {
-            String::new(alloc)
+        let ended = run_words(rt, &words, prefix.as_str(), &mut sink, &FreeGate)?;
+        let hint = match ended.told {
+            Some(line) if self.has_hint => line,
+            _ => String::new(alloc),
         };
         Ok(End {
-            status: outcome.status,
+            status: ended.status,
             text: sink.bytes().to_vec(alloc)?,
             hint,
         })

@@ -9,9 +9,8 @@
 mod progress;
 mod reasons;
 
-use ba_notice::{FolderFiles, notice};
+use ba_explain::{Ended, run_words};
 use ba_outside::StdSink;
-use ba_top::{Outcome, blockaid};
 use progress::Progress;
 use reasons::explain_words;
 use std::alloc::{AllocError, Global};
@@ -39,18 +38,13 @@ fn asks_progress<R: Env + AllocGlobal>(rt: &R) -> bool {
     }
 }
 
-// Says on standard error why the run ended so, if it ended with another status than 0.
-fn tell<R: Files + AllocGlobal + Eprint>(
-    rt: &R,
-    words: &[String],
-    asked: &[String],
-    outcome: &Outcome,
-) {
-    let _ = match notice(rt, words, "", asked, outcome) {
-        Ok(line) if line.is_empty() => Ok(()),
-        Ok(line) => eprintln!(rt; "{line}"),
-        Err(_) => eprintln!(rt; "blockaid: there is no memory to tell why"),
+// Says on standard error what is told of how a run ended, and gives its status.
+fn tell(rt: &impl Eprint, ended: &Ended) -> u8 {
+    let _ = match &ended.told {
+        Some(lines) => eprint!(rt; "{lines}"),
+        None => eprintln!(rt; "blockaid: there is no memory to tell why"),
     };
+    ended.status
 }
 
 // Runs the top call on the words, over what standard output is, and gives the status.
@@ -59,16 +53,12 @@ where
     R: Files + AllocGlobal + Env + Eprint + Threads + Wait + Sync + Clone + Drop,
     W: Write + Drop,
 {
-    let alloc = rt.alloc();
-    let Ok(system) = rt.clone() else {
-        return end_early(rt);
-    };
     let mut sink = StdSink::new(out);
-    let mut files = FolderFiles::new(system, alloc, "");
     let gate = Progress::new(rt, asks_progress(rt));
-    let outcome = blockaid(rt, alloc, words, &mut files, &mut sink, &gate);
-    tell(rt, words, files.asked(), &outcome);
-    outcome.status
+    match run_words(rt, words, "", &mut sink, &gate) {
+        Ok(ended) => tell(rt, &ended),
+        Err(_) => end_early(rt),
+    }
 }
 
 // Tells that a run found no memory for its words, and gives the status.

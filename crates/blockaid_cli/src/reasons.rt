@@ -1,6 +1,7 @@
 //! The reasons of a run, told in words.
 
-use ba_explain::{Asked, Explained, Telling, USUAL_COLUMNS, Wanted, explain};
+use crate::tell;
+use ba_explain::{Asked, Ended, Telling, USUAL_COLUMNS, Wanted, explain};
 use ba_model::Failure;
 use std::env;
 use std::env::Env;
@@ -68,18 +69,10 @@ where
         telling: Telling { wanted, columns },
     };
     match explain(rt, &asked, &mut writer(rt)) {
-        Ok(explained) => tell_complaint(rt, &explained),
+        Ok(ended) => tell(rt, &ended),
         Err(Failure::NoMemory) => MEMORY,
         Err(Failure::Fault(_)) => tell_usage(rt),
     }
-}
-
-// Says what is wrong with a run that has no journal, and gives the status.
-fn tell_complaint(rt: &impl Eprint, explained: &Explained) -> u8 {
-    if !explained.complaint.is_empty() {
-        let _ = eprint!(rt; "{}", explained.complaint);
-    }
-    explained.status
 }
 
 fn tell_usage(rt: &impl Eprint) -> u8 {

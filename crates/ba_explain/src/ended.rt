@@ -1,0 +1,58 @@
+//! A run, and why it ended so.
+
+use ba_notice::{FolderFiles, notice};
+use ba_outside::{Gate, Sink};
+use ba_top::blockaid;
+use std::alloc::{AllocError, Global};
+use std::rt::Files;
+use std::sync::Wait;
+use std::thread::Threads;
+
+/// How a run ended.
+#[derive(Drop)]
+pub struct Ended {
+    /// The run's status, or that for want of memory.
+    pub status: u8,
+    /// What is told of it on standard error, each line with its end, where there was memory for that:
+    /// nothing of a run that ended well.
+    pub told: Option<String>,
+}
+
+/// Runs the top call on the words, over the files of a folder: the names in the words stand behind
+/// the prefix.
+///
+/// # Errors
+/// `AllocError` where there was no memory to begin.
+pub fn run_words<R, S, G>(
+    rt: &R,
+    words: &[String],
+    prefix: &str,
+    sink: &mut S,
+    gate: &G,
+) -> Result<Ended, AllocError>
+where
+    R: Files + AllocGlobal + Threads + Wait + Sync + Clone + Drop,
+    S: Sink,
+    G: Gate + Sync,
+{
+    let alloc = rt.alloc();
+    let Ok(system) = rt.clone() else {
+        return Err(AllocError);
+    };
+    let mut files = FolderFiles::new(system, alloc, prefix);
+    let outcome = blockaid(rt, alloc, words, &mut files, sink, gate);
+    let line = notice(rt, words, prefix, files.asked(), &outcome);
+    Ok(Ended {
+        status: outcome.status,
+        told: told_of(alloc, line),
+    })
+}
+
+// The line with its end, or nothing of a run that has none; and nothing at all without memory.
+fn told_of(alloc: Global, line: Result<String, AllocError>) -> Option<String> {
+    match line {
+        Ok(line) if line.is_empty() => Some(line),
+        Ok(line) => format!(in alloc; "{line}\n").ok(),
+        Err(_) => None,
+    }
+}
