@@ -1,5 +1,5 @@
 // A case: what the program is run on, how the run ends and how it must end.
-use ba_explain::{Asked, Telling, USUAL_COLUMNS, Wanted, explain, run_words};
+use ba_explain::{Asked, Ended, Telling, USUAL_COLUMNS, Wanted, explain, run_words};
 use ba_outside::{FreeGate, MemSink};
 use std::alloc::{AllocError, Global};
 use std::rt::Files;
@@ -129,13 +129,15 @@ impl Case {
         let mut sink = MemSink::new(alloc, Vec::new(alloc), Vec::new(alloc));
         let text = format!(in alloc; "{}{more}", self.words)?;
         let words = words_of(alloc, text.as_str())?;
-        let ended = run_words(rt, &words, prefix.as_str(), &mut sink, &FreeGate)?;
-        let hint = match ended.told {
-            Some(line) if self.has_hint => line,
-            _ => String::new(alloc),
+        let Ended { status, told } = run_words(rt, &words, prefix.as_str(), &mut sink, &FreeGate)?;
+        let line = told.unwrap_or(String::new(alloc));
+        let hint = if self.has_hint {
+            line
+        } else {
+            String::new(alloc)
         };
         Ok(End {
-            status: ended.status,
+            status,
             text: sink.bytes().to_vec(alloc)?,
             hint,
         })
