@@ -2,6 +2,7 @@
 use mathlib.Core.List.{IsPrefix}
 use Rattle.std.specs.Prelude.{◌≡◌, ◌≢◌, ℕ, ◌+◌, ◌<◌, ◌≤◌, ◌^◌, List, map, length, slice_index_or, Vec}
 use Rattle.std.specs.declared.alloc.Global.{Global}
+use Rattle.ba_model.specs.Limits.{shard_count}
 use Rattle.ba_turn.specs.History.{AreDistinct, HasCalls, calls_by, entry_of, number_of}
 use Rattle.ba_turn.specs.Knowing.{HasAllCalls, SumsToAllowance, after_join, after_split, numbers_of, opening_known, spent_known, split_known}
 use Rattle.ba_turn.specs.Passes.{IsFree, MakesCall, known_by}
@@ -34,11 +35,11 @@ known_on p k = known_in p.passes.items k
 
 -- so it is of what the pass on each shelf knows
 pub record OnEach (P : ShelfKnown → Type 0) (p : CachePass) : Type 0 where
-  pub each : (k : ℕ) → k < 8 → P (known_on p k)
+  pub each : (k : ℕ) → k < shard_count → P (known_on p k)
 
 -- each of these passes is one of the turn at its place, and holds no ticket
 pub record EachFree (turns : List ShelfTurn) (passes : List ShelfPass) : Type 0 where
-  pub each : (k : ℕ) (t : ShelfTurn) (d : ShelfPass) → k < 8 → IsFree (slice_index_or turns k t) (slice_index_or passes k d)
+  pub each : (k : ℕ) (t : ShelfTurn) (d : ShelfPass) → k < shard_count → IsFree (slice_index_or turns k t) (slice_index_or passes k d)
 
 -- the passes are those of this cache, and hold no ticket
 abbrev pub AreFree : Cache → CachePass → Type 0
@@ -81,7 +82,7 @@ pub record IsSplit (allowance : ℕ) (v new other : ShelfKnown) : Type 0 where
   pub other_known : other ≡ split_known allowance v
 
 pub record AreSplit (allowance : ℕ) (old new other : CachePass) : Type 0 where
-  pub each : (k : ℕ) → k < 8 → IsSplit allowance (known_on old k) (known_on new k) (known_on other k)
+  pub each : (k : ℕ) → k < shard_count → IsSplit allowance (known_on old k) (known_on new k) (known_on other k)
 
 -- ---- join
 
@@ -98,7 +99,7 @@ pub record IsJoined (v o new : ShelfKnown) : Type 0 where
   pub whole : HasAllCalls new
 
 pub record AreJoined (old other new : CachePass) : Type 0 where
-  pub each : (k : ℕ) → k < 8 → IsJoined (known_on old k) (known_on other k) (known_on new k)
+  pub each : (k : ℕ) → k < shard_count → IsJoined (known_on old k) (known_on other k) (known_on new k)
 
 -- ---- close
 
@@ -121,5 +122,5 @@ abbrev pub ClosedShelf : Type 0
 ClosedShelf = Shelf × Vec ℕ Global
 
 pub record AreClosed (p : CachePass) (closed : List ClosedShelf) : Type 0 where
-  pub eight : length closed ≡ 8
-  pub each : (k : ℕ) (c : ClosedShelf) → k < 8 → IsClosed (known_on p k) (slice_index_or closed k c).0 (slice_index_or closed k c).1.items
+  pub eight : length closed ≡ shard_count
+  pub each : (k : ℕ) (c : ClosedShelf) → k < shard_count → IsClosed (known_on p k) (slice_index_or closed k c).0 (slice_index_or closed k c).1.items

@@ -1,5 +1,6 @@
 -- A shelf: its shapes with their templates, the shape that was used last first, and the calls on it.
 use Rattle.std.specs.Prelude.{◌≡◌, ◌≢◌, ℕ, ◌-◌, Bool, true, false, List, [], ◌∷◌, ◌++◌, All, Contains, count_by, drop, length, take, ◌⊎◌}
+use Rattle.ba_model.specs.Limits.{most_alike, most_shapes}
 use Rattle.ba_kernel.specs.Problems.{StrongAll}
 use Rattle.ba_kernel.specs.Tests.{Proof}
 use Rattle.ba_template.specs.Shapes.{shape_of}
@@ -67,7 +68,7 @@ pub record IsKnown (old : List Row) (t : Proof) (id : ℕ) (new : List Row) : Ty
 
 -- the last eight templates of a shape stay
 abbrev pub latest : List Kept → List Kept
-latest ts = drop (length ts - 8) ts
+latest ts = drop (length ts - most_alike) ts
 
 abbrev pub IsOther : Proof → Kept → Type 0
 IsOther t k = k.template ≢ t
@@ -80,7 +81,7 @@ pub record IsAdded (count : ℕ) (old : List Row) (t : Proof) (id : ℕ) (new : 
   pub under : Stands (shape_of_template t) old templates rest ⊎ IsAbsent (shape_of_template t) old templates rest
   pub fresh : All (IsOther t) templates
   pub number : id ≡ count
-  pub front : new ≡ take 128 ((shape_of_template t, latest (templates ++ kept id t ∷ [])) ∷ rest)
+  pub front : new ≡ take most_shapes ((shape_of_template t, latest (templates ++ kept id t ∷ [])) ∷ rest)
 
 -- what an admit answers, and what it does, where so many templates were added before
 abbrev pub Admits : ℕ → List Row → Proof → Admit → List Row → Type 0

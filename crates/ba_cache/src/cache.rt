@@ -1,5 +1,6 @@
 //! A shelf for each shard of shapes, under a turn of its own, and a pass on each.
 ghost use Rattle.std.specs.Prelude.{◌≡◌, vec_len};
+ghost use Rattle.ba_model.specs.Limits.{shard_count};
 
 use crate::call::ShelfCall;
 use crate::shelf::Shelf;
@@ -10,7 +11,7 @@ use ba_turn::{Pass, Turn};
 #[derive(Drop)]
 pub struct Cache {
     pub(crate) turns: Vec<Turn<Shelf>>,
-    ghost eight: { vec_len turns ≡ 8 },
+    ghost eight: { vec_len turns ≡ shard_count },
 }
 
 /// The right to make calls on a cache: a pass on the turn of each shelf. It goes from thread to thread by value.
@@ -18,5 +19,5 @@ pub struct Cache {
 #[derive(Drop)]
 pub struct CachePass {
     pub(crate) passes: Vec<Pass<Shelf, ShelfCall>>,
-    ghost eight: { vec_len passes ≡ 8 },
+    ghost eight: { vec_len passes ≡ shard_count },
 }

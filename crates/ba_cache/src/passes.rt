@@ -6,7 +6,7 @@ ghost use Rattle.ba_cache.specs.Passes.{AreClosed, AreFree, AreJoined, AreSplit,
 use crate::cache::{Cache, CachePass};
 use crate::call::ShelfCall;
 use crate::shelf::Shelf;
-use ba_template::SHARDS;
+use ba_model::SHARDS;
 use ba_turn::{Pass, Turn};
 use std::alloc::{AllocError, Global};
 

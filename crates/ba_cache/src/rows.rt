@@ -1,21 +1,16 @@
 //! The rows of a shelf: its shapes with their templates, as `lru` keeps them.
 ghost use Rattle.std.specs.Prelude.{◌≡◌, ◌≤◌, [], ◌∷◌, ◌++◌, All, Contains, IfOk, IfSome, None, OnErr, drop, length, unwrap_or};
 ghost use Rattle.std.specs.Map.{lookup};
+ghost use Rattle.ba_model.specs.Limits.{most_shapes};
 ghost use Rattle.ba_cache.specs.Keys.{same_shape};
 ghost use Rattle.ba_cache.specs.Rows.{Admits, IsOther, IsSound, Looks, kept as kept_as, latest};
 
 use crate::call::{Admit, Kept};
 use crate::key::Key;
-use ba_model::{Duplicate, List, Shared};
+use ba_model::{Duplicate, List, MAX_ALIKE, Shared};
 use ba_template::{Shape, Template};
 use lru::LruCache;
 use std::alloc::{AllocError, Global};
-
-/// How many shapes a shelf keeps.
-pub const SHAPES: usize = 128;
-
-/// How many templates of a shape it keeps.
-pub const TEMPLATES: usize = 8;
 
 /// The shape that was used last stands first. The oldest template of a shape stands first.
 pub type Rows = LruCache<Key, List<Kept>>;
@@ -41,7 +36,7 @@ pub fn admit(
     template: Shared<Template>,
     count: u32,
 ) -> Result<Admit, AllocError>
-    requires cap { rows.old.cap ≡ 128 }
+    requires cap { rows.old.cap ≡ most_shapes }
     ensures admits { IfOk result (λ answer. Admits count rows.old.entries template answer rows.new.entries) }
     ensures cap { rows.new.cap ≡ rows.old.cap }
     ensures err { OnErr result (rows.new ≡ rows.old) }
@@ -114,7 +109,7 @@ fn copy_of(kept: &Kept, alloc: Global) -> Result<Kept, AllocError>
 fn with_newest(alloc: Global, templates: &[Kept], newest: Kept) -> Result<List<Kept>, AllocError>
     ensures { IfOk result (λ all. all ≡ latest (templates.now ++ newest ∷ [])) }
 {
-    let older = templates.len().saturating_sub(TEMPLATES - 1);
+    let older = templates.len().saturating_sub(MAX_ALIKE - 1);
     let mut all = copied(alloc, &templates[older..])?;
     all.push(newest)?;
     Ok(all)

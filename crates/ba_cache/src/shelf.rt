@@ -1,11 +1,12 @@
 //! Shelves.
 ghost use Rattle.std.specs.Prelude.{◌≡◌, ◌+◌, ◌^◌, ◌<◌, ◌≤◌, vec_len};
+ghost use Rattle.ba_model.specs.Limits.{most_shapes};
 ghost use Rattle.ba_cache.specs.Rows.{Legal, added_by, count_added};
 
 use crate::call::{Admit, Found, ShelfCall};
 use crate::rows;
-use crate::rows::{Rows, SHAPES};
-use ba_model::Shared;
+use crate::rows::Rows;
+use ba_model::{MAX_SHAPES, Shared};
 use ba_template::{Shape, Template};
 use ba_turn::Storied;
 use lru::LruCache;
@@ -26,7 +27,7 @@ pub struct Shelf {
     ghost legal: { ∥ Legal calls.items rows.entries ∥₁ },
     ghost counted: { added ≡ count_added calls.items },
     ghost few: { added ≤ vec_len calls },
-    ghost most: { rows.cap ≡ 128 },
+    ghost most: { rows.cap ≡ most_shapes },
 }
 
 impl Storied for Shelf {
@@ -60,7 +61,7 @@ impl Shelf {
         ensures calls { IfOk result (λ it. calls_of it ≡ []) }
         ensures rows { IfOk result (λ it. rows_of it ≡ []) }
     {
-        let most = NonZeroUsize::new(SHAPES).unwrap();
+        let most = NonZeroUsize::new(MAX_SHAPES).unwrap();
         Ok(Shelf {
             alloc,
             rows: LruCache::new(alloc, most)?,

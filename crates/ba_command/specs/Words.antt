@@ -13,7 +13,7 @@ use Rattle.ba_command.specs.declared.command.Command.{Command}
 use Rattle.ba_command.specs.declared.command.Command.TheVariants.{Run, Check, Gen}
 use Rattle.ba_command.specs.declared.command.WordsFault.{WordsFault}
 use Rattle.ba_command.specs.declared.command.WordsFault.TheVariants.{NoForm}
-use Rattle.ba_model.specs.declared.limits.TheConstants.{BUDGET, MAX_BUDGET, MAX_REQUESTS, MAX_SEED, MAX_WORKERS, MIN_BUDGET, MIN_WORKERS, WORKERS}
+use Rattle.ba_model.specs.Limits.{least_budget, least_workers, most_budget, most_requests, most_seed, most_workers, usual_budget, usual_workers}
 
 -- an option with one value: `--id VALUE` or `--id=VALUE`
 abbrev pub option_rule : Text → Rule
@@ -42,8 +42,8 @@ run_app = with_rule (with_rule (with_rule (with_rule (with_rule (with_rule (bare
     (needed (option_rule (codes "policy"))))
     (needed (option_rule (codes "tables"))))
     (needed (option_rule (codes "script"))))
-    (number_rule (codes "workers") MIN_WORKERS MAX_WORKERS))
-    (number_rule (codes "budget") MIN_BUDGET MAX_BUDGET)
+    (number_rule (codes "workers") least_workers most_workers))
+    (number_rule (codes "budget") least_budget most_budget)
 
 -- check --schema S --policy P --proof F
 abbrev pub check_app : App
@@ -55,9 +55,9 @@ check_app = with_rule (with_rule (with_rule (bare (codes "check"))
 -- gen --seed N --requests R [--workers N] [--print]
 abbrev pub gen_app : App
 gen_app = with_rule (with_rule (with_rule (with_rule (bare (codes "gen"))
-    (needed (number_rule (codes "seed") 0 MAX_SEED)))
-    (needed (number_rule (codes "requests") 0 MAX_REQUESTS)))
-    (number_rule (codes "workers") MIN_WORKERS MAX_WORKERS))
+    (needed (number_rule (codes "seed") 0 most_seed)))
+    (needed (number_rule (codes "requests") 0 most_requests)))
+    (number_rule (codes "workers") least_workers most_workers))
     (flag_rule (codes "print"))
 
 -- the number between two that a text spells, if it spells one
@@ -86,7 +86,7 @@ with_texts (Some schema) (Some policy) (Some tables) None workers budget = Err N
 -- the command that the values of the options are
 abbrev pub command_from : (Text → Option Text) → Result Command WordsFault
 command_from given = with_texts (given (codes "schema")) (given (codes "policy")) (given (codes "tables")) (given (codes "script"))
-    (number_or MIN_WORKERS MAX_WORKERS WORKERS (given (codes "workers"))) (number_or MIN_BUDGET MAX_BUDGET BUDGET (given (codes "budget")))
+    (number_or least_workers most_workers usual_workers (given (codes "workers"))) (number_or least_budget most_budget usual_budget (given (codes "budget")))
 
 abbrev pub with_files : Option Text → Option Text → Option Text → Result Command WordsFault
 with_files (Some schema) (Some policy) (Some proof) = Ok (Check schema policy proof)
@@ -105,8 +105,8 @@ with_numbers (Some seed) None workers print = Err NoForm
 
 -- the workload that the values of the options ask for
 abbrev pub gen_from : (Text → Option Text) → Result Command WordsFault
-gen_from given = with_numbers (number_in 0 MAX_SEED (given (codes "seed"))) (number_in 0 MAX_REQUESTS (given (codes "requests")))
-    (number_or MIN_WORKERS MAX_WORKERS WORKERS (given (codes "workers"))) (is_set (given (codes "print")))
+gen_from given = with_numbers (number_in 0 most_seed (given (codes "seed"))) (number_in 0 most_requests (given (codes "requests")))
+    (number_or least_workers most_workers usual_workers (given (codes "workers"))) (is_set (given (codes "print")))
 
 -- where `clap` finds no fault
 abbrev pub unless_fault : Kinds → Result Command WordsFault → Result Command WordsFault
@@ -117,7 +117,7 @@ unless_fault (kind ∷ kinds) found = Err NoForm
 abbrev pub budget_of : Command → ℕ
 budget_of (Run schema policy tables script workers budget) = budget
 budget_of (Check schema policy proof) = 0
-budget_of (Gen seed requests workers print) = BUDGET
+budget_of (Gen seed requests workers print) = usual_budget
 
 -- how many workers serve a script; a check has none
 abbrev pub workers_of : Command → Option ℕ
@@ -127,13 +127,13 @@ workers_of (Gen seed requests workers print) = Some workers
 
 -- at least one, and at most as many as may be
 abbrev pub AreWorkers : ℕ → Type 0
-AreWorkers n = (MIN_WORKERS ≤ n) × (n ≤ MAX_WORKERS)
+AreWorkers n = (least_workers ≤ n) × (n ≤ most_workers)
 
 -- a workload that is generated has a seed and a number of requests within the limits
 abbrev pub WorkloadFits : Command → Type 0
 WorkloadFits (Run schema policy tables script workers budget) = Unit {0}
 WorkloadFits (Check schema policy proof) = Unit {0}
-WorkloadFits (Gen seed requests workers print) = (seed ≤ MAX_SEED) × (requests ≤ MAX_REQUESTS)
+WorkloadFits (Gen seed requests workers print) = (seed ≤ most_seed) × (requests ≤ most_requests)
 
 -- what the words behind `run` ask for
 unfoldable pub run_of : List Text → Result Command WordsFault

@@ -2,7 +2,7 @@
 ghost use Rattle.std.specs.Prelude.{◌≡◌, ◌≤◌, map, string_bytes, IfOk, IfSome};
 ghost use Rattle.clap.specs.Words.{app_of, first_value, found_of};
 ghost use Rattle.ba_model.specs.Readings.{Gives};
-ghost use Rattle.ba_model.specs.declared.limits.TheConstants.{MAX_BUDGET};
+ghost use Rattle.ba_model.specs.Limits.{most_budget};
 ghost use Rattle.ba_command.specs.Words.{AreWorkers, WorkloadFits, budget_of, check_app, check_from, check_of, workers_of};
 
 use crate::command::{Command, WordsFault};
@@ -22,7 +22,7 @@ fn check_form<'a>(alloc: Global) -> Result<Form<'a>, AllocError>
 
 fn command_of(alloc: Global, matches: &ArgMatches<'_>) -> Result<Command, Failure<WordsFault>>
     ensures reads { Gives result (check_from (first_value (found_of matches.now))) }
-    ensures budget { IfOk result (λ command. budget_of command ≤ MAX_BUDGET) }
+    ensures budget { IfOk result (λ command. budget_of command ≤ most_budget) }
     ensures workers { IfOk result (λ command. IfSome (workers_of command) AreWorkers) }
     ensures workload { IfOk result WorkloadFits }
 {
@@ -42,7 +42,7 @@ fn command_of(alloc: Global, matches: &ArgMatches<'_>) -> Result<Command, Failur
 /// What the words behind `check` ask for.
 pub(crate) fn read_check(alloc: Global, words: &[String]) -> Result<Command, Failure<WordsFault>>
     ensures reads { Gives result (check_of (map string_bytes words.now)) }
-    ensures budget { IfOk result (λ command. budget_of command ≤ MAX_BUDGET) }
+    ensures budget { IfOk result (λ command. budget_of command ≤ most_budget) }
     ensures workers { IfOk result (λ command. IfSome (workers_of command) AreWorkers) }
     ensures workload { IfOk result WorkloadFits }
 {

@@ -2,7 +2,7 @@
 ghost use Rattle.std.specs.Prelude.{◌≡◌, ◌≤◌, false, map, string_bytes, IfOk, IfSome};
 ghost use Rattle.clap.specs.Words.{app_of, first_value, found_of, rule_of};
 ghost use Rattle.ba_model.specs.Readings.{Gives};
-ghost use Rattle.ba_model.specs.declared.limits.TheConstants.{MAX_BUDGET};
+ghost use Rattle.ba_model.specs.Limits.{most_budget};
 ghost use Rattle.ba_command.specs.Words.{AreWorkers, WorkloadFits, budget_of, flag_rule, gen_app, gen_from, gen_of, is_set, needed, number_rule, workers_of};
 
 use crate::command::{Command, WordsFault};
@@ -50,7 +50,7 @@ fn is_set(matches: &ArgMatches<'_>, id: &str) -> bool
 
 fn command_of(matches: &ArgMatches<'_>) -> Result<Command, Failure<WordsFault>>
     ensures reads { Gives result (gen_from (first_value (found_of matches.now))) }
-    ensures budget { IfOk result (λ command. budget_of command ≤ MAX_BUDGET) }
+    ensures budget { IfOk result (λ command. budget_of command ≤ most_budget) }
     ensures workers { IfOk result (λ command. IfSome (workers_of command) AreWorkers) }
     ensures workload { IfOk result WorkloadFits }
 {
@@ -72,7 +72,7 @@ fn command_of(matches: &ArgMatches<'_>) -> Result<Command, Failure<WordsFault>>
 /// What the words behind `gen` ask for.
 pub(crate) fn read_gen(alloc: Global, words: &[String]) -> Result<Command, Failure<WordsFault>>
     ensures reads { Gives result (gen_of (map string_bytes words.now)) }
-    ensures budget { IfOk result (λ command. budget_of command ≤ MAX_BUDGET) }
+    ensures budget { IfOk result (λ command. budget_of command ≤ most_budget) }
     ensures workers { IfOk result (λ command. IfSome (workers_of command) AreWorkers) }
     ensures workload { IfOk result WorkloadFits }
 {

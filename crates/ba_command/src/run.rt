@@ -2,7 +2,7 @@
 ghost use Rattle.std.specs.Prelude.{◌≡◌, ◌≤◌, map, string_bytes, IfOk, IfSome};
 ghost use Rattle.clap.specs.Words.{app_of, first_value, found_of};
 ghost use Rattle.ba_model.specs.Readings.{Gives};
-ghost use Rattle.ba_model.specs.declared.limits.TheConstants.{MAX_BUDGET as most_budget};
+ghost use Rattle.ba_model.specs.Limits.{most_budget};
 ghost use Rattle.ba_command.specs.Words.{AreWorkers, WorkloadFits, budget_of, command_from, run_app, run_of, workers_of};
 
 use crate::command::{Command, WordsFault};

@@ -1,7 +1,7 @@
 //! Reads the words of a command line.
 ghost use Rattle.std.specs.Prelude.{◌≡◌, ◌≤◌, IfOk, IfSome, map, string_bytes};
 ghost use Rattle.ba_model.specs.Readings.{Gives};
-ghost use Rattle.ba_model.specs.declared.limits.TheConstants.{MAX_BUDGET};
+ghost use Rattle.ba_model.specs.Limits.{most_budget};
 ghost use Rattle.ba_command.specs.Words.{AreWorkers, WorkloadFits, budget_of, command_of, workers_of};
 
 use crate::check::read_check;
@@ -17,7 +17,7 @@ use std::alloc::Global;
 /// All else is `NoForm`: other commands, no words, a missing or repeated option or one of another command, an abbreviation, a word left over.
 pub fn read_words(alloc: Global, words: &[String]) -> Result<Command, Failure<WordsFault>>
     ensures exact { Gives result (command_of (map string_bytes words.now)) }
-    ensures budget { IfOk result (λ command. budget_of command ≤ MAX_BUDGET) }
+    ensures budget { IfOk result (λ command. budget_of command ≤ most_budget) }
     ensures workers { IfOk result (λ command. IfSome (workers_of command) AreWorkers) }
     ensures workload { IfOk result WorkloadFits }
 {

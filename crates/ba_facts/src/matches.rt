@@ -1,5 +1,5 @@
 ghost use Rattle.std.specs.Prelude.{◌≡◌, ◌≤◌, ◌↔◌, IfOk, IsTrue, length, map, option_copied, option_map, slice_get};
-ghost use Rattle.ba_model.specs.declared.limits.TheConstants.{MAX_PART_TABLES};
+ghost use Rattle.ba_model.specs.Limits.{most_part_tables};
 ghost use Rattle.ba_facts.specs.Known.{seen};
 ghost use Rattle.ba_facts.specs.Matches.{AreMatches, IsAnswered, IsLiveAtom, IsLiveOf, IsShown, IsUndecided, LeastRound, row_of, term_of, terms_at};
 
@@ -121,7 +121,7 @@ impl Branch {
     /// Whether some facts of the side show all atoms of the part and give a head that is the same
     /// as a row, which is given as operands over other facts.
     pub fn is_answered(&self, part: &Part, side: Side, operands: &[Operand], facts: &[u32]) -> bool
-        requires { length part.now.from ≤ MAX_PART_TABLES }
+        requires { length part.now.from ≤ most_part_tables }
         ensures { IsTrue result ↔ IsAnswered self.now side part.now (row_of self.now facts.now operands.now) }
     {
         let search = Search {
@@ -144,7 +144,7 @@ impl Branch {
         row: Option<&List<Term>>,
         atom: &TermAtom,
     ) -> Option<u32>
-        requires { length part.now.from ≤ MAX_PART_TABLES }
+        requires { length part.now.from ≤ most_part_tables }
         ensures { LeastRound self.now (IsLiveAtom self.now side part.now (option_copied row.entry) atom.now) result }
     {
         let search = Search {

@@ -24,7 +24,7 @@ use Rattle.ba_general.specs.Generals.{HasTooMany, IsGeneralised, IsOfQuestion, I
 use Rattle.ba_general.specs.Leaving.{AreKept}
 use Rattle.ba_general.specs.Patterns.{IsPattern, assuming}
 use Rattle.ba_general.specs.Retold.{AreNamed, AreRenumbered, AreWithVariables, IsRenumbered, IsStepWith}
-use Rattle.ba_general.specs.declared.general.TheConstants.{MAX_KEPT_ENTRIES, MAX_OPERANDS}
+use Rattle.ba_model.specs.Limits.{most_entries, most_operands}
 use Rattle.ba_general.specs.declared.pattern.Pattern.{Pattern}
 use Rattle.ba_general.specs.declared.pattern.Valued.{Valued}
 
@@ -82,7 +82,7 @@ tried_few values kept tried n are few = let same : length kept ≡ length tried 
 -- ---- the template
 
 pub generalised : (proof template : Proof) (kept renumbered : List Step) (numbers : List ℕ) (it : Pattern) → AreKept proof.problem proof.steps kept → AreNamed kept numbers →
-    IsPattern proof.problem numbers it.problem it.values → HasOperands proof.problem it.values it.operands → length numbers ≤ MAX_KEPT_ENTRIES → ¬ (HasTooMany it.problem) →
+    IsPattern proof.problem numbers it.problem it.values → HasOperands proof.problem it.values it.operands → length numbers ≤ most_entries → ¬ (HasTooMany it.problem) →
     AreRenumbered numbers kept renumbered → IsToldBy it renumbered template.steps →
     IsCondition it.problem it.operands template.steps template.problem.assumed → template.problem ≡ assuming it.problem template.problem.assumed →
     IsGeneralised proof template
@@ -95,7 +95,7 @@ generalised proof template kept renumbered numbers it are named pattern has few 
       params = has.params;
       keeps = record { steps = are; named = named; pattern = pattern };
       few_entries = few;
-      few_operands = not_more MAX_OPERANDS (length it.problem.vars + length it.problem.policy.params) fewer;
+      few_operands = not_more most_operands (length it.problem.vars + length it.problem.policy.params) fewer;
       has_params = has.has;
       steps = record {
         renumbered = renumbered;
@@ -120,7 +120,7 @@ pattern_of proof p ns numbers it same same_numbers h =
     subst (λ (q : Problem). IsPattern q numbers it.problem it.values) same (subst (λ ms. IsPattern p ms it.problem it.values) same_numbers h)
 
 pub wide_by_entries : (proof : Proof) (p : Problem) (taken kept : List Step) (numbers : List ℕ) → p ≡ proof.problem → taken ≡ proof.steps → AreKept p taken kept →
-    AreNamed kept numbers → MAX_KEPT_ENTRIES < length numbers → IsTooWide proof
+    AreNamed kept numbers → most_entries < length numbers → IsTooWide proof
 wide_by_entries proof p taken kept numbers same same_steps are named many = IsTooWide.by_entries (kept_of proof p taken kept same same_steps are) named many
 
 pub wide_by_operands : (proof : Proof) (p : Problem) (taken kept : List Step) (ns numbers : List ℕ) (it : Pattern) → p ≡ proof.problem → taken ≡ proof.steps →
@@ -131,7 +131,7 @@ wide_by_operands proof p taken kept ns numbers it same same_steps same_numbers a
 
 pub generalised_of : (proof template : Proof) (p : Problem) (taken kept renumbered : List Step) (ns ms numbers : List ℕ) (it : Pattern) → p ≡ proof.problem →
     taken ≡ proof.steps → ns ≡ numbers → ms ≡ numbers → AreKept p taken kept → AreNamed kept numbers → IsPattern p ns it.problem it.values →
-    HasOperands p it.values it.operands → length numbers ≤ MAX_KEPT_ENTRIES → ¬ (HasTooMany it.problem) → AreRenumbered ms kept renumbered →
+    HasOperands p it.values it.operands → length numbers ≤ most_entries → ¬ (HasTooMany it.problem) → AreRenumbered ms kept renumbered →
     IsToldBy it renumbered template.steps → IsCondition it.problem it.operands template.steps template.problem.assumed →
     template.problem ≡ assuming it.problem template.problem.assumed → IsGeneralised proof template
 generalised_of proof template p taken kept renumbered ns ms numbers it same same_steps same_numbers same_places are named pattern has few fewer renumbered_are told condition problem =

@@ -11,7 +11,7 @@ use Rattle.ba_kernel.specs.declared.problem.Problem.{Problem}
 use Rattle.ba_kernel.specs.declared.problem.ProblemEntry.{ProblemEntry}
 use Rattle.ba_model.specs.Conform.{IsOfKind}
 use Rattle.ba_model.specs.Fit.{AtomFits, IsQuery, OpFits, PartFits, PartWithin, QueryFits, kind_of, kind_of_value, kinds_of}
-use Rattle.ba_model.specs.declared.limits.TheConstants.{MAX_ATOMS, MAX_HEAD, MAX_PARTS}
+use Rattle.ba_model.specs.Limits.{most_atoms, most_head, most_parts}
 use Rattle.ba_model.specs.declared.policy.Policy.{Policy}
 use Rattle.ba_model.specs.declared.query.Atom.{Atom}
 use Rattle.ba_model.specs.declared.query.Op.{Op}
@@ -126,8 +126,8 @@ module _ (s : Schema) (params vars : List Kind) (values : List Value) (kinds : A
       let head : length (map (operand_at values) part.head) ≡ length part.head = length-map part.head (operand_at values) in
       record {
         tables = h.tables;
-        conds = subst (λ n. n ≤ MAX_ATOMS) conds h.conds;
-        head = subst (λ n. n ≤ MAX_HEAD) head h.head;
+        conds = subst (λ n. n ≤ most_atoms) conds h.conds;
+        head = subst (λ n. n ≤ most_head) head h.head;
       }
 
   parts_within : (parts : List Part) → All PartWithin (map (part_at values) parts) → All PartWithin parts
@@ -184,7 +184,7 @@ module _ (policy : Policy) (vars : List Kind) (values : List Value) (kinds : All
             some_part = λ none. h.query.fits.some_part (ap (map (part_at values)) none);
             parts = query_fits s params vars values kinds entry.query repeats h.query.fits;
           };
-          few_parts = few s params vars values kinds entry.query MAX_PARTS h.query.few_parts;
+          few_parts = few s params vars values kinds entry.query most_parts h.query.few_parts;
           within = parts_within s params vars values kinds entry.query.parts h.query.within;
         };
         row = row_fits h.query.fits.kinds entry.row h.row;
@@ -218,7 +218,7 @@ module _ (policy : Policy) (vars : List Kind) (values : List Value) (kinds : All
             some_part = λ none. it.fits.some_part (ap (map (part_at values)) none);
             parts = query_fits s params vars values kinds goal repeats it.fits;
           };
-          few_parts = few s params vars values kinds goal MAX_PARTS it.few_parts;
+          few_parts = few s params vars values kinds goal most_parts it.few_parts;
           within = parts_within s params vars values kinds goal.parts it.within;
         };
         entries = entries_fit es numbers entries entries_repeat h.entries;

@@ -10,7 +10,7 @@ use Rattle.ba_general.proofs.OneRestLemmas.{kept_one}
 use Rattle.ba_general.specs.Generals.{IsTooWide, TooWideIsNone}
 use Rattle.ba_general.specs.Patterns.{IsPattern}
 use Rattle.ba_general.specs.Retold.{AreNamed}
-use Rattle.ba_general.specs.declared.general.TheConstants.{MAX_KEPT_ENTRIES, MAX_OPERANDS}
+use Rattle.ba_model.specs.Limits.{most_entries, most_operands}
 
 -- the numbers that steps name are determined
 numbers_one : (taken : List Step) (xs ys : List ℕ) → AreNamed taken xs → AreNamed taken ys → xs ≡ ys
@@ -21,13 +21,13 @@ pub too_wide_none : TooWideIsNone
 too_wide_none proof template (IsTooWide.by_entries {kept = kept} {numbers = numbers} steps named many) it =
     let kept_same : kept ≡ it.kept = kept_one proof.problem proof.steps kept it.kept steps it.keeps.steps in
     let numbers_same : numbers ≡ it.numbers = numbers_one it.kept numbers it.numbers (subst (λ taken. AreNamed taken numbers) kept_same named) it.keeps.named in
-    let few : length numbers ≤ MAX_KEPT_ENTRIES = subst (λ ns. length ns ≤ MAX_KEPT_ENTRIES) (sym numbers_same) it.few_entries in
+    let few : length numbers ≤ most_entries = subst (λ ns. length ns ≤ most_entries) (sym numbers_same) it.few_entries in
     absurd (omega (arith, many, few))
 too_wide_none proof template (IsTooWide.by_operands {kept = kept} {numbers = numbers} {g = g} {values = values} keeps many) it =
     let kept_same : kept ≡ it.kept = kept_one proof.problem proof.steps kept it.kept keeps.steps it.keeps.steps in
     let numbers_same : numbers ≡ it.numbers = numbers_one it.kept numbers it.numbers (subst (λ taken. AreNamed taken numbers) kept_same keeps.named) it.keeps.named in
     let pattern : IsPattern proof.problem it.numbers g values = subst (λ ns. IsPattern proof.problem ns g values) numbers_same keeps.pattern in
     let same = pattern_one proof.problem it.numbers g it.pattern values it.values pattern it.keeps.pattern in
-    let few : length g.vars + length g.policy.params ≤ MAX_OPERANDS =
-    subst (λ (q : Problem). length q.vars + length q.policy.params ≤ MAX_OPERANDS) (sym same.0) it.few_operands in
+    let few : length g.vars + length g.policy.params ≤ most_operands =
+    subst (λ (q : Problem). length q.vars + length q.policy.params ≤ most_operands) (sym same.0) it.few_operands in
     absurd (omega (arith, many, few))

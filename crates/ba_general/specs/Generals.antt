@@ -21,7 +21,7 @@ use Rattle.ba_general.specs.Patterns.{IsPattern, assuming, entry_at}
 use Rattle.ba_general.specs.Retold.{AreNamed, AreRenumbered, AreWithVariables, Names}
 use Rattle.ba_general.specs.declared.pattern.Pattern.{Pattern}
 use Rattle.ba_general.specs.declared.pattern.Valued.{Valued}
-use Rattle.ba_general.specs.declared.general.TheConstants.{MAX_KEPT_ENTRIES, MAX_OPERANDS}
+use Rattle.ba_model.specs.Limits.{most_entries, most_operands}
 
 -- the problem of a question that fits, after a trace, in a context
 pub record IsOfQuestion (p : Problem) : Type 0 where
@@ -40,11 +40,11 @@ pub record Keeps (proof : Proof) (kept : List Step) (numbers : List ℕ) (g : Pr
 
 -- more variables and parameters than a template may have
 abbrev pub HasTooMany : Problem → Type 0
-HasTooMany g = MAX_OPERANDS < length g.vars + length g.policy.params
+HasTooMany g = most_operands < length g.vars + length g.policy.params
 
 -- the kept steps name too many entries, or the pattern has too many variables and parameters
 pub data IsTooWide (proof : Proof) : Type 0 where
-  by_entries : {kept : List Step} {numbers : List ℕ} → AreKept proof.problem proof.steps kept → AreNamed kept numbers → MAX_KEPT_ENTRIES < length numbers → IsTooWide proof
+  by_entries : {kept : List Step} {numbers : List ℕ} → AreKept proof.problem proof.steps kept → AreNamed kept numbers → most_entries < length numbers → IsTooWide proof
   by_operands : {kept : List Step} {numbers : List ℕ} {g : Problem} {values : List Value} → Keeps proof kept numbers g values → HasTooMany g → IsTooWide proof
 
 -- ---- the template
@@ -75,8 +75,8 @@ pub record IsGeneralised (proof template : Proof) : Type 0 where
   pub values : List Value
   pub params : List Value
   pub keeps : Keeps proof kept numbers pattern values
-  pub few_entries : length numbers ≤ MAX_KEPT_ENTRIES
-  pub few_operands : length pattern.vars + length pattern.policy.params ≤ MAX_OPERANDS
+  pub few_entries : length numbers ≤ most_entries
+  pub few_operands : length pattern.vars + length pattern.policy.params ≤ most_operands
   pub has_params : HasParams proof.problem params
   pub steps : AreRetold pattern numbers values params kept template.steps
   pub condition : IsCondition pattern (operands_with values params) template.steps template.problem.assumed
@@ -88,7 +88,7 @@ TooWideIsNone = (proof template : Proof) → IsTooWide proof → ¬ (IsGeneralis
 
 -- some of the entries that the proof's own steps name are too many, or the pattern with them has too many variables and parameters
 pub data NamesTooMuch (proof : Proof) : Type 0 where
-  by_entries : (numbers : List ℕ) → IsStrictlySortedBy nat_cmp numbers → All (Names proof.steps) numbers → MAX_KEPT_ENTRIES < length numbers → NamesTooMuch proof
+  by_entries : (numbers : List ℕ) → IsStrictlySortedBy nat_cmp numbers → All (Names proof.steps) numbers → most_entries < length numbers → NamesTooMuch proof
   by_operands : (numbers : List ℕ) (g : Problem) (values : List Value) → IsStrictlySortedBy nat_cmp numbers → All (Names proof.steps) numbers →
       IsPattern proof.problem numbers g values → HasTooMany g → NamesTooMuch proof
 

@@ -1,6 +1,6 @@
 //! Copies of problems, and whether steps close one.
 ghost use Rattle.std.specs.Prelude.{◌≡◌, ◌↔◌, ◌≤◌, IfOk, IsTrue, length};
-ghost use Rattle.ba_model.specs.declared.limits.TheConstants.{MAX_BUDGET};
+ghost use Rattle.ba_model.specs.Limits.{most_steps};
 ghost use Rattle.ba_kernel.specs.Courses.{ProblemFits};
 ghost use Rattle.ba_kernel.specs.Replays.{Closes};
 
@@ -62,7 +62,7 @@ pub fn copy_entry(alloc: Global, entry: &ProblemEntry) -> Result<ProblemEntry, A
 /// open.
 pub fn closes(alloc: Global, problem: Problem, steps: &List<Step>) -> Result<bool, AllocError>
     requires fits { ProblemFits problem }
-    requires few { length steps.now ≤ MAX_BUDGET }
+    requires few { length steps.now ≤ most_steps }
     ensures { IfOk result (λ told. IsTrue told ↔ Closes problem steps.now) }
 {
     let steps = steps.copy(alloc)?;

@@ -1,6 +1,6 @@
 //! The one pass over the full condition that drops what the steps don't need.
 ghost use Rattle.std.specs.Prelude.{◌≡◌, ◌↔◌, ◌-◌, ◌≤◌, ◌∷◌, ◌++◌, [], IfOk, IsTrue, OnOk, drop, length, replicate, take, true};
-ghost use Rattle.ba_model.specs.declared.limits.TheConstants.{MAX_BUDGET};
+ghost use Rattle.ba_model.specs.Limits.{most_steps};
 ghost use Rattle.ba_general.specs.Conditions.{AtomsFit, IsAcceptedFully, AddsGroup, IsCondition, IsFullList, IsFullPass, PatternFits};
 ghost use Rattle.ba_general.specs.Dropping.{AllKept, DropsRun, IsAccepted, atom_if, between, kept_atoms};
 
@@ -20,7 +20,7 @@ pub fn condition(
     pattern: &Pattern,
     steps: &List<Step>,
 ) -> Result<List<Atom>, AllocError>
-    requires few { length steps.now ≤ MAX_BUDGET }
+    requires few { length steps.now ≤ most_steps }
     requires fits { PatternFits pattern.now }
     requires accepted { IsAcceptedFully pattern.now.problem pattern.now.operands steps.now }
     ensures { IfOk result (IsCondition pattern.now.problem pattern.now.operands steps.now) }
@@ -37,7 +37,7 @@ pub fn condition(
 
 /// Whether the steps are accepted under the full condition.
 pub fn is_accepted(alloc: Global, pattern: &Pattern, steps: &List<Step>) -> Result<bool, AllocError>
-    requires few { length steps.now ≤ MAX_BUDGET }
+    requires few { length steps.now ≤ most_steps }
     requires fits { PatternFits pattern.now }
     ensures { IfOk result (λ told. IsTrue told ↔ IsAcceptedFully pattern.now.problem pattern.now.operands steps.now) }
 {
@@ -127,7 +127,7 @@ impl<'a> Pass<'a> {
     /// each, since acceptance only grows with what is assumed.
     fn drop_run(&mut self, alloc: Global, first: usize, end: usize) -> Result<(), AllocError>
         requires fits { PatternFits self.old.pattern.now }
-        requires few { length self.old.steps.now ≤ MAX_BUDGET }
+        requires few { length self.old.steps.now ≤ most_steps }
         requires atoms { AtomsFit self.old.pattern.now.problem self.old.atoms.items }
         requires there { end ≤ length self.old.atoms.items }
         requires flags { length self.old.kept.items ≡ length self.old.atoms.items }
@@ -168,7 +168,7 @@ impl<'a> Pass<'a> {
     /// Whether the steps are accepted under the atoms that are kept.
     fn accepts(&self, alloc: Global) -> Result<bool, AllocError>
         requires fits { PatternFits self.now.pattern.now }
-        requires few { length self.now.steps.now ≤ MAX_BUDGET }
+        requires few { length self.now.steps.now ≤ most_steps }
         requires flags { length self.now.kept.items ≡ length self.now.atoms.items }
         requires atoms { AtomsFit self.now.pattern.now.problem self.now.atoms.items }
         ensures { IfOk result (λ told. IsTrue told ↔ IsAccepted self.now.pattern.now.problem self.now.steps.now (kept_atoms self.now.atoms.items self.now.kept.items)) }

@@ -1,7 +1,7 @@
 //! Templates of proofs.
 ghost use Rattle.std.specs.Prelude.{◌≡◌, ◌↔◌, ◌≤◌, IfErr, IfOk, IsTrue, length};
 ghost use Rattle.ba_model.specs.Readings.{OfFault};
-ghost use Rattle.ba_model.specs.declared.limits.TheConstants.{MAX_BUDGET};
+ghost use Rattle.ba_model.specs.Limits.{most_steps};
 ghost use Rattle.ba_kernel.specs.Courses.{ProblemFits};
 ghost use Rattle.ba_kernel.specs.Replays.{Closes};
 ghost use Rattle.ba_template.specs.Templates.{EachVarStands};
@@ -15,15 +15,9 @@ use crate::leaving::kept_steps;
 use crate::pattern::Pattern;
 use crate::retold::{named_entries, renumbered, with_variables};
 use ba_kernel::{Problem, Proved, Step, replay};
-use ba_model::{Atom, Duplicate, Failure, List};
+use ba_model::{Atom, Duplicate, Failure, List, MAX_KEPT_ENTRIES, MAX_OPERANDS};
 use ba_template::Template;
 use std::alloc::{AllocError, Global};
-
-/// Entries of a template.
-pub const MAX_KEPT_ENTRIES: usize = 8;
-
-/// Variables of a template and parameters of its policy, taken together.
-pub const MAX_OPERANDS: usize = 64;
 
 /// Why a proof has no template.
 #[derive(Clone, Copy, Debug, PartialEq, Eq)]
@@ -77,7 +71,7 @@ fn is_wide(pattern: &Pattern) -> bool
 /// The template of a pattern and the steps that prove its problem under the full condition.
 fn made_general(alloc: Global, pattern: &Pattern, kept: &List<Step>) -> Result<Template, AllocError>
     requires fits { PatternFits pattern.now }
-    requires few { length kept.now ≤ MAX_BUDGET }
+    requires few { length kept.now ≤ most_steps }
     requires stands { EachVarStands pattern.now.problem }
     requires accepted { IsAcceptedFully pattern.now.problem pattern.now.operands kept.now }
     ensures told { IfOk result (λ it. IsToldBy pattern.now kept.now it.steps) }
@@ -97,11 +91,11 @@ fn general_steps(
     kept: &List<Step>,
 ) -> Result<List<Step>, AllocError>
     requires fits { PatternFits pattern.now }
-    requires few { length kept.now ≤ MAX_BUDGET }
+    requires few { length kept.now ≤ most_steps }
     requires accepted { IsAcceptedFully pattern.now.problem pattern.now.operands kept.now }
     ensures told { IfOk result (IsToldBy pattern.now kept.now) }
     ensures accepted { IfOk result (IsAcceptedFully pattern.now.problem pattern.now.operands) }
-    ensures few { IfOk result (λ it. length it ≤ MAX_BUDGET) }
+    ensures few { IfOk result (λ it. length it ≤ most_steps) }
 {
     let steps = with_variables(alloc, kept, pattern.values.as_slice())?;
     let told = is_accepted(alloc, pattern, &steps)?;
@@ -116,7 +110,7 @@ fn template_of(
     steps: List<Step>,
 ) -> Result<Template, AllocError>
     requires fits { ProblemFits (assuming pattern.now.problem condition) }
-    requires few { length steps ≤ MAX_BUDGET }
+    requires few { length steps ≤ most_steps }
     requires stands { EachVarStands pattern.now.problem }
     requires accepted { IsAccepted pattern.now.problem steps condition }
     ensures { IfOk result (λ it. it ≡ record { problem = assuming pattern.now.problem condition; steps = steps }) }
@@ -127,7 +121,7 @@ fn template_of(
 
 fn proof_of(alloc: Global, problem: Problem, steps: List<Step>) -> Result<Proved, AllocError>
     requires fits { ProblemFits problem }
-    requires few { length steps ≤ MAX_BUDGET }
+    requires few { length steps ≤ most_steps }
     requires closes { Closes problem steps }
     ensures { IfOk result (λ it. it ≡ record { problem = problem; steps = steps }) }
 {

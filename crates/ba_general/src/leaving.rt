@@ -1,6 +1,6 @@
 //! Steps of a proof that it doesn't need.
 ghost use Rattle.std.specs.Prelude.{◌≡◌, ◌<◌, ◌≤◌, IfOk, length};
-ghost use Rattle.ba_model.specs.declared.limits.TheConstants.{MAX_BUDGET};
+ghost use Rattle.ba_model.specs.Limits.{most_steps};
 ghost use Rattle.ba_kernel.specs.Courses.{ProblemFits};
 ghost use Rattle.ba_kernel.specs.Replays.{Closes};
 ghost use Rattle.ba_general.specs.Leaving.{AreKept, IsLeftOut, IsTried, Leaves, MaybeIs, made};
@@ -20,7 +20,7 @@ pub fn kept_steps(
     steps: &List<Step>,
 ) -> Result<List<Step>, AllocError>
     requires fits { ProblemFits problem.now }
-    requires few { length steps.now ≤ MAX_BUDGET }
+    requires few { length steps.now ≤ most_steps }
     requires closes { Closes problem.now steps.now }
     ensures kept { IfOk result (AreKept problem.now steps.now) }
     ensures closes { IfOk result (Closes problem.now) }
@@ -50,7 +50,7 @@ fn leave(
     end: usize,
 ) -> Result<Taken, AllocError>
     requires fits { ProblemFits problem.now }
-    requires few { length taken.steps ≤ MAX_BUDGET }
+    requires few { length taken.steps ≤ most_steps }
     requires made { taken.made.items ≡ made problem.now taken.steps }
     requires there { end ≤ length taken.steps }
     ensures leaves { IfOk result (λ it. Leaves problem.now taken.steps first end it.steps) }
@@ -80,7 +80,7 @@ fn left_out(
     end: usize,
 ) -> Result<Option<List<Step>>, AllocError>
     requires fits { ProblemFits problem.now }
-    requires few { length taken.now.steps ≤ MAX_BUDGET }
+    requires few { length taken.now.steps ≤ most_steps }
     requires made { taken.now.made.items ≡ made problem.now taken.now.steps }
     requires there { first < length taken.now.steps }
     ensures { IfOk result (MaybeIs (IsLeftOut problem.now taken.now.steps first end)) }
@@ -99,7 +99,7 @@ fn tried(
     steps: List<Step>,
 ) -> Result<Option<List<Step>>, AllocError>
     requires fits { ProblemFits problem.now }
-    requires few { length steps ≤ MAX_BUDGET }
+    requires few { length steps ≤ most_steps }
     ensures { IfOk result (IsTried problem.now steps) }
 {
     let problem = copy_problem(alloc, problem)?;

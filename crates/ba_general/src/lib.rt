@@ -15,4 +15,4 @@ mod others;
 mod pattern;
 mod retold;
 
-pub use general::{GeneralFault, MAX_KEPT_ENTRIES, MAX_OPERANDS, generalise};
+pub use general::{GeneralFault, generalise};

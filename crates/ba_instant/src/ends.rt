@@ -1,6 +1,6 @@
 //! How a search ends.
 ghost use Rattle.std.specs.Prelude.{◌≡◌, ◌≢◌, ◌≤◌, ◌<◌, ◌∷◌, ◌++◌, [], IfOk, None, OnOk, length};
-ghost use Rattle.ba_model.specs.declared.limits.TheConstants.{MAX_BUDGET};
+ghost use Rattle.ba_model.specs.Limits.{most_budget};
 ghost use Rattle.ba_kernel.specs.Courses.{AllClosed, ProblemFits};
 ghost use Rattle.ba_kernel.specs.Tests.{open_at};
 ghost use Rattle.ba_instant.specs.Dues.{Ends, Searches};
@@ -44,7 +44,7 @@ pub enum Settled {
 /// behind.
 pub fn settle(alloc: Global, problem: Problem, budget: u32) -> Result<Settled, AllocError>
     requires fits { ProblemFits problem }
-    requires limit { budget ≤ MAX_BUDGET }
+    requires limit { budget ≤ most_budget }
     ensures { IfOk result (Ends First problem budget) }
 {
     settle_in(alloc, problem, budget, Pick::First)
@@ -57,7 +57,7 @@ fn settle_in(
     pick: Pick,
 ) -> Result<Settled, AllocError>
     requires fits { ProblemFits problem }
-    requires limit { budget ≤ MAX_BUDGET }
+    requires limit { budget ≤ most_budget }
     ensures { IfOk result (Ends pick problem budget) }
 {
     let mut search = Search::start(alloc, problem)?;
@@ -91,7 +91,7 @@ fn advance(
     pick: Pick,
     waiting: &mut Waiting,
 ) -> Result<Ahead, AllocError>
-    requires few { length search.old.steps < MAX_BUDGET }
+    requires few { length search.old.steps < most_budget }
     requires waiting { AreWaiting pick search.old waiting.old }
     requires searches { Searches pick search.old.problem search.old.steps search.old.slots }
     ensures { IfOk result (IsAhead pick search.old search.new waiting.new) }
@@ -129,7 +129,7 @@ fn end(
 /// Takes the step, which is due. All branches but its own wait then, and what is left of the agenda is
 /// that one's.
 fn take(alloc: Global, search: &mut Search, pick: Pick, due: Due) -> Result<Waiting, AllocError>
-    requires few { length search.old.steps < MAX_BUDGET }
+    requires few { length search.old.steps < most_budget }
     requires taken { IsTaken pick search.old due }
     requires searches { Searches pick search.old.problem search.old.steps search.old.slots }
     ensures searches { OnOk result (Searches pick search.new.problem search.new.steps search.new.slots) }

@@ -3,7 +3,7 @@ use Rattle.std.proofs.Common.{◌≡◌, ℕ, zero, suc, ◌+◌, ◌*◌, ◌�
 use Rattle.std.proofs.lemmas.List.{append-nil, length-append}
 use Rattle.std.proofs.lemmas.Option.{slice_get-get_or, slice_get_within}
 use Rattle.std.specs.Prelude.{OnOk, OnErr, Option, Some, None, Result, Ok, Err, get_or, slice_get, slice_set, take}
-use Rattle.ba_model.specs.declared.limits.TheConstants.{MAX_BUDGET}
+use Rattle.ba_model.specs.Limits.{most_steps}
 use Rattle.ba_facts.specs.declared.branch.Branch.{Branch}
 use Rattle.ba_kernel.proofs.NumberLemmas.{after_few, leads_few, start_few}
 use Rattle.ba_kernel.specs.Courses.{IsOpen, IsStart, ProblemFits, Runs, Slots, Takes, after, branch_of, next, start}
@@ -50,14 +50,14 @@ pub slots_back : (slots now others : Slots) (count : ℕ) → now ≡ slots ++ o
 slots_back slots now others count now_is count_is = cc (now_is, count_is, taken_back slots others)
 
 plain_course : (p : Problem) (taken then : List Step) (slots left : Slots) (step : Step) (cases : List Branch) → IsCourse (record { problem = p; steps = taken; slots = slots }) →
-    then ≡ taken ++ step ∷ [] → left ≡ after slots (branch_of step) cases → length taken < MAX_BUDGET → LeadsAt p (open_at slots (branch_of step)) step cases →
+    then ≡ taken ++ step ∷ [] → left ≡ after slots (branch_of step) cases → length taken < most_steps → LeadsAt p (open_at slots (branch_of step)) step cases →
     IsCourse (record { problem = p; steps = then; slots = left })
 plain_course p taken then slots left step cases course then_is left_is few h =
     let l = led p slots (branch_of step) step cases h in
     let takes : Takes p slots step left = record { branch = l.branch; open_ = l.open_; cases = cases; leads = l.leads; new_is = left_is } in
     let runs : Runs p (taken ++ step ∷ []) left = next course.runs takes in
     let count = ap length then_is ∙ length-append taken (step ∷ []) in
-    let long : length then ≤ MAX_BUDGET = omega (arith, count, few) in
+    let long : length then ≤ most_steps = omega (arith, count, few) in
     let made = leads_few p course.fits l.branch step cases l.leads in
     let more = after_few slots (branch_of step) cases in
     let numbers : length left ≤ 32 * (1 + length then) = omega (arith, count, made, more, ap length left_is, course.numbers) in
@@ -65,10 +65,10 @@ plain_course p taken then slots left step cases course then_is left_is few h =
 
 pub put_course : (k : Course) (p : Problem) (taken then : List Step) (slots left : Slots) (step : Step) (cases : List Branch) →
     record { problem = p; steps = taken; slots = slots } ≡ k → IsCourse (record { problem = p; steps = taken; slots = slots }) →
-    then ≡ taken ++ step ∷ [] → left ≡ after slots (branch_of step) cases → length k.steps < MAX_BUDGET →
+    then ≡ taken ++ step ∷ [] → left ≡ after slots (branch_of step) cases → length k.steps < most_steps →
     LeadsAt k.problem (open_at k.slots (branch_of step)) step cases → IsCourse (record { problem = p; steps = then; slots = left })
 put_course k p taken then slots left step cases view course then_is left_is =
-    subst (λ q. length q.steps < MAX_BUDGET → LeadsAt q.problem (open_at q.slots (branch_of step)) step cases → IsCourse (record { problem = p; steps = then; slots = left })) view
+    subst (λ q. length q.steps < most_steps → LeadsAt q.problem (open_at q.slots (branch_of step)) step cases → IsCourse (record { problem = p; steps = then; slots = left })) view
     (plain_course p taken then slots left step cases course then_is left_is)
 
 pub same_course : (p : Problem) (taken then : List Step) (slots left : Slots) → left ≡ slots → then ≡ taken → IsCourse (record { problem = p; steps = taken; slots = slots }) →
@@ -79,7 +79,7 @@ same_course p taken then slots left left_is then_is course =
 
 -- the step was taken, or nothing changed
 pub stepped : {X Y : Type 0} (result : Result X Y) (k : Course) (p : Problem) (taken then : List Step) (slots left : Slots) (step : Step) (cases : List Branch) →
-    record { problem = p; steps = taken; slots = slots } ≡ k → IsCourse (record { problem = p; steps = taken; slots = slots }) → length k.steps < MAX_BUDGET →
+    record { problem = p; steps = taken; slots = slots } ≡ k → IsCourse (record { problem = p; steps = taken; slots = slots }) → length k.steps < most_steps →
     LeadsAt k.problem (open_at k.slots (branch_of step)) step cases → OnOk result (left ≡ after slots (branch_of step) cases) → OnOk result (then ≡ taken ++ step ∷ []) →
     OnErr result ((left ≡ slots) × (then ≡ taken)) → IsCourse (record { problem = p; steps = then; slots = left })
 stepped (Ok u) k p taken then slots left step cases view course few leads slots_are steps_are same =

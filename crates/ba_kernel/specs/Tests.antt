@@ -4,7 +4,7 @@ use Rattle.std.specs.List.{AllZip, zip}
 use Rattle.ba_model.specs.Fit.{kinds_of}
 use Rattle.ba_model.specs.declared.failure.Failure.{Failure}
 use Rattle.ba_model.specs.declared.failure.Failure.TheVariants.{NoMemory, Fault}
-use Rattle.ba_model.specs.declared.limits.TheConstants.{MAX_BUDGET, MAX_PARTS}
+use Rattle.ba_model.specs.Limits.{most_steps, most_parts}
 use Rattle.ba_model.specs.declared.query.Part.{Part}
 use Rattle.ba_model.specs.declared.schema.Kind.{Kind}
 use Rattle.ba_model.specs.declared.schema.Link.{Link}
@@ -124,8 +124,8 @@ pub record Course : Type 0 where
 -- the problem fits, the steps are within the limit and are accepted from its start, and the start and each step gave a number for each part of a query at most
 pub record IsCourse (c : Course) : Type 0 where
   pub fits : ProblemFits c.problem
-  pub few : length c.steps ≤ MAX_BUDGET
-  pub numbers : length c.slots ≤ MAX_PARTS * (1 + length c.steps)
+  pub few : length c.steps ≤ most_steps
+  pub numbers : length c.slots ≤ most_parts * (1 + length c.steps)
   pub runs : Runs c.problem c.steps c.slots
 
 -- the branch of the number, if it is open
@@ -170,7 +170,7 @@ other_cases (b ∷ others) = map Some others
 -- a problem and steps that are accepted from its start, leave no branch open, and are within the limit; each instance of the problem is strongly compliant
 pub record IsProved (p : Problem) (taken : List Step) : Type 0 where
   pub strong : StrongAll p
-  pub few : length taken ≤ MAX_BUDGET
+  pub few : length taken ≤ most_steps
   pub slots : Slots
   pub runs : Runs p taken slots
   pub closed : AllClosed slots

@@ -1,5 +1,5 @@
 ghost use Rattle.std.specs.Prelude.{◌≡◌, ◌≤◌, length};
-ghost use Rattle.ba_model.specs.declared.limits.TheConstants.{MAX_BUDGET};
+ghost use Rattle.ba_model.specs.Limits.{most_steps};
 ghost use Rattle.ba_kernel.specs.Courses.{AllClosed, ProblemFits, Runs};
 ghost use Rattle.ba_kernel.specs.Problems.{StrongAll};
 ghost use Rattle.ba_kernel.specs.Tests.{IsProved};
@@ -13,7 +13,7 @@ use std::marker::Model;
 
 /// A problem and steps that prove it.
 ///
-/// The type keeps that the steps are at most [`ba_model::MAX_BUDGET`], are accepted from the problem's start and
+/// The type keeps that the steps are at most [`ba_model::MAX_STEPS`], are accepted from the problem's start and
 /// leave no branch open, and that every instance of the problem is strongly compliant. Nothing but
 /// [`crate::Search::close`] makes one.
 #[derive(Drop)]
@@ -40,7 +40,7 @@ impl Proved {
         slots: Vec<Option<Owned<Branch>>>,
     ) -> Proved
         requires fits { ProblemFits problem }
-        requires few { length steps ≤ MAX_BUDGET }
+        requires few { length steps ≤ most_steps }
         requires runs { Runs problem steps slots.items }
         requires closed { AllClosed slots.items }
         ensures { result ≡ record { problem = problem; steps = steps } }

@@ -1,6 +1,6 @@
 //! Steps that are taken from a problem's start, one after another.
 ghost use Rattle.std.specs.Prelude.{◌≡◌, ◌≤◌, ◌<◌, ◌∷◌, ◌++◌, [], IfErr, OnOk, length};
-ghost use Rattle.ba_model.specs.declared.limits.TheConstants.{MAX_BUDGET};
+ghost use Rattle.ba_model.specs.Limits.{most_steps};
 ghost use Rattle.ba_kernel.specs.Courses.{ProblemFits};
 ghost use Rattle.ba_kernel.specs.Replays.{IsNextRefused, Replays};
 
@@ -33,7 +33,7 @@ pub fn replay(
     steps: List<Step>,
 ) -> Result<Proved, Failure<ReplayFault>>
     requires fits { ProblemFits problem }
-    requires few { length steps ≤ MAX_BUDGET }
+    requires few { length steps ≤ most_steps }
     ensures { Replays problem steps result }
 {
     let mut search = Search::start(alloc, problem)?;
@@ -48,7 +48,7 @@ pub fn replay(
 
 /// Takes the next step, or tells its number with its fault.
 fn take_next(alloc: Global, search: &mut Search, step: Step) -> Result<(), Failure<ReplayFault>>
-    requires { length search.old.steps < MAX_BUDGET }
+    requires { length search.old.steps < most_steps }
     ensures problem { OnOk result (search.new.problem ≡ search.old.problem) }
     ensures steps { OnOk result (search.new.steps ≡ search.old.steps ++ step ∷ []) }
     ensures fault { IfErr result (IsNextRefused search.old step) }

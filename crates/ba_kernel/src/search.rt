@@ -1,6 +1,6 @@
 ghost use Rattle.std.specs.Prelude.{◌≡◌, ◌≢◌, ◌∷◌, ◌++◌, ◌<◌, ◌^◌, ◌↔◌, [], length, map, IfOk, IfErr, IsOk, IsTrue, OnOk, OnErr, Some, None, if◌then◌else◌, ◌==◌};
 ghost use Rattle.std.specs.Option.{option_copied};
-ghost use Rattle.ba_model.specs.declared.limits.TheConstants.{MAX_BUDGET};
+ghost use Rattle.ba_model.specs.Limits.{most_steps};
 ghost use Rattle.ba_kernel.specs.Courses.{AllClosed, IsStart, ProblemFits, Takes, after, branch_of};
 ghost use Rattle.ba_kernel.specs.News.{IsNewAt, IsNewRound};
 ghost use Rattle.ba_kernel.specs.Spares.{IsLastOn, IsSpare};
@@ -75,7 +75,7 @@ impl Search {
     /// its tests and there is no memory for the cases; then the search is as before, and the step is
     /// dropped.
     pub fn apply(&mut self, alloc: Global, step: Step) -> Result<(), Failure<StepFault>>
-        requires { length self.old.steps < MAX_BUDGET }
+        requires { length self.old.steps < most_steps }
         ensures taken { OnOk result (Takes self.old.problem self.old.slots step self.new.slots) }
         ensures steps { OnOk result (self.new.steps ≡ self.old.steps ++ step ∷ []) }
         ensures problem { OnOk result (self.new.problem ≡ self.old.problem) }
@@ -184,7 +184,7 @@ impl Search {
         step: Step,
         cases: Vec<Owned<Branch>>,
     ) -> Result<(), AllocError>
-        requires few { length self.old.steps < MAX_BUDGET }
+        requires few { length self.old.steps < most_steps }
         requires leads { LeadsAt self.old.problem (open_at self.old.slots (branch_of step)) step cases.items }
         ensures slots { OnOk result (self.new.slots ≡ after self.old.slots (branch_of step) cases.items) }
         ensures steps { OnOk result (self.new.steps ≡ self.old.steps ++ step ∷ []) }
@@ -231,7 +231,7 @@ impl Search {
     }
 
     /// The steps that were accepted, the first one first. They are at most
-    /// [`ba_model::MAX_BUDGET`], and leave these
+    /// [`ba_model::MAX_STEPS`], and leave these
     /// branches.
     pub fn steps(&self) -> &List<Step>
         ensures is { result.now ≡ self.now.steps }

@@ -10,7 +10,7 @@ use Rattle.serde_json.specs.Read.{read}
 use Rattle.ba_lex.specs.Tokens.{lexemes_of, tokens_of}
 use Rattle.ba_model.specs.Fit.{IsQuery, kinds_of}
 use Rattle.ba_model.specs.Readings.{◌>>=◌, each, widened}
-use Rattle.ba_model.specs.declared.limits.TheConstants.{MAX_QUERY_BYTES}
+use Rattle.ba_model.specs.Limits.{most_query_bytes}
 use Rattle.ba_model.specs.declared.policy.Parameter.{Parameter}
 use Rattle.ba_model.specs.declared.policy.Policy.{Policy}
 use Rattle.ba_model.specs.declared.query.Query.{Query}
@@ -69,7 +69,7 @@ selects_are schema params text q e =
 text_is : (schema : Schema) (params : List Parameter) (text : List ℕ) (q : Query) → query_of schema params text ≡ Ok q → IsQuery schema (kinds_of params) [] q
 unfolding query_of query_of_words
 text_is schema params text q e =
-    let tokens = bound (widened lex_fault (tokens_of MAX_QUERY_BYTES text)) (λ it. query_of_words schema params (lexemes_of it)) q e in
+    let tokens = bound (widened lex_fault (tokens_of most_query_bytes text)) (λ it. query_of_words schema params (lexemes_of it)) q e in
     let written = bound (widened syntax_fault (written_of (lexemes_of tokens.0))) (query_of_written schema params) q tokens.2 in
     selects_are schema params written.0 q written.2
 

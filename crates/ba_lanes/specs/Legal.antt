@@ -10,7 +10,7 @@ use Rattle.ba_kernel.specs.Courses.{RuleFits}
 use Rattle.ba_model.specs.Conform.{Conforms, RowFits}
 use Rattle.ba_model.specs.Fit.{PolicyFits}
 use Rattle.ba_model.specs.SchemaFaults.{AreTables}
-use Rattle.ba_model.specs.declared.limits.TheConstants.{MAX_BUDGET, MAX_WORKERS}
+use Rattle.ba_model.specs.Limits.{most_budget, most_workers, shard_count}
 use Rattle.ba_model.specs.declared.policy.Context.{Context}
 use Rattle.ba_model.specs.declared.schema.Table.{Table}
 use Rattle.ba_model.specs.declared.value.Value.{Value}
@@ -82,8 +82,8 @@ pub record IsInput (input : Input) : Type 0 where
   pub script : IsScript input.policy.params input.script
   pub sets : All (IsSetOf input.policy.schema) input.published
   pub one_each : length input.published ≡ published input.script.entries
-  pub workers : (0 < input.workers) × (input.workers ≤ MAX_WORKERS)
-  pub budget : input.budget ≤ MAX_BUDGET
+  pub workers : (0 < input.workers) × (input.workers ≤ most_workers)
+  pub budget : input.budget ≤ most_budget
   pub tables_are : AreTables input.policy.schema.tables
   pub rules : All (RuleFits input.policy.schema) input.policy.schema.rules
 
@@ -220,8 +220,8 @@ pub record HasShelf (input : Input) (served : List LineDone) (k : ℕ) (it : Clo
   pub legal : ∥ shelves.Legal (shelf.calls_of it.0) (shelf.rows_of it.0) ∥₁
 
 pub record HasShelves (input : Input) (served : List LineDone) (histories : Closed) : Type 0 where
-  pub eight : length histories.shelves.items ≡ 8
-  pub each : (k : ℕ) (d : ClosedShelf) → k < 8 → HasShelf input served k (slice_index_or histories.shelves.items k d)
+  pub eight : length histories.shelves.items ≡ shard_count
+  pub each : (k : ℕ) (d : ClosedShelf) → k < shard_count → HasShelf input served k (slice_index_or histories.shelves.items k d)
 
 -- One entry for each line of the script, in order, and the calls of these lines are the histories of the versions and of the shelves, each lane's in the order of its
 -- lines, with the number of its pass. A request begins over the version that was the last one, with an empty trace, and each of its questions has the reply of the request as it then stands, under the input's budget.

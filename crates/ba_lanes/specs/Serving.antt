@@ -3,6 +3,7 @@ use Rattle.std.specs.Prelude.{◌≡◌, ◌⊎◌, ℕ, ◌+◌, ◌*◌, ◌%�
 use Rattle.std.specs.List.{flat_map}
 use Rattle.ba_cache.specs.Passes.{known_on}
 use Rattle.ba_model.specs.Fit.{ContextFits, kinds_of}
+use Rattle.ba_model.specs.Limits.{shard_count}
 use Rattle.ba_model.specs.declared.policy.Context.{Context}
 use Rattle.ba_script.specs.declared.entry.ScriptEntry.{ScriptEntry}
 use Rattle.ba_script.specs.declared.entry.ScriptEntry.TheVariants as said
@@ -53,7 +54,7 @@ pub record CanServe (lines : List ScriptEntry) (p : Passes) : Type 0 where
 -- the calls of lines take the passes from old to new
 pub record MakesAll (served : List LineDone) (old new : Passes) : Type 0 where
   pub versions : MakesCalls (known_by old.versions) (known_by new.versions) (flat_map (λ it. it.made.versions) served)
-  pub shelves : (k : ℕ) → k < 8 → MakesCalls (known_on old.cache k) (known_on new.cache k) (flat_map (λ it. calls_on k it.made.shelves) served)
+  pub shelves : (k : ℕ) → k < shard_count → MakesCalls (known_on old.cache k) (known_on new.cache k) (flat_map (λ it. calls_on k it.made.shelves) served)
 
 -- ---- requests
 
@@ -173,7 +174,7 @@ pub record IsUnused {S E : Type 0} (k : ℕ) (v : Known S E) : Type 0 where
 -- the passes of the lane k, before its first line
 pub record AreUnused (k : ℕ) (p : Passes) : Type 0 where
   pub versions : IsUnused k (known_by p.versions)
-  pub shelves : (i : ℕ) → i < 8 → IsUnused k (known_on p.cache i)
+  pub shelves : (i : ℕ) → i < shard_count → IsUnused k (known_on p.cache i)
 
 -- the lane k has what its lines may take, and has served none
 pub record IsReady (input : Input) (service : Service) (k : ℕ) (lane : Lane) : Type 0 where
@@ -196,7 +197,7 @@ pub record HasDone (input : Input) (service : Service) (k : ℕ) (served : List 
   pub lines_are : AreServed input [] (lines_in input k input.script.entries) served
   pub of : AreOf service lane.passes
   pub versions : HasMade k (versions_made served) (known_by lane.passes.versions)
-  pub shelves : (i : ℕ) → i < 8 → HasMade k (made_on i served) (known_on lane.passes.cache i)
+  pub shelves : (i : ℕ) → i < shard_count → HasMade k (made_on i served) (known_on lane.passes.cache i)
 
 -- the lane k has served its lines
 pub record IsDone (input : Input) (service : Service) (k : ℕ) (lane : Lane) : Type 0 where
@@ -212,19 +213,19 @@ pub record IsShare (lines : List ScriptEntry) (share : Share) : Type 0 where
 -- the passes that the service was made with, once they have split off those of so many lanes
 pub record HaveSplit (splits : ℕ) (p : Passes) : Type 0 where
   pub versions : HasSplit splits (known_by p.versions)
-  pub shelves : (i : ℕ) → i < 8 → HasSplit splits (known_on p.cache i)
+  pub shelves : (i : ℕ) → i < shard_count → HasSplit splits (known_on p.cache i)
 
 -- of the allowances for all lines, what is left once the first lanes, so many, have theirs
 pub record HasLeft (input : Input) (lanes : ℕ) (p : Passes) : Type 0 where
   pub versions : total (λ k. version_calls (lines_in input k input.script.entries)) lanes + (known_by p.versions).left ≡ version_calls input.script.entries
-  pub shelves : (i : ℕ) → i < 8 → total (λ k. shelf_calls (lines_in input k input.script.entries)) lanes + (known_on p.cache i).left ≡ shelf_calls input.script.entries
+  pub shelves : (i : ℕ) → i < shard_count → total (λ k. shelf_calls (lines_in input k input.script.entries)) lanes + (known_on p.cache i).left ≡ shelf_calls input.script.entries
 
 -- where these passes have joined what they split off, what is left and what was called sum to each allowance
 pub record SumUp (p : Passes) : Type 0 where
   pub versions : SumsToAllowance (known_by p.versions)
-  pub shelves : (i : ℕ) → i < 8 → SumsToAllowance (known_on p.cache i)
+  pub shelves : (i : ℕ) → i < shard_count → SumsToAllowance (known_on p.cache i)
 
 -- The passes of the service as it was made, once they have split off those of so many lanes, and have joined those of the first lanes, so many, which did this.
 pub record HaveJoined (splits joined : ℕ) (done : ℕ → List LineDone) (p : Passes) : Type 0 where
   pub versions : HasJoined splits joined (λ k. versions_made (done k)) (known_by p.versions)
-  pub shelves : (i : ℕ) → i < 8 → HasJoined splits joined (λ k. made_on i (done k)) (known_on p.cache i)
+  pub shelves : (i : ℕ) → i < shard_count → HasJoined splits joined (λ k. made_on i (done k)) (known_on p.cache i)

@@ -1,6 +1,6 @@
 //! Which lines each lane carries, and what they take.
 ghost use Rattle.std.specs.Prelude.{◌≡◌, ◌+◌, ◌*◌, ◌<◌, ◌≤◌, length, cond};
-ghost use Rattle.ba_model.specs.declared.limits.TheConstants.{MAX_LINES};
+ghost use Rattle.ba_model.specs.Limits.{most_lines};
 ghost use Rattle.ba_lanes.specs.Legal.{contexts_of, lane_of};
 ghost use Rattle.ba_lanes.specs.Lanes.{lines_of};
 ghost use Rattle.ba_lanes.specs.Serving.{IsShare, calls_versions, is_ask};
@@ -52,7 +52,7 @@ fn is_ask(said: &ScriptEntry) -> bool
 impl Share {
     /// One line more: a question may look and admit.
     fn add(&mut self, said: &ScriptEntry)
-        requires lines { self.old.lines < MAX_LINES }
+        requires lines { self.old.lines < most_lines }
         requires calls { (self.old.calls ≤ self.old.lines) × (self.old.looks ≤ 2 * self.old.lines) }
         ensures lines { self.new.lines ≡ self.old.lines + 1 }
         ensures calls { self.new.calls ≡ self.old.calls + cond (calls_versions said.now) 1 0 }
@@ -70,7 +70,7 @@ impl Share {
     /// What the lane of that number takes, of so many.
     pub(crate) fn of(script: &Script, workers: u32, number: u32) -> Share
         requires some { 0 < workers }
-        requires few { length script.now.entries ≤ MAX_LINES }
+        requires few { length script.now.entries ≤ most_lines }
         ensures { IsShare (lines_of (lane_of workers) number script.now.entries) result }
     {
         let mut share = Share {
@@ -88,7 +88,7 @@ impl Share {
 
     /// What all lines take.
     pub(crate) fn whole(script: &Script) -> Share
-        requires few { length script.now.entries ≤ MAX_LINES }
+        requires few { length script.now.entries ≤ most_lines }
         ensures { IsShare script.now.entries result }
     {
         let mut share = Share {
@@ -105,7 +105,7 @@ impl Share {
 
 /// How many requests begin.
 pub(crate) fn requests_in(script: &Script) -> usize
-    requires few { length script.now.entries ≤ MAX_LINES }
+    requires few { length script.now.entries ≤ most_lines }
     ensures { result ≡ length (contexts_of script.now.entries) }
 {
     let mut count = 0;

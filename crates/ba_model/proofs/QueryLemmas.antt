@@ -9,7 +9,7 @@ use Rattle.ba_model.specs.Fit.{AtomFits, IsQuery, OpFits, PartFits, PartWithin, 
 use Rattle.ba_model.specs.OrderLaws.{value_decides}
 use Rattle.ba_model.specs.QueryFaults as faults
 use Rattle.ba_model.specs.QueryFaults.{HasNoFault}
-use Rattle.ba_model.specs.declared.limits.TheConstants.{MAX_ATOMS, MAX_HEAD, MAX_PARTS, MAX_PART_TABLES}
+use Rattle.ba_model.specs.Limits.{most_atoms, most_head, most_part_tables, most_parts}
 use Rattle.ba_model.specs.declared.query.Atom.{Atom}
 use Rattle.ba_model.specs.declared.query.Op.{Op}
 use Rattle.ba_model.specs.declared.query.Op.TheVariants.{Eq, Ne, Lt, Le, IsNull, NotNull}
@@ -286,11 +286,11 @@ module _ (s : Schema) (params vars : List Kind) where
 
   part_within_is : (part : Part) → faults.part_within part ≡ true → PartWithin part
   part_within_is part e =
-      let rest = and_right (nat_le (length part.from) MAX_PART_TABLES) _ e in
+      let rest = and_right (nat_le (length part.from) most_part_tables) _ e in
       record {
-        tables = le_from (length part.from) MAX_PART_TABLES (and_left (nat_le (length part.from) MAX_PART_TABLES) _ e);
-        conds = le_from (length part.conds) MAX_ATOMS (and_left (nat_le (length part.conds) MAX_ATOMS) _ rest);
-        head = le_from (length part.head) MAX_HEAD (and_right (nat_le (length part.conds) MAX_ATOMS) _ rest);
+        tables = le_from (length part.from) most_part_tables (and_left (nat_le (length part.from) most_part_tables) _ e);
+        conds = le_from (length part.conds) most_atoms (and_left (nat_le (length part.conds) most_atoms) _ rest);
+        head = le_from (length part.head) most_head (and_right (nat_le (length part.conds) most_atoms) _ rest);
       }
 
   some_fits : (parts : List Part) → HasNoFault s params vars parts → IsQuery s params vars (record { parts = parts })
@@ -308,8 +308,8 @@ module _ (s : Schema) (params vars : List Kind) where
           some_part = λ e. cc;
           parts = all_parts own.0 p whole own.1 (and_left (list_all (faults.parts_match s params vars p) whole) _ heads) (h BadTable) (h BadColumn) (h KindDiffers) (h OrderOnText) (h UnknownParam);
         };
-        few_parts = le_from (length whole) MAX_PARTS (and_left (nat_le (length whole) MAX_PARTS) _ (h TooMany));
-        within = all_from faults.part_within PartWithin whole part_within_is (and_right (nat_le (length whole) MAX_PARTS) _ (h TooMany));
+        few_parts = le_from (length whole) most_parts (and_left (nat_le (length whole) most_parts) _ (h TooMany));
+        within = all_from faults.part_within PartWithin whole part_within_is (and_right (nat_le (length whole) most_parts) _ (h TooMany));
       }
 
   -- ---- and back
@@ -389,9 +389,9 @@ module _ (s : Schema) (params vars : List Kind) where
       (λ part f. and_both (list_all (faults.atom_named params vars) part.conds) _ (all_to (faults.atom_named params vars) (AtomFits s params vars part.from) part.conds (atom_named_fit part.from) f.conds) (head_fit (faults.named params vars) part.from part.head (h.fits).kinds (name_known part.from) f.head))
       (h.fits).parts
   no_fault q h TooMany =
-      and_both (nat_le (length q.parts) MAX_PARTS) _ (le_to (length q.parts) MAX_PARTS h.few_parts)
+      and_both (nat_le (length q.parts) most_parts) _ (le_to (length q.parts) most_parts h.few_parts)
       (all_to faults.part_within PartWithin q.parts
-      (λ part w. and_both (nat_le (length part.from) MAX_PART_TABLES) _ (le_to _ _ w.tables) (and_both (nat_le (length part.conds) MAX_ATOMS) _ (le_to _ _ w.conds) (le_to _ _ w.head)))
+      (λ part w. and_both (nat_le (length part.from) most_part_tables) _ (le_to _ _ w.tables) (and_both (nat_le (length part.conds) most_atoms) _ (le_to _ _ w.conds) (le_to _ _ w.head)))
       h.within)
 
 -- a draft without a fault is a query

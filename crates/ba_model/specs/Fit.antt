@@ -2,7 +2,7 @@
 use Rattle.std.specs.Prelude.{◌≡◌, ◌≢◌, ℕ, ◌≤◌, ◌++◌, length, List, [], All, Option, Some, None, map, slice_get, option_and_then, option_map}
 use Rattle.std.specs.List.{AllZip}
 use Rattle.ba_model.specs.Conform.{IsOfKind}
-use Rattle.ba_model.specs.declared.limits.TheConstants.{MAX_ATOMS, MAX_HEAD, MAX_PARTS, MAX_PART_TABLES}
+use Rattle.ba_model.specs.Limits.{most_atoms, most_head, most_part_tables, most_parts}
 use Rattle.ba_model.specs.declared.policy.CacheKey.{CacheKey}
 use Rattle.ba_model.specs.declared.policy.Context.{Context}
 use Rattle.ba_model.specs.declared.policy.Parameter.{Parameter}
@@ -78,14 +78,14 @@ ContextFits params c = AllZip IsOfKind params c.values
 
 -- the part's counts are within the limits
 pub record PartWithin (part : Part) : Type 0 where
-  pub tables : length part.from ≤ MAX_PART_TABLES
-  pub conds : length part.conds ≤ MAX_ATOMS
-  pub head : length part.head ≤ MAX_HEAD
+  pub tables : length part.from ≤ most_part_tables
+  pub conds : length part.conds ≤ most_atoms
+  pub head : length part.head ≤ most_head
 
 -- a query for a schema, parameters and variables of these kinds: it fits them, and its counts are within the limits
 pub record IsQuery (s : Schema) (params vars : List Kind) (q : Query) : Type 0 where
   pub fits : QueryFits s params vars q
-  pub few_parts : length q.parts ≤ MAX_PARTS
+  pub few_parts : length q.parts ≤ most_parts
   pub within : All PartWithin q.parts
 
 -- the queries behind a cache key are queries for the policy's schema and its parameters followed by the key's arguments, without variables

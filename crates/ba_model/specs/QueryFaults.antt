@@ -4,7 +4,7 @@ use Rattle.std.specs.List.{list_all}
 use Rattle.ba_model.specs.Fit.{IsQuery, kind_of}
 use Rattle.ba_model.specs.Order.{value_cmp}
 use Rattle.std.specs.Ordering.{eq_by_cmp}
-use Rattle.ba_model.specs.declared.limits.TheConstants.{MAX_ATOMS, MAX_HEAD, MAX_PARTS, MAX_PART_TABLES}
+use Rattle.ba_model.specs.Limits.{most_atoms, most_head, most_part_tables, most_parts}
 use Rattle.ba_model.specs.declared.query.Atom.{Atom}
 use Rattle.ba_model.specs.declared.query.Op.{Op}
 use Rattle.ba_model.specs.declared.query.Op.TheVariants.{Eq, Ne, Lt, Le, IsNull, NotNull}
@@ -139,10 +139,10 @@ all_named params vars part = list_all (atom_named params vars) part.conds && lis
 -- ---- TooMany: a count is above its limit
 
 abbrev pub part_within : Part → Bool
-part_within part = nat_le (length part.from) MAX_PART_TABLES && (nat_le (length part.conds) MAX_ATOMS && nat_le (length part.head) MAX_HEAD)
+part_within part = nat_le (length part.from) most_part_tables && (nat_le (length part.conds) most_atoms && nat_le (length part.head) most_head)
 
 abbrev pub within : List Part → Bool
-within parts = nat_le (length parts) MAX_PARTS && list_all part_within parts
+within parts = nat_le (length parts) most_parts && list_all part_within parts
 
 -- ---- the order
 

@@ -2,13 +2,12 @@
 use Rattle.std.specs.Prelude.{◌≡◌, ℕ, ◌<◌, Bool, true, not, ◌&&◌, ◌==◌, nat_eq, nat_lt, All, List, [], ◌∷◌, Option, Some, None, is_some, if◌then◌else◌, length, map, option_map, slice_get}
 use Rattle.std.specs.Cmp.Lexicographic.{pointwise}
 use Rattle.std.specs.List.{IsDistinct, list_all}
-use Rattle.ba_model.specs.Limits.{limit_of}
+use Rattle.ba_model.specs.Limits.{limit_of, most_columns, most_keys, most_links, most_tables}
 use Rattle.ba_model.specs.QueryFaults.{agree, is_empty}
 use Rattle.ba_model.specs.declared.limits.Counted.{Counted}
 use Rattle.ba_model.specs.declared.limits.Counted.TheVariants.{Tables, Columns, Keys, Links}
 use Rattle.ba_model.specs.declared.check_schema.SchemaFault.{SchemaFault}
 use Rattle.ba_model.specs.declared.check_schema.SchemaFault.TheVariants.{DuplicateTable, DuplicateColumn, UnknownTable, UnknownColumn, WidthDiffers, KindDiffers, EmptyKey, TooMany}
-use Rattle.ba_model.specs.declared.limits.TheConstants.{MAX_COLUMNS, MAX_KEYS, MAX_LINKS, MAX_TABLES}
 use Rattle.ba_model.specs.declared.schema.Column.{Column}
 use Rattle.ba_model.specs.declared.schema.Kind.{Kind}
 use Rattle.ba_model.specs.declared.schema.Link.{Link}
@@ -83,9 +82,9 @@ some_columns table = list_all (λ key. not (is_empty key)) table.keys && list_al
 
 abbrev pub table_excess : Table → Option Counted
 table_excess table =
-    if nat_lt MAX_COLUMNS (length table.columns) then Some Columns
-    else if nat_lt MAX_KEYS (length table.keys) then Some Keys
-    else if nat_lt MAX_LINKS (length table.links) then Some Links else None
+    if nat_lt most_columns (length table.columns) then Some Columns
+    else if nat_lt most_keys (length table.keys) then Some Keys
+    else if nat_lt most_links (length table.links) then Some Links else None
 
 abbrev pub or_else : Option Counted → Option Counted → Option Counted
 or_else None o = o
@@ -96,7 +95,7 @@ tables_excess [] = None
 tables_excess (table ∷ tables) = or_else (table_excess table) (tables_excess tables)
 
 abbrev pub excess : List Table → Option Counted
-excess tables = if nat_lt MAX_TABLES (length tables) then Some Tables else tables_excess tables
+excess tables = if nat_lt most_tables (length tables) then Some Tables else tables_excess tables
 
 -- ---- the order
 

@@ -32,8 +32,14 @@ pub const MAX_HEAD: usize = 256;
 /// Views of a policy.
 pub const MAX_VIEWS: usize = 128;
 
-/// Parameters of a policy.
+/// Parameters of a policy, with the arguments of one cache key.
 pub const MAX_PARAMS: usize = 16;
+
+/// Cache keys of a policy.
+pub const MAX_CACHE_KEYS: usize = 128;
+
+/// Queries behind a cache key.
+pub const MAX_KEY_QUERIES: usize = 8;
 
 /// Rows of a table.
 pub const MAX_ROWS: u64 = 100_000;
@@ -80,6 +86,27 @@ pub const MAX_BUDGET: u64 = 100_000;
 /// The budget where the words don't say.
 pub const BUDGET: u32 = 2000;
 
+/// Steps of a proof.
+pub const MAX_STEPS: u64 = 100_000;
+
+/// Entries of a template.
+pub const MAX_KEPT_ENTRIES: usize = 8;
+
+/// Variables of a template and parameters of its policy, taken together.
+pub const MAX_OPERANDS: usize = 64;
+
+/// The shelves of templates, each with the shapes of one remainder.
+pub const SHARDS: u32 = 8;
+
+/// Shapes of a shelf.
+pub const MAX_SHAPES: usize = 128;
+
+/// Templates of a shape.
+pub const MAX_ALIKE: usize = 8;
+
+/// Templates of a file.
+pub const MAX_TEMPLATES: u64 = 8192;
+
 /// What is counted in a file, and refused above its limit.
 #[derive(Clone, Copy, Debug, PartialEq, Eq)]
 pub enum Counted {
@@ -95,10 +122,16 @@ pub enum Counted {
     Keys,
     /// The links of a table.
     Links,
+    /// The inclusion rules of a schema.
+    Rules,
     /// The views of a policy.
     Views,
-    /// The parameters of a policy.
+    /// The parameters of a policy, with the arguments of one cache key.
     Params,
+    /// The cache keys of a policy.
+    CacheKeys,
+    /// The queries behind a cache key.
+    KeyQueries,
     /// The rows of a table.
     Rows,
     /// The lines of a script.
@@ -107,6 +140,10 @@ pub enum Counted {
     Requests,
     /// The questions of a request.
     Asks,
+    /// The steps of a proof.
+    Steps,
+    /// The templates of a file.
+    Templates,
 }
 
 impl Counted {
@@ -121,12 +158,17 @@ impl Counted {
             Counted::Columns => MAX_COLUMNS as u64,
             Counted::Keys => MAX_KEYS as u64,
             Counted::Links => MAX_LINKS as u64,
+            Counted::Rules => MAX_RULES as u64,
             Counted::Views => MAX_VIEWS as u64,
             Counted::Params => MAX_PARAMS as u64,
+            Counted::CacheKeys => MAX_CACHE_KEYS as u64,
+            Counted::KeyQueries => MAX_KEY_QUERIES as u64,
             Counted::Rows => MAX_ROWS,
             Counted::Lines => MAX_LINES as u64,
             Counted::Requests => MAX_REQUESTS as u64,
             Counted::Asks => MAX_ASKS as u64,
+            Counted::Steps => MAX_STEPS,
+            Counted::Templates => MAX_TEMPLATES,
         }
     }
 }

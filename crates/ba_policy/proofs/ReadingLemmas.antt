@@ -5,7 +5,7 @@ use Rattle.ba_grammar.specs.declared.error.Syntax.{Syntax as OfGrammar}
 use Rattle.ba_lex.specs.Tokens.{file_tokens_of, lexemes_of}
 use Rattle.ba_lex.specs.declared.token.LexFault.{LexFault}
 use Rattle.ba_lex.specs.declared.token.Token.{Token}
-use Rattle.ba_model.specs.declared.limits.TheConstants.{MAX_PARAMS, MAX_TEXT_BYTES, MAX_VIEWS}
+use Rattle.ba_model.specs.Limits.{most_params, most_text_bytes, most_views}
 use Rattle.ba_model.specs.declared.policy.Policy.{Policy}
 use Rattle.ba_model.specs.declared.schema.Schema.{Schema}
 use Rattle.ba_policy.specs.Laws.{Exceeds, HasNoForm, HasStatementFault, HasTooMany, IsOfStatement, IsWrittenPolicy, ReadsPolicy}
@@ -24,16 +24,16 @@ use Rattle.ba_policy.proofs.StatementLemmas.{statements_complete, statements_sou
 -- ---- counts
 
 data Finish (schema : Schema) (d : Draft) : Type 0 where
-  fine : length d.views ≤ MAX_VIEWS → length d.params ≤ MAX_PARAMS → finished schema d ≡ Ok (policy schema d) → Finish schema d
+  fine : length d.views ≤ most_views → length d.params ≤ most_params → finished schema d ≡ Ok (policy schema d) → Finish schema d
   many : (what : Counted) (limit : ℕ) → Exceeds (length d.views) (length d.params) what limit → finished schema d ≡ Err (TooMany what limit) → Finish schema d
 
 finish : (schema : Schema) (d : Draft) → Finish schema d
-finish schema d = at (nat_lt MAX_VIEWS (length d.views)) (nat_lt MAX_PARAMS (length d.params)) refl refl
+finish schema d = at (nat_lt most_views (length d.views)) (nat_lt most_params (length d.params)) refl refl
   where
-    at : (a b : Bool) → nat_lt MAX_VIEWS (length d.views) ≡ a → nat_lt MAX_PARAMS (length d.params) ≡ b → Finish schema d
-    at true b ha hb = many Views MAX_VIEWS (ltb-true MAX_VIEWS (length d.views) ha, refl) (rw ha refl)
-    at false true ha hb = many Params MAX_PARAMS (ltb-false MAX_VIEWS (length d.views) ha, ltb-true MAX_PARAMS (length d.params) hb, refl) (rw (ha, hb) refl)
-    at false false ha hb = fine (ltb-false MAX_VIEWS (length d.views) ha) (ltb-false MAX_PARAMS (length d.params) hb) (rw (ha, hb) refl)
+    at : (a b : Bool) → nat_lt most_views (length d.views) ≡ a → nat_lt most_params (length d.params) ≡ b → Finish schema d
+    at true b ha hb = many Views most_views (ltb-true most_views (length d.views) ha, refl) (rw ha refl)
+    at false true ha hb = many Params most_params (ltb-false most_views (length d.views) ha, ltb-true most_params (length d.params) hb, refl) (rw (ha, hb) refl)
+    at false false ha hb = fine (ltb-false most_views (length d.views) ha) (ltb-false most_params (length d.params) hb) (rw (ha, hb) refl)
 
 above_within : (m n : ℕ) → m < n → n ≤ m → ⊥
 above_within m n lt le = omega arith
@@ -45,26 +45,26 @@ not_above m n le = at (nat_lt m n) refl
     at false h = h
     at true h = absurd (above_within m n (ltb-true m n h) le)
 
-within : (schema : Schema) (d : Draft) → length d.views ≤ MAX_VIEWS → length d.params ≤ MAX_PARAMS → finished schema d ≡ Ok (policy schema d)
-within schema d vs ps = rw (not_above MAX_VIEWS (length d.views) vs, not_above MAX_PARAMS (length d.params) ps) refl
+within : (schema : Schema) (d : Draft) → length d.views ≤ most_views → length d.params ≤ most_params → finished schema d ≡ Ok (policy schema d)
+within schema d vs ps = rw (not_above most_views (length d.views) vs, not_above most_params (length d.params) ps) refl
 
 above : (schema : Schema) (d : Draft) (what : Counted) (limit : ℕ) → Exceeds (length d.views) (length d.params) what limit → finished schema d ≡ Err (TooMany what limit)
-above schema d Views limit h = rw (lt-ltb MAX_VIEWS (length d.views) h.0) (ap (λ (n : ℕ). Err (TooMany Views n)) (sym h.1))
-above schema d Params limit h = rw (not_above MAX_VIEWS (length d.views) h.0, lt-ltb MAX_PARAMS (length d.params) h.1) (ap (λ (n : ℕ). Err (TooMany Params n)) (sym h.2))
+above schema d Views limit h = rw (lt-ltb most_views (length d.views) h.0) (ap (λ (n : ℕ). Err (TooMany Views n)) (sym h.1))
+above schema d Params limit h = rw (not_above most_views (length d.views) h.0, lt-ltb most_params (length d.params) h.1) (ap (λ (n : ℕ). Err (TooMany Params n)) (sym h.2))
 above schema d _ limit h = absurd h
 
 -- ---- what the file gives, case by case
 
 record Written (bytes : List ℕ) (ss : List StatementText) : Type 0 where
   tokens : List Token
-  read : file_tokens_of MAX_TEXT_BYTES bytes ≡ Ok tokens
+  read : file_tokens_of most_text_bytes bytes ≡ Ok tokens
   parsed : statements_at (lexemes_of tokens) ≡ Ok ss
 
-gives_lex : (schema : Schema) (bytes : List ℕ) (f : LexFault) → file_tokens_of MAX_TEXT_BYTES bytes ≡ Err f → policy_of schema bytes ≡ Err (Lex f)
+gives_lex : (schema : Schema) (bytes : List ℕ) (f : LexFault) → file_tokens_of most_text_bytes bytes ≡ Err f → policy_of schema bytes ≡ Err (Lex f)
 unfolding policy_of
 gives_lex schema bytes f e = rw e refl
 
-gives_syntax : (schema : Schema) (bytes : List ℕ) (tokens : List Token) (s : OfGrammar) → file_tokens_of MAX_TEXT_BYTES bytes ≡ Ok tokens → statements_at (lexemes_of tokens) ≡ Err s → policy_of schema bytes ≡ Err Syntax
+gives_syntax : (schema : Schema) (bytes : List ℕ) (tokens : List Token) (s : OfGrammar) → file_tokens_of most_text_bytes bytes ≡ Ok tokens → statements_at (lexemes_of tokens) ≡ Err s → policy_of schema bytes ≡ Err Syntax
 unfolding policy_of
 gives_syntax schema bytes tokens s r e = rw (r, e) refl
 
@@ -77,14 +77,14 @@ unfolding policy_of policy_of_statements
 gives_finished schema bytes ss d w e = rw (w.read, w.parsed, e) refl
 
 data Outcome (schema : Schema) (bytes : List ℕ) : Type 0 where
-  lex : (f : LexFault) → file_tokens_of MAX_TEXT_BYTES bytes ≡ Err f → policy_of schema bytes ≡ Err (Lex f) → Outcome schema bytes
-  syntax : (tokens : List Token) (s : OfGrammar) → file_tokens_of MAX_TEXT_BYTES bytes ≡ Ok tokens → statements_at (lexemes_of tokens) ≡ Err s → policy_of schema bytes ≡ Err Syntax → Outcome schema bytes
+  lex : (f : LexFault) → file_tokens_of most_text_bytes bytes ≡ Err f → policy_of schema bytes ≡ Err (Lex f) → Outcome schema bytes
+  syntax : (tokens : List Token) (s : OfGrammar) → file_tokens_of most_text_bytes bytes ≡ Ok tokens → statements_at (lexemes_of tokens) ≡ Err s → policy_of schema bytes ≡ Err Syntax → Outcome schema bytes
   fault : (ss : List StatementText) (f : PolicyFault) → Written bytes ss → all_added schema nothing ss ≡ Err f → IsOfStatement f → policy_of schema bytes ≡ Err f → Outcome schema bytes
   many : (ss : List StatementText) (d : Draft) (what : Counted) (limit : ℕ) → Written bytes ss → all_added schema nothing ss ≡ Ok d → Exceeds (length d.views) (length d.params) what limit → policy_of schema bytes ≡ Err (TooMany what limit) → Outcome schema bytes
-  right : (ss : List StatementText) (d : Draft) → Written bytes ss → all_added schema nothing ss ≡ Ok d → length d.views ≤ MAX_VIEWS → length d.params ≤ MAX_PARAMS → policy_of schema bytes ≡ Ok (policy schema d) → Outcome schema bytes
+  right : (ss : List StatementText) (d : Draft) → Written bytes ss → all_added schema nothing ss ≡ Ok d → length d.views ≤ most_views → length d.params ≤ most_params → policy_of schema bytes ≡ Ok (policy schema d) → Outcome schema bytes
 
 outcome : (schema : Schema) (bytes : List ℕ) → Outcome schema bytes
-outcome schema bytes = of_tokens (file_tokens_of MAX_TEXT_BYTES bytes) refl
+outcome schema bytes = of_tokens (file_tokens_of most_text_bytes bytes) refl
   where
     of_finish : (ss : List StatementText) (d : Draft) → Written bytes ss → all_added schema nothing ss ≡ Ok d → Finish schema d → Outcome schema bytes
     of_finish ss d w e (fine vs ps h) = right ss d w e vs ps (gives_finished schema bytes ss d w e ∙ h)
@@ -96,11 +96,11 @@ outcome schema bytes = of_tokens (file_tokens_of MAX_TEXT_BYTES bytes) refl
         let stop = stops_sound schema nothing ss f e in
         fault ss f w e (of_statement schema stop.at stop.statement f stop.refused) (gives_fault schema bytes ss f w e)
 
-    of_statements : (tokens : List Token) → file_tokens_of MAX_TEXT_BYTES bytes ≡ Ok tokens → (r : Result (List StatementText) OfGrammar) → statements_at (lexemes_of tokens) ≡ r → Outcome schema bytes
+    of_statements : (tokens : List Token) → file_tokens_of most_text_bytes bytes ≡ Ok tokens → (r : Result (List StatementText) OfGrammar) → statements_at (lexemes_of tokens) ≡ r → Outcome schema bytes
     of_statements tokens r (Err s) e = syntax tokens s r e (gives_syntax schema bytes tokens s r e)
     of_statements tokens r (Ok ss) e = of_added ss (record { tokens = tokens; read = r; parsed = e }) (all_added schema nothing ss) refl
 
-    of_tokens : (r : Result (List Token) LexFault) → file_tokens_of MAX_TEXT_BYTES bytes ≡ r → Outcome schema bytes
+    of_tokens : (r : Result (List Token) LexFault) → file_tokens_of most_text_bytes bytes ≡ r → Outcome schema bytes
     of_tokens (Err f) e = lex f e (gives_lex schema bytes f e)
     of_tokens (Ok tokens) e = of_statements tokens e (statements_at (lexemes_of tokens)) refl
 
@@ -143,17 +143,17 @@ policy_complete schema bytes p h =
 pub one_policy : (schema : Schema) (bytes : List ℕ) (p q : Policy) → ReadsPolicy schema bytes p → ReadsPolicy schema bytes q → p ≡ q
 one_policy schema bytes p q a b = policies p q (sym (policy_complete schema bytes p a) ∙ policy_complete schema bytes q b)
 
-pub lex_sound : (schema : Schema) (bytes : List ℕ) (f : LexFault) → policy_of schema bytes ≡ Err (Lex f) → file_tokens_of MAX_TEXT_BYTES bytes ≡ Err f
+pub lex_sound : (schema : Schema) (bytes : List ℕ) (f : LexFault) → policy_of schema bytes ≡ Err (Lex f) → file_tokens_of most_text_bytes bytes ≡ Err f
 lex_sound schema bytes f e = of (outcome schema bytes)
   where
-    of : Outcome schema bytes → file_tokens_of MAX_TEXT_BYTES bytes ≡ Err f
+    of : Outcome schema bytes → file_tokens_of most_text_bytes bytes ≡ Err f
     of (lex x h g) = let both = sym g ∙ e in let same : x ≡ f = cc in h ∙ ap (λ (y : LexFault). Err y) same
     of (syntax tokens s r h g) = let wrong = sym g ∙ e in cc
     of (fault ss x w h is g) = absurd (subst IsOfStatement (same_fault x (Lex f) (sym g ∙ e)) is)
     of (many ss d what limit w h x g) = let wrong = sym g ∙ e in cc
     of (right ss d w h vs ps g) = let wrong = sym g ∙ e in cc
 
-pub lex_complete : (schema : Schema) (bytes : List ℕ) (f : LexFault) → file_tokens_of MAX_TEXT_BYTES bytes ≡ Err f → policy_of schema bytes ≡ Err (Lex f)
+pub lex_complete : (schema : Schema) (bytes : List ℕ) (f : LexFault) → file_tokens_of most_text_bytes bytes ≡ Err f → policy_of schema bytes ≡ Err (Lex f)
 lex_complete schema bytes f e = gives_lex schema bytes f e
 
 pub syntax_sound : (schema : Schema) (bytes : List ℕ) → policy_of schema bytes ≡ Err Syntax → HasNoForm bytes

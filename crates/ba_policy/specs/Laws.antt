@@ -5,7 +5,7 @@ use Rattle.ba_lex.specs.Tokens.{file_tokens_of, lexemes_of}
 use Rattle.ba_lex.specs.declared.token.LexFault.{LexFault}
 use Rattle.ba_lex.specs.declared.token.Lexeme.{Lexeme}
 use Rattle.ba_lex.specs.declared.token.Token.{Token}
-use Rattle.ba_model.specs.declared.limits.TheConstants.{MAX_PARAMS, MAX_TEXT_BYTES, MAX_VIEWS}
+use Rattle.ba_model.specs.Limits.{most_params, most_text_bytes, most_views}
 use Rattle.ba_model.specs.declared.policy.Parameter.{Parameter}
 use Rattle.ba_model.specs.declared.policy.Policy.{Policy}
 use Rattle.ba_model.specs.declared.policy.View.{View}
@@ -20,10 +20,10 @@ use Rattle.ba_policy.specs.declared.error.PolicyFault.{PolicyFault}
 use Rattle.ba_policy.specs.declared.error.PolicyFault.TheVariants.{Lex, Syntax, DuplicateParam, DuplicateView, View as ViewFault, TooMany}
 use Rattle.ba_sql_query.specs.Texts.{query_of_words}
 
--- the file has at most MAX_TEXT_BYTES bytes, and its tokens' words are these statements
+-- the file has at most most_text_bytes bytes, and its tokens' words are these statements
 pub record IsWrittenPolicy (bytes : List ℕ) (statements : List StatementText) : Type 0 where
   pub tokens : List Token
-  pub read : file_tokens_of MAX_TEXT_BYTES bytes ≡ Ok tokens
+  pub read : file_tokens_of most_text_bytes bytes ≡ Ok tokens
   pub written : AreStatements statements (lexemes_of tokens)
 
 -- the parameters that statements declare, in order
@@ -64,15 +64,15 @@ pub record ReadsPolicy (schema : Schema) (bytes : List ℕ) (policy : Policy) : 
   pub same : policy.schema ≡ schema
   pub no_keys : policy.keys ≡ []
   pub declared : Declare schema statements policy.params policy.views
-  pub few_views : length policy.views ≤ MAX_VIEWS
-  pub few_params : length policy.params ≤ MAX_PARAMS
+  pub few_views : length policy.views ≤ most_views
+  pub few_params : length policy.params ≤ most_params
 
 -- ---- faults
 
--- more than MAX_VIEWS views; or at most those, and more than MAX_PARAMS parameters
+-- more than most_views views; or at most those, and more than most_params parameters
 abbrev pub Exceeds : ℕ → ℕ → Counted → ℕ → Type 0
-Exceeds views params Views limit = (MAX_VIEWS < views) × (limit ≡ MAX_VIEWS)
-Exceeds views params Params limit = (views ≤ MAX_VIEWS) × (MAX_PARAMS < params) × (limit ≡ MAX_PARAMS)
+Exceeds views params Views limit = (most_views < views) × (limit ≡ most_views)
+Exceeds views params Params limit = (views ≤ most_views) × (most_params < params) × (limit ≡ most_params)
 Exceeds views params _ limit = ⊥
 
 -- a fault of one statement
@@ -87,7 +87,7 @@ IsOfStatement (TooMany what limit) = ⊥
 -- the tokens' words aren't statements
 pub record HasNoForm (bytes : List ℕ) : Type 0 where
   pub tokens : List Token
-  pub read : file_tokens_of MAX_TEXT_BYTES bytes ≡ Ok tokens
+  pub read : file_tokens_of most_text_bytes bytes ≡ Ok tokens
   pub none : (statements : List StatementText) → ¬ AreStatements statements (lexemes_of tokens)
 
 -- the statement has this fault where these parameters and views are declared before it
@@ -129,7 +129,7 @@ abbrev pub PolicyIsUnique : Type 0
 PolicyIsUnique = (schema : Schema) (bytes : List ℕ) (p q : Policy) → ReadsPolicy schema bytes p → ReadsPolicy schema bytes q → p ≡ q
 
 abbrev pub LexFaultReading : Type 0
-LexFaultReading = (schema : Schema) (bytes : List ℕ) (fault : LexFault) → (policy_of schema bytes ≡ Err (Lex fault)) ↔ (file_tokens_of MAX_TEXT_BYTES bytes ≡ Err fault)
+LexFaultReading = (schema : Schema) (bytes : List ℕ) (fault : LexFault) → (policy_of schema bytes ≡ Err (Lex fault)) ↔ (file_tokens_of most_text_bytes bytes ≡ Err fault)
 
 abbrev pub SyntaxReading : Type 0
 SyntaxReading = (schema : Schema) (bytes : List ℕ) → (policy_of schema bytes ≡ Err Syntax) ↔ HasNoForm bytes

@@ -5,7 +5,7 @@ use Rattle.std.specs.List.{list_any}
 use Rattle.ba_lex.specs.declared.token.Lexeme.{Lexeme}
 use Rattle.ba_model.specs.Fit.{IsQuery, kinds_of}
 use Rattle.ba_model.specs.Readings.{◌>>=◌}
-use Rattle.ba_model.specs.declared.limits.TheConstants.{MAX_PARAMS, MAX_VIEWS}
+use Rattle.ba_model.specs.Limits.{most_params, most_views}
 use Rattle.ba_model.specs.declared.policy.Parameter.{Parameter}
 use Rattle.ba_model.specs.declared.policy.Policy.{Policy}
 use Rattle.ba_model.specs.declared.query.Query.{Query}
@@ -54,11 +54,11 @@ abbrev pub all_added : Schema → Draft → List StatementText → Result Draft 
 all_added schema d [] = Ok d
 all_added schema d (s ∷ ss) = added schema d s >>= λ e. all_added schema e ss
 
--- more than MAX_VIEWS views, or else more than MAX_PARAMS parameters
+-- more than most_views views, or else more than most_params parameters
 abbrev pub excess : Draft → Option PolicyFault
 excess d =
-    if nat_lt MAX_VIEWS (length d.views) then Some (TooMany Views MAX_VIEWS)
-    else (if nat_lt MAX_PARAMS (length d.params) then Some (TooMany Params MAX_PARAMS) else None)
+    if nat_lt most_views (length d.views) then Some (TooMany Views most_views)
+    else (if nat_lt most_params (length d.params) then Some (TooMany Params most_params) else None)
 
 abbrev pub policy : Schema → Draft → Policy
 policy schema d = record { schema = schema; params = d.params; views = d.views; keys = [] }

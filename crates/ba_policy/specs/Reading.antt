@@ -4,7 +4,7 @@ use Rattle.ba_grammar.specs.declared.error.Syntax.{Syntax as OfGrammar}
 use Rattle.ba_lex.specs.Tokens.{file_tokens_of, lexemes_of}
 use Rattle.ba_lex.specs.declared.token.Lexeme.{Lexeme}
 use Rattle.ba_model.specs.Readings.{◌>>=◌, widened}
-use Rattle.ba_model.specs.declared.limits.TheConstants.{MAX_TEXT_BYTES}
+use Rattle.ba_model.specs.Limits.{most_text_bytes}
 use Rattle.ba_model.specs.declared.policy.Policy.{Policy}
 use Rattle.ba_model.specs.declared.schema.Schema.{Schema}
 use Rattle.ba_policy.specs.Meaning.{all_added, finished, nothing}
@@ -13,9 +13,9 @@ use Rattle.ba_policy.specs.Statements.{StatementText}
 use Rattle.ba_policy.specs.declared.error.PolicyFault.{PolicyFault}
 use Rattle.ba_policy.specs.declared.error.PolicyFault.TheVariants.{Lex, Syntax}
 
--- the words of a file of at most MAX_TEXT_BYTES bytes
+-- the words of a file of at most most_text_bytes bytes
 abbrev pub words_of : List ℕ → Result (List Lexeme) PolicyFault
-words_of bytes = widened Lex (file_tokens_of MAX_TEXT_BYTES bytes) >>= λ tokens. Ok (lexemes_of tokens)
+words_of bytes = widened Lex (file_tokens_of most_text_bytes bytes) >>= λ tokens. Ok (lexemes_of tokens)
 
 abbrev pub of_grammar : OfGrammar → PolicyFault
 of_grammar e = Syntax

@@ -2,7 +2,7 @@
 ghost use Rattle.std.specs.Prelude.{◌≡◌, ◌≤◌, [], IfOk, OnOk, length, map};
 ghost use Rattle.ba_model.specs.Fit.{PolicyFits};
 ghost use Rattle.ba_model.specs.Readings.{Gives, Sees};
-ghost use Rattle.ba_model.specs.declared.limits.TheConstants.{MAX_PARAMS, MAX_VIEWS};
+ghost use Rattle.ba_model.specs.Limits.{most_params, most_views};
 ghost use Rattle.ba_policy.specs.Meaning.{DraftFits, added, all_added, excess, finished, nothing, param_added, view_added};
 ghost use Rattle.ba_policy.specs.Statements.{seen};
 
@@ -141,8 +141,8 @@ pub fn finish(
     requires { DraftFits schema.now draft }
     ensures exact { Gives result (finished schema.now draft) }
     ensures fits { IfOk result PolicyFits }
-    ensures views { IfOk result (λ policy. length policy.views ≤ MAX_VIEWS) }
-    ensures params { IfOk result (λ policy. length policy.params ≤ MAX_PARAMS) }
+    ensures views { IfOk result (λ policy. length policy.views ≤ most_views) }
+    ensures params { IfOk result (λ policy. length policy.params ≤ most_params) }
 {
     if let Some(fault) = excess(&draft) {
         return Err(Failure::Fault(fault));

@@ -2,7 +2,7 @@
 ghost use Rattle.std.specs.Prelude.{◌≡◌, ◌≤◌, IfOk, length};
 ghost use Rattle.ba_model.specs.Fit.{PolicyFits};
 ghost use Rattle.ba_model.specs.Readings.{Gives};
-ghost use Rattle.ba_model.specs.declared.limits.TheConstants.{MAX_PARAMS, MAX_VIEWS};
+ghost use Rattle.ba_model.specs.Limits.{most_params, most_views};
 ghost use Rattle.ba_policy.specs.Meaning.{all_added, finished, nothing};
 ghost use Rattle.ba_policy.specs.Reading.{policy_of, policy_of_statements, words_of};
 
@@ -44,8 +44,8 @@ pub fn read_policy(
     ensures exact { Gives result (policy_of schema.now bytes.now) }
     ensures same { IfOk result (λ policy. policy.schema ≡ schema.now) }
     ensures fits { IfOk result PolicyFits }
-    ensures views { IfOk result (λ policy. length policy.views ≤ MAX_VIEWS) }
-    ensures params { IfOk result (λ policy. length policy.params ≤ MAX_PARAMS) }
+    ensures views { IfOk result (λ policy. length policy.views ≤ most_views) }
+    ensures params { IfOk result (λ policy. length policy.params ≤ most_params) }
 {
     let words = words_of(alloc, bytes)?;
     let statements = statements(alloc, words.as_slice()).map_err(Failure::widen)?;

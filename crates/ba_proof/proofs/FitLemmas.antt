@@ -9,7 +9,7 @@ use Rattle.serde_json.specs.Find.{as_object}
 use Rattle.ba_model.specs.Conform.{IsOfKind}
 use Rattle.ba_model.specs.Fit.{ContextFits, IsQuery, PartFits, kind_of, kinds_of}
 use Rattle.ba_model.specs.Readings.{◌>>=◌, each}
-use Rattle.ba_model.specs.declared.limits.TheConstants.{MAX_BUDGET}
+use Rattle.ba_model.specs.Limits.{most_steps}
 use Rattle.ba_model.specs.declared.policy.Context.{Context}
 use Rattle.ba_model.specs.declared.policy.Parameter.{Parameter}
 use Rattle.ba_model.specs.declared.policy.Policy.{Policy}
@@ -171,18 +171,18 @@ not_refused true f e = cc e
 not_refused false f e = refl
 
 -- there are no more steps than the limit
-pub few_steps : (params : List Parameter) (version : ℕ) (found : Option Data) (steps : List Step) → few_at found ≡ Ok tt → steps_at params version found ≡ Ok steps → length steps ≤ MAX_BUDGET
+pub few_steps : (params : List Parameter) (version : ℕ) (found : Option Data) (steps : List Step) → few_at found ≡ Ok tt → steps_at params version found ≡ Ok steps → length steps ≤ most_steps
 unfolding few_at steps_at
 few_steps params version None steps few e = cc e
 few_steps params version (Some d) steps few e = by (as_list d) few e
   where
     by : (o : Option (List Data)) → ◌≡◌ {A = Result ⊤ ProofFault} (cond (too_many o) (Err TooLong) (Ok tt)) (Ok tt) → (or_bad field.Steps o >>= each (step_at params version)) ≡ Ok steps
-        → length steps ≤ MAX_BUDGET
+        → length steps ≤ most_steps
     by None f e = cc e
     by (Some ds) f e =
         let same : length steps ≡ length ds = each_long (step_at params version) ds steps e in
-        let most : length ds ≤ MAX_BUDGET = ltb-false MAX_BUDGET (length ds) (not_refused (nat_lt MAX_BUDGET (length ds)) TooLong f) in
-        subst (λ n. n ≤ MAX_BUDGET) (sym same) most
+        let most : length ds ≤ most_steps = ltb-false most_steps (length ds) (not_refused (nat_lt most_steps (length ds)) TooLong f) in
+        subst (λ n. n ≤ most_steps) (sym same) most
 
 -- the same, where the policy was read in parts
 pub read_question_fits : (policy one two three : Policy) (params : List Parameter) (found : Option Data) (c : Context) (trace : List TraceEntry) (q goal : Query) → one ≡ policy → two ≡ policy → three ≡ policy

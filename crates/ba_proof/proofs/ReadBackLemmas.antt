@@ -11,7 +11,7 @@ use Rattle.serde_json.specs.Read.{max_depth, read}
 use Rattle.serde_json.specs.Written.{compact_text, has_float}
 use Rattle.ba_model.specs.Fit.{IsQuery, PartFits, kinds_of}
 use Rattle.ba_model.specs.Readings.{◌>>=◌, each}
-use Rattle.ba_model.specs.declared.limits.TheConstants.{MAX_BUDGET}
+use Rattle.ba_model.specs.Limits.{most_steps}
 use Rattle.ba_model.specs.declared.policy.Context.{Context}
 use Rattle.ba_model.specs.declared.policy.Parameter.{Parameter}
 use Rattle.ba_model.specs.declared.policy.Policy.{Policy}
@@ -148,15 +148,15 @@ length_map : {X Y : Type 0} (f : X → Y) (xs : List X) → length (map f xs) �
 length_map f [] = refl
 length_map f (x ∷ xs) = ap suc (length_map f xs)
 
-few_read : (ds : List Data) → length ds ≤ MAX_BUDGET → few_at (Some (list_json ds)) ≡ Ok tt
+few_read : (ds : List Data) → length ds ≤ most_steps → few_at (Some (list_json ds)) ≡ Ok tt
 unfolding few_at
-few_read ds h = let small : nat_lt MAX_BUDGET (length ds) ≡ false = not_more (length ds) h in rw (items_are ds, small) refl
+few_read ds h = let small : nat_lt most_steps (length ds) ≡ false = not_more (length ds) h in rw (items_are ds, small) refl
   where
-    not_more : (n : ℕ) → n ≤ MAX_BUDGET → nat_lt MAX_BUDGET n ≡ false
-    not_more n h = by (nat_lt MAX_BUDGET n) refl
+    not_more : (n : ℕ) → n ≤ most_steps → nat_lt most_steps n ≡ false
+    not_more n h = by (nat_lt most_steps n) refl
       where
-        by : (b : Bool) → nat_lt MAX_BUDGET n ≡ b → b ≡ false
-        by true e = let more = ltb-true MAX_BUDGET n e in absurd (omega (arith, more, h))
+        by : (b : Bool) → nat_lt most_steps n ≡ b → b ≡ false
+        by true e = let more = ltb-true most_steps n e in absurd (omega (arith, more, h))
         by false e = refl
 
 steps_read : (params : List Parameter) (v : ℕ) (ds : List Data) (all : List Step) → each (step_at params v) ds ≡ Ok all → steps_at params v (Some (list_json ds)) ≡ Ok all
@@ -193,7 +193,7 @@ data_reads prints policy c trace q all w =
     let taken = all_steps policy.params (version_of all) all w.goal.params_apart (recursion_from_All (StepSpells policy.params) all w.steps) (have_versions all) in
     let question = question_reads policy (proof_json p all) c (singles trace) q (context_field policy.params _ c values) (entries_read policy _ (singles trace) recorded)
     (goal_reads policy q (query_text policy.schema policy.params q) (prints policy.schema policy.params q w.goal)) in
-    fields_read policy (proof_json p all) _ p all (version_of all) (few_read (map (step_json policy.params) all) (subst (λ n. n ≤ MAX_BUDGET) (sym (length_map (step_json policy.params) all)) w.few))
+    fields_read policy (proof_json p all) _ p all (version_of all) (few_read (map (step_json policy.params) all) (subst (λ n. n ≤ most_steps) (sym (length_map (step_json policy.params) all)) w.few))
     (version_reads all w.version) (question ∙ ap Ok (same_problem policy c trace q)) (steps_read policy.params (version_of all) _ all taken) (keys_read _ _ _ _ _)
 
 pub reads_back : PrintedQueryReadsBack → (p : Problem) (all : List Step) (bytes : List ℕ) → IsUtf8 bytes → read bytes ≡ Some (proof_json p all) → ReadsBack p all bytes

@@ -1,7 +1,7 @@
 -- A written proof file reads back as what was written.
 use Rattle.std.specs.Prelude.{◌≡◌, ℕ, ◌<◌, ◌≤◌, ◌^◌, IsTrue, List, All, length, Ok}
 use Rattle.ba_lex.specs.Spelling.{fits}
-use Rattle.ba_model.specs.declared.limits.TheConstants.{MAX_BUDGET}
+use Rattle.ba_model.specs.Limits.{most_steps}
 use Rattle.ba_model.specs.declared.policy.Context.{Context}
 use Rattle.ba_model.specs.declared.policy.Parameter.{Parameter}
 use Rattle.ba_model.specs.declared.policy.Policy.{Policy}
@@ -66,7 +66,7 @@ pub record IsWritable (policy : Policy) (c : Context) (trace : List TraceEntry) 
   pub context : All ValueSpells c.values
   pub entries : All (RecordSpells policy) trace
   pub goal : IsPrintable policy.schema policy.params q
-  pub few : length all ≤ MAX_BUDGET
+  pub few : length all ≤ most_steps
   pub steps : All (StepSpells policy.params) all
   pub version : version_of all ≤ LAST_VERSION
 

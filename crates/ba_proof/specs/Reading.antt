@@ -6,7 +6,7 @@ use Rattle.serde_json.specs.Find.{as_object, get}
 use Rattle.serde_json.specs.Read.{read}
 use Rattle.ba_model.specs.Fit.{kind_of, kinds_of}
 use Rattle.ba_model.specs.Readings.{◌>>=◌, each, widened}
-use Rattle.ba_model.specs.declared.limits.TheConstants.{MAX_BUDGET}
+use Rattle.ba_model.specs.Limits.{most_steps}
 use Rattle.ba_model.specs.declared.policy.Context.{Context}
 use Rattle.ba_model.specs.declared.policy.Parameter.{Parameter}
 use Rattle.ba_model.specs.declared.policy.Policy.{Policy}
@@ -104,7 +104,7 @@ entries_at schema params found = or_bad field.Entries found >>= list_at field.En
 -- whether there is a list of more steps than the limit
 abbrev pub too_many : Option (List Data) → Bool
 too_many None = false
-too_many (Some ds) = nat_lt MAX_BUDGET (length ds)
+too_many (Some ds) = nat_lt most_steps (length ds)
 
 unfoldable pub few_at : Option Data → Result ⊤ ProofFault
 few_at found = if too_many (option_and_then as_list found) then Err TooLong else Ok tt

@@ -1,7 +1,7 @@
 //! The checker of proofs.
 ghost use Rattle.std.specs.Prelude.{◌≡◌, ◌≤◌, ◌<◌, ◌∷◌, ◌++◌, [], IfErr, IfOk, OnOk, length};
 ghost use Rattle.ba_model.specs.Readings.{OfFault};
-ghost use Rattle.ba_model.specs.declared.limits.TheConstants.{MAX_BUDGET};
+ghost use Rattle.ba_model.specs.Limits.{most_steps};
 ghost use Rattle.ba_kernel.specs.Courses.{ProblemFits};
 ghost use Rattle.ba_kernel.specs.Replays.{Closes};
 ghost use Rattle.ba_proof.specs.Checked.{Checks, IsNextFault, IsStrongQuestion, open_count};
@@ -29,7 +29,7 @@ pub enum CheckFault {
 /// for the start, or for a step that isn't refused after those before it; it leaves nothing behind.
 pub fn check(alloc: Global, proof: Proof) -> Result<Proved, Failure<CheckFault>>
     requires fits { ProblemFits proof.problem }
-    requires few { length proof.steps ≤ MAX_BUDGET }
+    requires few { length proof.steps ≤ most_steps }
     ensures verdict { Checks proof.problem proof.steps result }
     ensures refused { IfErr result (λ e. OfFault e (λ _. ¬ (Closes proof.problem proof.steps))) }
     ensures strong { IfOk result (λ _. IsStrongQuestion proof.problem) }
@@ -42,7 +42,7 @@ pub fn check(alloc: Global, proof: Proof) -> Result<Proved, Failure<CheckFault>>
 
 fn taken(alloc: Global, proof: Proof) -> Result<Proved, Failure<CheckFault>>
     requires fits { ProblemFits proof.problem }
-    requires few { length proof.steps ≤ MAX_BUDGET }
+    requires few { length proof.steps ≤ most_steps }
     ensures { Checks proof.problem proof.steps result }
 {
     let mut search = Search::start(alloc, proof.problem)?;
@@ -60,7 +60,7 @@ fn taken(alloc: Global, proof: Proof) -> Result<Proved, Failure<CheckFault>>
 
 /// Takes the next step, or tells its number with its fault.
 fn take_next(alloc: Global, search: &mut Search, step: Step) -> Result<(), Failure<CheckFault>>
-    requires { length search.old.steps < MAX_BUDGET }
+    requires { length search.old.steps < most_steps }
     ensures problem { OnOk result (search.new.problem ≡ search.old.problem) }
     ensures steps { OnOk result (search.new.steps ≡ search.old.steps ++ step ∷ []) }
     ensures fault { IfErr result (IsNextFault search.old step) }

@@ -42,7 +42,7 @@ impl ProofField {
 pub enum ProofFault {
     /// They aren't UTF-8, or no JSON object.
     BadJson,
-    /// There are more than [`ba_model::MAX_BUDGET`] steps.
+    /// There are more than [`ba_model::MAX_STEPS`] steps.
     TooLong,
     /// The field isn't there, or isn't what it has to be.
     BadField(ProofField),

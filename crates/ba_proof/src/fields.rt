@@ -11,7 +11,7 @@ use crate::shapes::{as_list, list_at};
 use crate::steps::steps_of;
 use crate::version::LAST_VERSION;
 use ba_kernel::Step;
-use ba_model::{Context, Failure, List, MAX_BUDGET, Parameter, Policy, Query};
+use ba_model::{Context, Failure, List, MAX_STEPS, Parameter, Policy, Query};
 use ba_script::{context_of, read_members};
 use serde_json::{Map, Value};
 use std::alloc::Global;
@@ -25,7 +25,7 @@ pub(crate) fn few_at(found: Option<&Value>) -> Result<(), Failure<ProofFault>>
         return Ok(());
     };
     match as_list(value) {
-        Some(items) if items.len() as u64 > MAX_BUDGET => {
+        Some(items) if items.len() as u64 > MAX_STEPS => {
             Err(Failure::Fault(ProofFault::TooLong))
         }
         _ => Ok(()),

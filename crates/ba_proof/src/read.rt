@@ -4,7 +4,7 @@ ghost use Rattle.serde_json.specs.View.{view, members_view};
 ghost use Rattle.ba_model.specs.Fit.{PolicyFits};
 ghost use Rattle.ba_model.specs.Readings.{Gives};
 ghost use Rattle.ba_model.specs.SchemaFaults.{AreTables};
-ghost use Rattle.ba_model.specs.declared.limits.TheConstants.{MAX_BUDGET};
+ghost use Rattle.ba_model.specs.Limits.{most_steps};
 ghost use Rattle.ba_kernel.specs.Courses.{ProblemFits, RuleFits};
 ghost use Rattle.ba_proof.specs.Checked.{IsPolicy};
 ghost use Rattle.ba_proof.specs.Reading.{fields_of, proof_at, proof_of, question_at};
@@ -47,7 +47,7 @@ fn fields_of(
         (fields_of policy.now (view value.now) (members_view members.now.entries)) }
     ensures fits { IsPolicy policy.now → IfOk result (λ proof. ProblemFits proof.problem) }
     ensures vars { IfOk result (λ proof. proof.problem.vars ≡ []) }
-    ensures few { IfOk result (λ proof. length proof.steps ≤ MAX_BUDGET) }
+    ensures few { IfOk result (λ proof. length proof.steps ≤ most_steps) }
 {
     few_at(value.get("steps"))?;
     let version = version_at(value.get("version"))?;
@@ -65,7 +65,7 @@ fn proof_at(
     ensures exact { Gives result (proof_at policy.now (view value.now)) }
     ensures fits { IsPolicy policy.now → IfOk result (λ proof. ProblemFits proof.problem) }
     ensures vars { IfOk result (λ proof. proof.problem.vars ≡ []) }
-    ensures few { IfOk result (λ proof. length proof.steps ≤ MAX_BUDGET) }
+    ensures few { IfOk result (λ proof. length proof.steps ≤ most_steps) }
 {
     match value.as_object() {
         Some(members) => fields_of(alloc, policy, value, members),
@@ -78,7 +78,7 @@ fn proof_at(
 /// The file is one JSON object with exactly the keys `context`, `entries`, `goal`, `steps` and `version`, as the format's description says.
 /// An object's key that comes twice has its last value.
 ///
-/// Faults, of which the first of this order is told: `BadJson`; `TooLong`, where there are more steps than [`ba_model::MAX_BUDGET`];
+/// Faults, of which the first of this order is told: `BadJson`; `TooLong`, where there are more steps than [`ba_model::MAX_STEPS`];
 /// `BadField` with the first field of [`ProofField`]'s order that isn't there or isn't what it has to be. A parameter that the policy lacks
 /// is a bad field where it stands. `NoMemory` leaves nothing behind.
 ///
@@ -93,7 +93,7 @@ pub fn read_proof(
     // What is read can be checked, where the policy is one that was read.
     ensures fits { IsPolicy policy.now → IfOk result (λ proof. ProblemFits proof.problem) }
     ensures vars { IfOk result (λ proof. proof.problem.vars ≡ []) }
-    ensures few { IfOk result (λ proof. length proof.steps ≤ MAX_BUDGET) }
+    ensures few { IfOk result (λ proof. length proof.steps ≤ most_steps) }
 {
     match Value::from_slice(alloc, bytes) {
         Ok(value) => proof_at(alloc, policy, &value),

@@ -5,7 +5,7 @@ use Rattle.std.proofs.lemmas.Bool.{ltb-true, leb-true, lt-ltb, le-leb}
 use Rattle.std.proofs.lemmas.Slice.Eq.{bytes_eq-Decides}
 use Rattle.serde_json.specs.Data.{Data, null, boolean, number, string, array, object, Members, no_members, member}
 use Rattle.ba_model.specs.Readings.{◌>>=◌}
-use Rattle.ba_model.specs.declared.limits.TheConstants.{MAX_NAME_BYTES}
+use Rattle.ba_model.specs.Limits.{most_name_bytes}
 use Rattle.ba_script.specs.declared.line.Member.{Member}
 use Rattle.ba_script.specs.declared.line.ScriptLine.{ScriptLine}
 use Rattle.ba_script.specs.declared.line.ScriptLine.TheVariants.{Begin, Ask, End, Publish}
@@ -42,17 +42,17 @@ name_is : (d : Data) (n : List ℕ) → name_at d ≡ Ok n → IsName n × (d �
 unfolding name_at
 name_is d n e =
     let found = bind_ok (text_at d) if_name n e in
-    let fits = kept (nat_lt 0 (length found.0) && nat_le (length found.0) MAX_NAME_BYTES) found.0 n found.2 in
-    let bounds = both (nat_lt 0 (length found.0)) (nat_le (length found.0) MAX_NAME_BYTES) fits.0 in
+    let fits = kept (nat_lt 0 (length found.0) && nat_le (length found.0) most_name_bytes) found.0 n found.2 in
+    let bounds = both (nat_lt 0 (length found.0)) (nat_le (length found.0) most_name_bytes) fits.0 in
     let least : 0 < length n = subst (λ (s : List ℕ). 0 < length s) fits.1 (ltb-true 0 (length found.0) bounds.0) in
-    let most : length n ≤ MAX_NAME_BYTES = subst (λ (s : List ℕ). length s ≤ MAX_NAME_BYTES) fits.1 (leb-true (length found.0) MAX_NAME_BYTES bounds.1) in
+    let most : length n ≤ most_name_bytes = subst (λ (s : List ℕ). length s ≤ most_name_bytes) fits.1 (leb-true (length found.0) most_name_bytes bounds.1) in
     (record { least = least; most = most }, text_is d found.0 found.1 ∙ ap string fits.1)
 
 name_reads : (n : List ℕ) → IsName n → name_at (string n) ≡ Ok n
 unfolding name_at
 name_reads n h =
     let least : nat_lt 0 (length n) ≡ true = lt-ltb 0 (length n) h.least in
-    let most : nat_le (length n) MAX_NAME_BYTES ≡ true = le-leb (length n) MAX_NAME_BYTES h.most in
+    let most : nat_le (length n) most_name_bytes ≡ true = le-leb (length n) most_name_bytes h.most in
     rw (least, most) refl
 
 -- ---- the names of table sets
@@ -200,7 +200,7 @@ text_shape (object ms) f e = cc e
 
 name_shape : (d : Data) → OnlyShape (name_at d)
 unfolding name_at
-name_shape d = bind_shape (text_at d) if_name (text_shape d) (λ s. cond_shape (nat_lt 0 (length s) && nat_le (length s) MAX_NAME_BYTES) (Ok s) (Err Shape) (λ f e. cc e) (λ f e. cc e))
+name_shape d = bind_shape (text_at d) if_name (text_shape d) (λ s. cond_shape (nat_lt 0 (length s) && nat_le (length s) most_name_bytes) (Ok s) (Err Shape) (λ f e. cc e) (λ f e. cc e))
 
 set_shape : (d : Data) → OnlyShape (set_at d)
 unfolding set_at

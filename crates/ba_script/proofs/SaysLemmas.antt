@@ -5,7 +5,7 @@ use Rattle.serde_json.specs.Data.{Data}
 use Rattle.ba_model.specs.declared.policy.Context.{Context}
 use Rattle.ba_model.specs.declared.policy.Parameter.{Parameter}
 use Rattle.ba_model.specs.Readings.{◌>>=◌, widened}
-use Rattle.ba_model.specs.declared.limits.TheConstants.{MAX_ASKS, MAX_LINES, MAX_REQUESTS}
+use Rattle.ba_model.specs.Limits.{most_asks, most_lines, most_requests}
 use Rattle.ba_model.specs.declared.limits.Counted.TheVariants as what
 use Rattle.ba_script.proofs.FormLemmas.{line_is, line_not, only_shape, spelled}
 use Rattle.ba_script.proofs.MeaningLemmas.{context_is, context_none, is_context, no_context}
@@ -35,16 +35,16 @@ abbrev Told : List Parameter → List ScriptEntry → ℕ → ScriptLine → Res
 Told params before n l (Ok e) = Says params before l e
 Told params before n l (Err f) = SaysNone params before n l f
 
-begin_few : (params : List Parameter) (before : List ScriptEntry) (n : ℕ) (name : List ℕ) (members : List Member) (context : Context) (b : Bool) → nat_lt (begun before) MAX_REQUESTS ≡ b
+begin_few : (params : List Parameter) (before : List ScriptEntry) (n : ℕ) (name : List ℕ) (members : List Member) (context : Context) (b : Bool) → nat_lt (begun before) most_requests ≡ b
     → IsFree before name → context_of params members ≡ Some context
-    → Told params before n (line.Begin name members) (cond b (Ok (entry.Begin (begun before) name context)) (Err (TooMany what.Requests MAX_REQUESTS)))
+    → Told params before n (line.Begin name members) (cond b (Ok (entry.Begin (begun before) name context)) (Err (TooMany what.Requests most_requests)))
 begin_few params before n name members context true less free found = begins free (context_is params members context found) (ltb-true _ _ less)
 begin_few params before n name members context false more free found = many_requests free (context_is params members context found) (ltb-false _ _ more)
 
 begin_by : (params : List Parameter) (before : List ScriptEntry) (n : ℕ) (name : List ℕ) (members : List Member) (found : Option Context) → IsFree before name → context_of params members ≡ found
     → Told params before n (line.Begin name members) (context_at n found >>= numbered name (begun before))
 begin_by params before n name members None free none = lacks_context free (no_context params members none)
-begin_by params before n name members (Some context) free found = begin_few params before n name members context (nat_lt (begun before) MAX_REQUESTS) refl free found
+begin_by params before n name members (Some context) free found = begin_few params before n name members context (nat_lt (begun before) most_requests) refl free found
 
 begin_told : (params : List Parameter) (before : List ScriptEntry) (n : ℕ) (name : List ℕ) (members : List Member) (o : Option Opened) → open_after before name ≡ o
     → Told params before n (line.Begin name members) (begin_of params n name members o (begun before))
@@ -56,9 +56,9 @@ ask_told : (params : List Parameter) (before : List ScriptEntry) (n : ℕ) (name
     → Told params before n (line.Ask name query) (ask_of n name query o)
 unfolding ask_of
 ask_told params before n name query None is = asks_unbegun (is_free before name is)
-ask_told params before n name query (Some x) is = few (nat_lt x.asks MAX_ASKS) refl
+ask_told params before n name query (Some x) is = few (nat_lt x.asks most_asks) refl
   where
-    few : (b : Bool) → nat_lt x.asks MAX_ASKS ≡ b → Told params before n (line.Ask name query) (cond b (Ok (entry.Ask x.request name query)) (Err (TooMany what.Asks MAX_ASKS)))
+    few : (b : Bool) → nat_lt x.asks most_asks ≡ b → Told params before n (line.Ask name query) (cond b (Ok (entry.Ask x.request name query)) (Err (TooMany what.Asks most_asks)))
     few true less = asks (is_open before name x is) (ltb-true _ _ less)
     few false more = many_asks (is_open before name x is) (ltb-false _ _ more)
 
@@ -78,9 +78,9 @@ says_entry : (params : List Parameter) (before : List ScriptEntry) (n : ℕ) (l 
 unfolding begin_of ask_of end_of
 says_entry params before n (line.Begin name members) e (begins {context} free is few) =
     ap (λ o. begin_of params n name members o (begun before)) (free_is before name free) ∙ ap (λ o. context_at n o >>= numbered name (begun before)) (is_context params members context is)
-    ∙ ap (λ b. cond b (Ok (entry.Begin (begun before) name context)) (Err (TooMany what.Requests MAX_REQUESTS))) (lt-ltb _ _ few)
+    ∙ ap (λ b. cond b (Ok (entry.Begin (begun before) name context)) (Err (TooMany what.Requests most_requests))) (lt-ltb _ _ few)
 says_entry params before n (line.Ask name query) e (asks {request} {asked} is few) =
-    ap (ask_of n name query) (open_is before name request asked is) ∙ ap (λ b. cond b (Ok (entry.Ask request name query)) (Err (TooMany what.Asks MAX_ASKS))) (lt-ltb _ _ few)
+    ap (ask_of n name query) (open_is before name request asked is) ∙ ap (λ b. cond b (Ok (entry.Ask request name query)) (Err (TooMany what.Asks most_asks))) (lt-ltb _ _ few)
 says_entry params before n (line.End name) e (ends {request} {asked} is) = ap (end_of n name) (open_is before name request asked is)
 says_entry params before n (line.Publish set) e publishes = refl
 
@@ -93,10 +93,10 @@ none_fault params before n (line.Begin name members) f (lacks_context free none)
     ap (λ o. begin_of params n name members o (begun before)) (free_is before name free) ∙ ap (λ o. context_at n o >>= numbered name (begun before)) (context_none params members none)
 none_fault params before n (line.Begin name members) f (many_requests {context} free is many) =
     ap (λ o. begin_of params n name members o (begun before)) (free_is before name free) ∙ ap (λ o. context_at n o >>= numbered name (begun before)) (is_context params members context is)
-    ∙ ap (λ b. cond b (Ok (entry.Begin (begun before) name context)) (Err (TooMany what.Requests MAX_REQUESTS))) (le-ltb _ _ many)
+    ∙ ap (λ b. cond b (Ok (entry.Begin (begun before) name context)) (Err (TooMany what.Requests most_requests))) (le-ltb _ _ many)
 none_fault params before n (line.Ask name query) f (asks_unbegun free) = ap (ask_of n name query) (free_is before name free)
 none_fault params before n (line.Ask name query) f (many_asks {request} {asked} is many) =
-    ap (ask_of n name query) (open_is before name request asked is) ∙ ap (λ b. cond b (Ok (entry.Ask request name query)) (Err (TooMany what.Asks MAX_ASKS))) (le-ltb _ _ many)
+    ap (ask_of n name query) (open_is before name request asked is) ∙ ap (λ b. cond b (Ok (entry.Ask request name query)) (Err (TooMany what.Asks most_asks))) (le-ltb _ _ many)
 none_fault params before n (line.End name) f (ends_unbegun free) = ap (end_of n name) (free_is before name free)
 none_fault params before n (line.Publish set) f none = elim none [ ]
 
@@ -264,23 +264,23 @@ abbrev ScriptTold : List Parameter → List ℕ → Result Script ScriptFault �
 ScriptTold params bytes (Ok s) = ReadsScript params bytes s
 ScriptTold params bytes (Err f) = IsNoScript params bytes f
 
-script_by : (params : List Parameter) (bytes : List ℕ) (r : Result (List ScriptEntry) ScriptFault) → length (script_lines bytes) ≤ MAX_LINES → LinesTold params [] (script_lines bytes) r
+script_by : (params : List Parameter) (bytes : List ℕ) (r : Result (List ScriptEntry) ScriptFault) → length (script_lines bytes) ≤ most_lines → LinesTold params [] (script_lines bytes) r
     → ScriptTold params bytes (r >>= λ es. Ok (script_with es))
 script_by params bytes (Ok es) few h = record { few_lines = few; entries = subst (LinesSay params [] (script_lines bytes)) (sym h.are) h.says }
 script_by params bytes (Err f) few h = bad_line few (bad_of params (script_lines bytes) f h)
 
-limit_by : (params : List Parameter) (bytes : List ℕ) (b : Bool) → nat_lt MAX_LINES (length (script_lines bytes)) ≡ b
-    → ScriptTold params bytes (cond b (Err (TooMany what.Lines MAX_LINES)) (script_from params (script_lines bytes)))
+limit_by : (params : List Parameter) (bytes : List ℕ) (b : Bool) → nat_lt most_lines (length (script_lines bytes)) ≡ b
+    → ScriptTold params bytes (cond b (Err (TooMany what.Lines most_lines)) (script_from params (script_lines bytes)))
 limit_by params bytes true more = many_lines (ltb-true _ _ more)
 limit_by params bytes false few = script_by params bytes (entries_from params [] (script_lines bytes)) (ltb-false _ _ few) (lines_told params [] (script_lines bytes))
 
 script_told : (params : List Parameter) (bytes : List ℕ) → ScriptTold params bytes (script_of params bytes)
 unfolding script_of
-script_told params bytes = limit_by params bytes (nat_lt MAX_LINES (length (script_lines bytes))) refl
+script_told params bytes = limit_by params bytes (nat_lt most_lines (length (script_lines bytes))) refl
 
-few_lines : (params : List Parameter) (bytes : List ℕ) → length (script_lines bytes) ≤ MAX_LINES → script_of params bytes ≡ script_from params (script_lines bytes)
+few_lines : (params : List Parameter) (bytes : List ℕ) → length (script_lines bytes) ≤ most_lines → script_of params bytes ≡ script_from params (script_lines bytes)
 unfolding script_of
-few_lines params bytes few = ap (λ b. cond b (Err (TooMany what.Lines MAX_LINES)) (script_from params (script_lines bytes))) (le-ltb _ _ few)
+few_lines params bytes few = ap (λ b. cond b (Err (TooMany what.Lines most_lines)) (script_from params (script_lines bytes))) (le-ltb _ _ few)
 
 pub script_reads : (params : List Parameter) (bytes : List ℕ) (s : Script) → script_of params bytes ≡ Ok s → ReadsScript params bytes s
 script_reads params bytes s e = subst (ScriptTold params bytes) e (script_told params bytes)
@@ -295,9 +295,9 @@ script_refuses params bytes f e = subst (ScriptTold params bytes) e (script_told
 
 pub refuses_script : (params : List Parameter) (bytes : List ℕ) (f : ScriptFault) → IsNoScript params bytes f → script_of params bytes ≡ Err f
 unfolding script_of
-refuses_script params bytes f (many_lines more) = ap (λ b. cond b (Err (TooMany what.Lines MAX_LINES)) (script_from params (script_lines bytes))) (lt-ltb _ _ more)
+refuses_script params bytes f (many_lines more) = ap (λ b. cond b (Err (TooMany what.Lines most_lines)) (script_from params (script_lines bytes))) (lt-ltb _ _ more)
 refuses_script params bytes f (bad_line few bad) = few_lines params bytes few ∙ ap (λ r. r >>= λ es. Ok (script_with es)) (bad_is params (script_lines bytes) f bad)
 
-pub script_of_entries : (params : List Parameter) (bytes : List ℕ) (es : List ScriptEntry) → length (script_lines bytes) ≤ MAX_LINES → entries_from params [] (script_lines bytes) ≡ Ok es
+pub script_of_entries : (params : List Parameter) (bytes : List ℕ) (es : List ScriptEntry) → length (script_lines bytes) ≤ most_lines → entries_from params [] (script_lines bytes) ≡ Ok es
     → script_of params bytes ≡ Ok (script_with es)
 script_of_entries params bytes es few e = few_lines params bytes few ∙ ap (λ r. r >>= λ all. Ok (script_with all)) e

@@ -7,7 +7,7 @@ use Rattle.std.specs.Ordering.{nat_cmp}
 use Rattle.std.specs.Str.{bytes_eq}
 use Rattle.std.proofs.lemmas.List.Sums.{count_by-le-length}
 use Rattle.std.proofs.lemmas.Slice.Eq.{bytes_eq-Decides}
-use Rattle.ba_model.specs.declared.limits.TheConstants.{MAX_LINES}
+use Rattle.ba_model.specs.Limits.{most_lines}
 use Rattle.ba_model.specs.declared.policy.Parameter.{Parameter}
 use Rattle.ba_model.specs.Readings.{◌>>=◌, Gives, widened}
 use Rattle.ba_model.specs.declared.failure.Failure.{Failure}
@@ -124,10 +124,10 @@ read_none params before it n bytes lines items (errors.Fault f) whole tracks num
 -- ---- how many lines there are
 
 -- the number of one more table set is below the number of lines
-pub room_for : (before : List ScriptEntry) (it : Requests) (bytes : List ℕ) (lines items : List (List ℕ)) → Tracks before it → items ≡ bytes ∷ lines → length before + length items ≤ MAX_LINES
-    → it.published < MAX_LINES
+pub room_for : (before : List ScriptEntry) (it : Requests) (bytes : List ℕ) (lines items : List (List ℕ)) → Tracks before it → items ≡ bytes ∷ lines → length before + length items ≤ most_lines
+    → it.published < most_lines
 room_for before it bytes lines items tracks first few = omega (arith, tracks.sets, count_by-le-length is_publish before, ap length first, few)
 
 pub few_more : (before after : List ScriptEntry) (e : ScriptEntry) (bytes : List ℕ) (lines items : List (List ℕ)) → items ≡ bytes ∷ lines → after ≡ before ++ e ∷ []
-    → length before + length items ≤ MAX_LINES → length after + length lines ≤ MAX_LINES
+    → length before + length items ≤ most_lines → length after + length lines ≤ most_lines
 few_more before after e bytes lines items first pushed few = omega (arith, ap length first, ap length pushed, length-append before (e ∷ []), few)

@@ -4,7 +4,7 @@ use Rattle.std.specs.Str.{bytes_eq}
 use Rattle.ba_model.specs.Readings.{◌>>=◌, widened}
 use Rattle.ba_model.specs.declared.policy.Context.{Context}
 use Rattle.ba_model.specs.declared.policy.Parameter.{Parameter}
-use Rattle.ba_model.specs.declared.limits.TheConstants.{MAX_ASKS, MAX_LINES, MAX_REQUESTS}
+use Rattle.ba_model.specs.Limits.{most_asks, most_lines, most_requests}
 use Rattle.ba_model.specs.declared.limits.Counted.TheVariants as what
 use Rattle.ba_script.specs.Contexts.{context_of}
 use Rattle.ba_script.specs.Lines.{script_lines}
@@ -82,7 +82,7 @@ context_at n (Some context) = Ok context
 
 -- a request begins if its number is below the limit
 abbrev pub numbered : List ℕ → ℕ → Context → Result ScriptEntry ScriptFault
-numbered name number context = if nat_lt number MAX_REQUESTS then Ok (entry.Begin number name context) else Err (TooMany what.Requests MAX_REQUESTS)
+numbered name number context = if nat_lt number most_requests then Ok (entry.Begin number name context) else Err (TooMany what.Requests most_requests)
 
 unfoldable pub begin_of : List Parameter → ℕ → List ℕ → List Member → Option Opened → ℕ → Result ScriptEntry ScriptFault
 begin_of params n name members (Some held) number = Err (BadLine n why.Begun)
@@ -90,7 +90,7 @@ begin_of params n name members None number = context_at n (context_of params mem
 
 unfoldable pub ask_of : ℕ → List ℕ → List ℕ → Option Opened → Result ScriptEntry ScriptFault
 ask_of n name query None = Err (BadLine n why.Unbegun)
-ask_of n name query (Some held) = if nat_lt held.asks MAX_ASKS then Ok (entry.Ask held.request name query) else Err (TooMany what.Asks MAX_ASKS)
+ask_of n name query (Some held) = if nat_lt held.asks most_asks then Ok (entry.Ask held.request name query) else Err (TooMany what.Asks most_asks)
 
 unfoldable pub end_of : ℕ → List ℕ → Option Opened → Result ScriptEntry ScriptFault
 end_of n name None = Err (BadLine n why.Unbegun)
@@ -122,4 +122,4 @@ script_from params lines = entries_from params [] lines >>= λ entries. Ok (scri
 
 -- the script that the bytes are, for a policy with these parameters
 unfoldable pub script_of : List Parameter → List ℕ → Result Script ScriptFault
-script_of params bytes = if nat_lt MAX_LINES (length (script_lines bytes)) then Err (TooMany what.Lines MAX_LINES) else script_from params (script_lines bytes)
+script_of params bytes = if nat_lt most_lines (length (script_lines bytes)) then Err (TooMany what.Lines most_lines) else script_from params (script_lines bytes)

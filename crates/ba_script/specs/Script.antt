@@ -5,7 +5,7 @@ use Rattle.serde_json.specs.Data.{Data, string, object, Members, no_members, mem
 use Rattle.serde_json.specs.Find.{as_i64, as_number, as_object, as_str}
 use Rattle.serde_json.specs.Read.{read}
 use Rattle.ba_model.specs.Readings.{◌>>=◌}
-use Rattle.ba_model.specs.declared.limits.TheConstants.{MAX_NAME_BYTES}
+use Rattle.ba_model.specs.Limits.{most_name_bytes}
 use Rattle.ba_script.specs.declared.line.Given.{Given}
 use Rattle.ba_script.specs.declared.line.Given.TheVariants.{Int, Text, Other}
 use Rattle.ba_script.specs.declared.line.Member.{Member}
@@ -23,7 +23,7 @@ abbrev pub text_at : Data → Result (List ℕ) LineFault
 text_at d = or_shape (as_str d)
 
 abbrev pub if_name : List ℕ → Result (List ℕ) LineFault
-if_name s = if nat_lt 0 (length s) && nat_le (length s) MAX_NAME_BYTES then Ok s else Err Shape
+if_name s = if nat_lt 0 (length s) && nat_le (length s) most_name_bytes then Ok s else Err Shape
 
 -- a text of 1 to 64 bytes
 unfoldable pub name_at : Data → Result (List ℕ) LineFault
@@ -102,7 +102,7 @@ script_line_of bytes = if is_utf8 bytes then line_or (read bytes) else Err Json
 -- the name of a request
 pub record IsName (name : List ℕ) : Type 0 where
   pub least : 0 < length name
-  pub most : length name ≤ MAX_NAME_BYTES
+  pub most : length name ≤ most_name_bytes
 
 -- the value is an object with exactly the keys of the line's form, of these values
 abbrev pub Spells : Data → ScriptLine → Type 0

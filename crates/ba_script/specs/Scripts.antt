@@ -4,7 +4,7 @@ use Rattle.std.specs.Str.{bytes_eq}
 use Rattle.ba_model.specs.Fit.{ContextFits, kinds_of}
 use Rattle.ba_model.specs.declared.policy.Context.{Context}
 use Rattle.ba_model.specs.declared.policy.Parameter.{Parameter}
-use Rattle.ba_model.specs.declared.limits.TheConstants.{MAX_ASKS, MAX_LINES, MAX_REQUESTS}
+use Rattle.ba_model.specs.Limits.{most_asks, most_lines, most_requests}
 use Rattle.ba_model.specs.declared.limits.Counted.TheVariants as what
 use Rattle.ba_script.specs.Contexts.{IsContext}
 use Rattle.ba_script.specs.Lines.{script_lines}
@@ -50,9 +50,9 @@ IsFree before name = (request asks : ℕ) → ¬ (IsOpen before name request ask
 -- What a line says after these entries. A new request has as its number how many were begun before, and a table set that is published
 -- how many were published before.
 pub data Says (params : List Parameter) (before : List ScriptEntry) : ScriptLine → ScriptEntry → Type 0 where
-  begins : {name : List ℕ} {members : List Member} {context : Context} → IsFree before name → IsContext params members context → begun before < MAX_REQUESTS
+  begins : {name : List ℕ} {members : List Member} {context : Context} → IsFree before name → IsContext params members context → begun before < most_requests
       → Says params before (line.Begin name members) (entry.Begin (begun before) name context)
-  asks : {name query : List ℕ} {request asked : ℕ} → IsOpen before name request asked → asked < MAX_ASKS → Says params before (line.Ask name query) (entry.Ask request name query)
+  asks : {name query : List ℕ} {request asked : ℕ} → IsOpen before name request asked → asked < most_asks → Says params before (line.Ask name query) (entry.Ask request name query)
   ends : {name : List ℕ} {request asked : ℕ} → IsOpen before name request asked → Says params before (line.End name) (entry.End request name)
   publishes : {set : List ℕ} → Says params before (line.Publish set) (entry.Publish (published before) set)
 
@@ -63,9 +63,9 @@ pub data SaysNone (params : List Parameter) (before : List ScriptEntry) (n : ℕ
   ends_unbegun : {name : List ℕ} → IsFree before name → SaysNone params before n (line.End name) (BadLine n why.Unbegun)
   no_context : {name : List ℕ} {members : List Member} → IsFree before name → ((context : Context) → ¬ (IsContext params members context))
       → SaysNone params before n (line.Begin name members) (BadLine n why.Context)
-  many_requests : {name : List ℕ} {members : List Member} {context : Context} → IsFree before name → IsContext params members context → MAX_REQUESTS ≤ begun before
-      → SaysNone params before n (line.Begin name members) (TooMany what.Requests MAX_REQUESTS)
-  many_asks : {name query : List ℕ} {request asked : ℕ} → IsOpen before name request asked → MAX_ASKS ≤ asked → SaysNone params before n (line.Ask name query) (TooMany what.Asks MAX_ASKS)
+  many_requests : {name : List ℕ} {members : List Member} {context : Context} → IsFree before name → IsContext params members context → most_requests ≤ begun before
+      → SaysNone params before n (line.Begin name members) (TooMany what.Requests most_requests)
+  many_asks : {name query : List ℕ} {request asked : ℕ} → IsOpen before name request asked → most_asks ≤ asked → SaysNone params before n (line.Ask name query) (TooMany what.Asks most_asks)
 
 -- the bytes are the JSON of a value that spells the line
 abbrev pub IsLine : List ℕ → ScriptLine → Type 0
@@ -90,7 +90,7 @@ LinesSay params before (bytes ∷ lines) (e ∷ es) = LineSays params before byt
 
 -- the bytes are this script
 pub record ReadsScript (params : List Parameter) (bytes : List ℕ) (script : Script) : Type 0 where
-  pub few_lines : length (script_lines bytes) ≤ MAX_LINES
+  pub few_lines : length (script_lines bytes) ≤ most_lines
   pub entries : LinesSay params [] (script_lines bytes) script.entries
 
 -- the first line that says nothing has the fault
@@ -105,8 +105,8 @@ pub record HasBadLine (params : List Parameter) (lines : List (List ℕ)) (f : S
 
 -- why the bytes are no script
 pub data IsNoScript (params : List Parameter) (bytes : List ℕ) : ScriptFault → Type 0 where
-  many_lines : MAX_LINES < length (script_lines bytes) → IsNoScript params bytes (TooMany what.Lines MAX_LINES)
-  bad_line : {f : ScriptFault} → length (script_lines bytes) ≤ MAX_LINES → HasBadLine params (script_lines bytes) f → IsNoScript params bytes f
+  many_lines : most_lines < length (script_lines bytes) → IsNoScript params bytes (TooMany what.Lines most_lines)
+  bad_line : {f : ScriptFault} → length (script_lines bytes) ≤ most_lines → HasBadLine params (script_lines bytes) f → IsNoScript params bytes f
 
 -- ---- What the entries of a script have to do with one another
 
@@ -136,8 +136,8 @@ PublishedFrom n (entry.Publish number set ∷ es) = (number ≡ n) × PublishedF
 -- a request begins under a name that isn't open; a question and an end are of the request that is open under their name; a table set that
 -- is published has a name
 abbrev pub EntryFits : List ScriptEntry → ScriptEntry → Type 0
-EntryFits before (entry.Begin request name context) = IsFree before name × (request < MAX_REQUESTS)
-EntryFits before (entry.Ask request name query) = (asked : ℕ) × IsOpen before name request asked × (asked < MAX_ASKS)
+EntryFits before (entry.Begin request name context) = IsFree before name × (request < most_requests)
+EntryFits before (entry.Ask request name query) = (asked : ℕ) × IsOpen before name request asked × (asked < most_asks)
 EntryFits before (entry.End request name) = (asked : ℕ) × IsOpen before name request asked
 EntryFits before (entry.Publish number set) = 0 < length set
 
@@ -148,7 +148,7 @@ EntriesFit before (e ∷ es) = EntryFits before e × EntriesFit (before ++ e ∷
 
 -- a script for a policy with these parameters
 pub record IsScript (params : List Parameter) (script : Script) : Type 0 where
-  pub few_entries : length script.entries ≤ MAX_LINES
+  pub few_entries : length script.entries ≤ most_lines
   pub contexts : All (BeginFits params) script.entries
   pub numbered : NumberedFrom 0 script.entries
   pub published : PublishedFrom 0 script.entries

@@ -1,7 +1,7 @@
 //! Reads a script.
 ghost use Rattle.std.specs.Prelude.{◌≡◌, ◌<◌, ◌≤◌, [], IfOk, length};
 ghost use Rattle.ba_model.specs.Readings.{Gives, widened};
-ghost use Rattle.ba_model.specs.declared.limits.TheConstants.{MAX_LINES as most_lines};
+ghost use Rattle.ba_model.specs.Limits.{most_lines};
 ghost use Rattle.ba_script.specs.Lines.{script_lines};
 ghost use Rattle.ba_script.specs.Reading.{entries_from, script_of};
 ghost use Rattle.ba_script.specs.Script.{script_line_of};

@@ -4,7 +4,7 @@ ghost use Rattle.std.specs.BTreeMap.{get};
 ghost use Rattle.std.specs.Cmp.Lexicographic.{slice_cmp};
 ghost use Rattle.std.specs.Ordering.{nat_cmp};
 ghost use Rattle.ba_model.specs.Readings.{Gives};
-ghost use Rattle.ba_model.specs.declared.limits.TheConstants.{MAX_LINES as most_lines};
+ghost use Rattle.ba_model.specs.Limits.{most_lines};
 ghost use Rattle.ba_script.specs.Contexts.{context_of};
 ghost use Rattle.ba_script.specs.Reading.{ask_of, begin_of, context_at, end_of};
 ghost use Rattle.ba_script.specs.Tracking.{Moves, Tracks, opened};

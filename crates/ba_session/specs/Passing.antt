@@ -4,6 +4,7 @@ use Rattle.std.specs.Prelude.{◌≡◌, ℕ, ◌+◌, ◌<◌, ◌≤◌, ◌==
 use Rattle.ba_cache.specs.Passes as cache
 use Rattle.ba_cache.specs.Passes.{ShelfKnown, known_on}
 use Rattle.ba_cache.specs.declared.call.ShelfCall.{ShelfCall}
+use Rattle.ba_model.specs.Limits.{shard_count}
 use Rattle.ba_model.specs.declared.query.Query.{Query}
 use Rattle.ba_template.specs.Shapes.{shape_of, shard_of}
 use Rattle.ba_turn.specs.History.{AreDistinct, HasCalls, calls_by, entry_of, number_of}
@@ -31,7 +32,7 @@ pub record AreOf (service : Service) (p : Passes) : Type 0 where
 
 -- so many calls are left on each shelf
 pub record HasRoom (calls : ℕ) (p : Passes) : Type 0 where
-  pub each : (k : ℕ) → k < 8 → calls ≤ (known_on p.cache k).left
+  pub each : (k : ℕ) → k < shard_count → calls ≤ (known_on p.cache k).left
 
 -- ---- calls
 
@@ -66,11 +67,11 @@ LeavesVersions old new = known_by new.versions ≡ known_by old.versions
 -- these calls and no others take what the passes know from old to new
 pub record Makes (made : ShelfCalls) (old new : Passes) : Type 0 where
   pub versions : LeavesVersions old new
-  pub shelves : (k : ℕ) → k < 8 → MakesCalls (known_on old.cache k) (known_on new.cache k) (calls_on k made)
+  pub shelves : (k : ℕ) → k < shard_count → MakesCalls (known_on old.cache k) (known_on new.cache k) (calls_on k made)
 
 -- no call is made on a shelf
 pub record LeavesShelves (old new : Passes) : Type 0 where
-  pub each : (k : ℕ) → k < 8 → known_on new.cache k ≡ known_on old.cache k
+  pub each : (k : ℕ) → k < shard_count → known_on new.cache k ≡ known_on old.cache k
 
 -- ---- new, split and join
 

@@ -4,7 +4,7 @@ ghost use Rattle.ba_cache.specs.Rows.{IsSound};
 ghost use Rattle.ba_instant.specs.Dues.{EndsSaturated};
 ghost use Rattle.ba_instant.specs.declared.order.Pick.TheVariants.{First};
 ghost use Rattle.ba_kernel.specs.Asked.{QuestionFits};
-ghost use Rattle.ba_model.specs.declared.limits.TheConstants.{MAX_BUDGET};
+ghost use Rattle.ba_model.specs.Limits.{most_budget};
 ghost use Rattle.ba_refute.specs.Images.{TellsTried};
 ghost use Rattle.ba_session.specs.Asking.{IsReason, question};
 ghost use Rattle.ba_session.specs.Judging.{IsLeft, IsServing, Judges, Searches};
@@ -44,7 +44,7 @@ impl Request {
         query: &Shared<Query>,
     ) -> Result<Judgement, AllocError>
         requires fits { QuestionFits policy.now self.now.context self.now.trace query.now }
-        requires limit { budget ≤ MAX_BUDGET }
+        requires limit { budget ≤ most_budget }
         requires sound { All IsSound found.now }
         ensures { IfOk result (Judges policy.now self.now budget query.now found.now) }
     {
@@ -91,7 +91,7 @@ impl Request {
         query: &Shared<Query>,
     ) -> Result<Judgement, AllocError>
         requires fits { QuestionFits policy.now self.now.context self.now.trace query.now }
-        requires limit { budget ≤ MAX_BUDGET }
+        requires limit { budget ≤ most_budget }
         ensures { IfOk result (Searches policy.now self.now budget query.now) }
     {
         problem_is_question();

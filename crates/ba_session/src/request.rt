@@ -7,7 +7,7 @@ ghost use Rattle.ba_kernel.specs.Asked.{QuestionFits};
 ghost use Rattle.ba_model.specs.Fit.{ContextFits, IsQuery, kinds_of};
 ghost use Rattle.ba_model.specs.Meaning.{IsAnswer};
 ghost use Rattle.ba_model.specs.Readings.{Gives};
-ghost use Rattle.ba_model.specs.declared.limits.TheConstants.{MAX_BUDGET};
+ghost use Rattle.ba_model.specs.Limits.{most_budget};
 ghost use Rattle.ba_session.specs.Asking.{IsAsker, IsBegun, IsChecked, Reads, Replies, Uncovered, answer_in, begun};
 ghost use Rattle.ba_session.specs.Judging.{Answers, AnswersByProof, Decides, Says, refusal_of};
 ghost use Rattle.ba_session.specs.Passing.{AreOf, HasRoom, LeavesShelves, Makes, ShelfCalls, on_shelf};
@@ -110,7 +110,7 @@ impl Request {
     ) -> Reply
         requires policy { IsChecked service.now.policy }
         requires asker { IsAsker service.now.policy self.old }
-        requires limit { budget ≤ MAX_BUDGET }
+        requires limit { budget ≤ most_budget }
         requires of { AreOf service.now passes.old }
         requires room { HasRoom 2 passes.old }
         ensures of { AreOf service.now passes.new }
@@ -146,7 +146,7 @@ impl Request {
     ) -> Reply
         requires fits { QuestionFits service.now.policy self.old.context self.old.trace query }
         requires asker { IsAsker service.now.policy self.old }
-        requires limit { budget ≤ MAX_BUDGET }
+        requires limit { budget ≤ most_budget }
         requires of { AreOf service.now passes.old }
         requires room { HasRoom 2 passes.old }
         ensures of { AreOf service.now passes.new }
@@ -175,7 +175,7 @@ impl Request {
     ) -> Reply
         requires fits { QuestionFits service.now.policy self.old.context self.old.trace query }
         requires asker { IsAsker service.now.policy self.old }
-        requires limit { budget ≤ MAX_BUDGET }
+        requires limit { budget ≤ most_budget }
         requires uncovered { Uncovered service.now.policy self.old query }
         requires of { AreOf service.now passes.old }
         requires room { HasRoom 2 passes.old }
@@ -215,7 +215,7 @@ impl Request {
     ) -> Reply
         requires fits { QuestionFits service.now.policy self.old.context self.old.trace looked.query }
         requires asker { IsAsker service.now.policy self.old }
-        requires limit { budget ≤ MAX_BUDGET }
+        requires limit { budget ≤ most_budget }
         requires shard { looked.shard ≡ shard_of (shape_of [] looked.query) }
         requires sound { All IsSound looked.found.templates }
         requires of { AreOf service.now passes.old }

@@ -11,7 +11,7 @@ use Rattle.ba_lex.specs.declared.token.Lexeme.{Lexeme}
 use Rattle.ba_lex.specs.declared.token.Token.{Token}
 use Rattle.ba_model.specs.SchemaFaults.{AreTables, IsFirstFault}
 use Rattle.ba_model.specs.declared.check_schema.SchemaFault.{SchemaFault}
-use Rattle.ba_model.specs.declared.limits.TheConstants.{MAX_TEXT_BYTES}
+use Rattle.ba_model.specs.Limits.{most_text_bytes}
 use Rattle.ba_model.specs.declared.schema.Schema.{Schema}
 use Rattle.ba_model.specs.declared.schema.Table.{Table}
 use Rattle.ba_sql_ddl.specs.Check.{checked, first_fault, schema}
@@ -45,7 +45,7 @@ written_complete words texts h =
 -- ---- what the file gives, case by case
 
 record Words (bytes : List ℕ) (tokens : List Token) : Type 0 where
-  read : file_tokens_of MAX_TEXT_BYTES bytes ≡ Ok tokens
+  read : file_tokens_of most_text_bytes bytes ≡ Ok tokens
   supported : first_unsupported (lexemes_of tokens) ≡ None
 
 record Texts (bytes : List ℕ) (texts : List TableText) : Type 0 where
@@ -53,11 +53,11 @@ record Texts (bytes : List ℕ) (texts : List TableText) : Type 0 where
   words : Words bytes tokens
   parsed : tables_at (lexemes_of tokens) ≡ Ok texts
 
-gives_lex : (bytes : List ℕ) (f : LexFault) → file_tokens_of MAX_TEXT_BYTES bytes ≡ Err f → schema_of bytes ≡ Err (Lex f)
+gives_lex : (bytes : List ℕ) (f : LexFault) → file_tokens_of most_text_bytes bytes ≡ Err f → schema_of bytes ≡ Err (Lex f)
 unfolding schema_of
 gives_lex bytes f e = rw e refl
 
-gives_unsupported : (bytes : List ℕ) (tokens : List Token) (k : List ℕ) → file_tokens_of MAX_TEXT_BYTES bytes ≡ Ok tokens → first_unsupported (lexemes_of tokens) ≡ Some k → schema_of bytes ≡ Err (Unsupported k)
+gives_unsupported : (bytes : List ℕ) (tokens : List Token) (k : List ℕ) → file_tokens_of most_text_bytes bytes ≡ Ok tokens → first_unsupported (lexemes_of tokens) ≡ Some k → schema_of bytes ≡ Err (Unsupported k)
 unfolding schema_of texts_of
 gives_unsupported bytes tokens k e h = rw (e, h) refl
 
@@ -82,15 +82,15 @@ unfolding checked
 gives_schema bytes texts t e h = gives_checked bytes texts t ∙ rw (e, h) refl
 
 data Outcome (bytes : List ℕ) : Type 0 where
-  lex : (f : LexFault) → file_tokens_of MAX_TEXT_BYTES bytes ≡ Err f → Outcome bytes
-  unsupported : (tokens : List Token) (k : List ℕ) → file_tokens_of MAX_TEXT_BYTES bytes ≡ Ok tokens → first_unsupported (lexemes_of tokens) ≡ Some k → Outcome bytes
+  lex : (f : LexFault) → file_tokens_of most_text_bytes bytes ≡ Err f → Outcome bytes
+  unsupported : (tokens : List Token) (k : List ℕ) → file_tokens_of most_text_bytes bytes ≡ Ok tokens → first_unsupported (lexemes_of tokens) ≡ Some k → Outcome bytes
   syntax : (tokens : List Token) (s : OfGrammar) → Words bytes tokens → tables_at (lexemes_of tokens) ≡ Err s → Outcome bytes
   nullable : (texts : List TableText) (table column : List ℕ) → Texts bytes texts → first_nullable (draft_of texts) ≡ Some (table, column) → Outcome bytes
   fault : (texts : List TableText) (f : SchemaFault) → Texts bytes texts → first_nullable (draft_of texts) ≡ None → first_fault (draft_of texts) ≡ Some f → Outcome bytes
   right : (texts : List TableText) → Texts bytes texts → first_nullable (draft_of texts) ≡ None → first_fault (draft_of texts) ≡ None → Outcome bytes
 
 outcome : (bytes : List ℕ) → Outcome bytes
-outcome bytes = of_tokens (file_tokens_of MAX_TEXT_BYTES bytes) refl
+outcome bytes = of_tokens (file_tokens_of most_text_bytes bytes) refl
   where
     of_fault : (texts : List TableText) → Texts bytes texts → first_nullable (draft_of texts) ≡ None → (o : Option SchemaFault) → first_fault (draft_of texts) ≡ o → Outcome bytes
     of_fault texts t n None e = right texts t n e
@@ -104,11 +104,11 @@ outcome bytes = of_tokens (file_tokens_of MAX_TEXT_BYTES bytes) refl
     of_tables tokens w (Err s) e = syntax tokens s w e
     of_tables tokens w (Ok texts) e = of_null texts (record { tokens = tokens; words = w; parsed = e }) (first_nullable (draft_of texts)) refl
 
-    of_scan : (tokens : List Token) → file_tokens_of MAX_TEXT_BYTES bytes ≡ Ok tokens → (o : Option (List ℕ)) → first_unsupported (lexemes_of tokens) ≡ o → Outcome bytes
+    of_scan : (tokens : List Token) → file_tokens_of most_text_bytes bytes ≡ Ok tokens → (o : Option (List ℕ)) → first_unsupported (lexemes_of tokens) ≡ o → Outcome bytes
     of_scan tokens r (Some k) e = unsupported tokens k r e
     of_scan tokens r None e = of_tables tokens (record { read = r; supported = e }) (tables_at (lexemes_of tokens)) refl
 
-    of_tokens : (r : Result (List Token) LexFault) → file_tokens_of MAX_TEXT_BYTES bytes ≡ r → Outcome bytes
+    of_tokens : (r : Result (List Token) LexFault) → file_tokens_of most_text_bytes bytes ≡ r → Outcome bytes
     of_tokens (Err f) e = lex f e
     of_tokens (Ok tokens) e = of_scan tokens e (first_unsupported (lexemes_of tokens)) refl
 
@@ -186,10 +186,10 @@ schema_complete bytes s h =
 pub one_schema : (bytes : List ℕ) (s t : Schema) → ReadsSchema bytes s → ReadsSchema bytes t → s ≡ t
 one_schema bytes s t a b = schemas s t (sym (schema_complete bytes s a) ∙ schema_complete bytes t b)
 
-pub lex_sound : (bytes : List ℕ) (g : LexFault) → schema_of bytes ≡ Err (Lex g) → file_tokens_of MAX_TEXT_BYTES bytes ≡ Err g
+pub lex_sound : (bytes : List ℕ) (g : LexFault) → schema_of bytes ≡ Err (Lex g) → file_tokens_of most_text_bytes bytes ≡ Err g
 lex_sound bytes g e = of (outcome bytes)
   where
-    of : Outcome bytes → file_tokens_of MAX_TEXT_BYTES bytes ≡ Err g
+    of : Outcome bytes → file_tokens_of most_text_bytes bytes ≡ Err g
     of (lex f h) = let found = sym (gives_lex bytes f h) ∙ e in let same : f ≡ g = cc in h ∙ ap (λ (x : LexFault). Err x) same
     of (unsupported tokens k r h) = let wrong = sym (gives_unsupported bytes tokens k r h) ∙ e in cc
     of (syntax tokens s w h) = let wrong = sym (gives_syntax bytes tokens s w h) ∙ e in cc
@@ -197,7 +197,7 @@ lex_sound bytes g e = of (outcome bytes)
     of (fault texts f t n h) = let wrong = sym (gives_fault bytes texts f t n h) ∙ e in cc
     of (right texts t n h) = let wrong = sym (gives_schema bytes texts t n h) ∙ e in cc
 
-pub lex_complete : (bytes : List ℕ) (g : LexFault) → file_tokens_of MAX_TEXT_BYTES bytes ≡ Err g → schema_of bytes ≡ Err (Lex g)
+pub lex_complete : (bytes : List ℕ) (g : LexFault) → file_tokens_of most_text_bytes bytes ≡ Err g → schema_of bytes ≡ Err (Lex g)
 lex_complete bytes g e = gives_lex bytes g e
 
 pub unsupported_sound : (bytes word : List ℕ) → schema_of bytes ≡ Err (Unsupported word) → HasUnsupported bytes word

@@ -7,7 +7,7 @@ use Rattle.ba_lex.specs.declared.token.Lexeme.{Lexeme}
 use Rattle.ba_lex.specs.declared.token.Token.{Token}
 use Rattle.ba_model.specs.SchemaFaults.{AreTables, IsFirstFault}
 use Rattle.ba_model.specs.declared.check_schema.SchemaFault.{SchemaFault}
-use Rattle.ba_model.specs.declared.limits.TheConstants.{MAX_TEXT_BYTES}
+use Rattle.ba_model.specs.Limits.{most_text_bytes}
 use Rattle.ba_model.specs.declared.schema.Column.{Column}
 use Rattle.ba_model.specs.declared.schema.Link.{Link}
 use Rattle.ba_model.specs.declared.schema.Schema.{Schema}
@@ -26,7 +26,7 @@ use Rattle.ba_sql_ddl.specs.declared.written.TableText.{TableText}
 -- the file has at most so many bytes, and its tokens say these words
 pub record AreWords (bytes : List ℕ) (words : List Lexeme) : Type 0 where
   pub tokens : List Token
-  pub read : file_tokens_of MAX_TEXT_BYTES bytes ≡ Ok tokens
+  pub read : file_tokens_of most_text_bytes bytes ≡ Ok tokens
   pub say : words ≡ lexemes_of tokens
 
 -- the file's words are these tables, and no word is unsupported
@@ -134,7 +134,7 @@ abbrev pub SchemaIsUnique : Type 0
 SchemaIsUnique = (bytes : List ℕ) (s t : Schema) → ReadsSchema bytes s → ReadsSchema bytes t → s ≡ t
 
 abbrev pub LexFaultReading : Type 0
-LexFaultReading = (bytes : List ℕ) (fault : LexFault) → (schema_of bytes ≡ Err (Lex fault)) ↔ (file_tokens_of MAX_TEXT_BYTES bytes ≡ Err fault)
+LexFaultReading = (bytes : List ℕ) (fault : LexFault) → (schema_of bytes ≡ Err (Lex fault)) ↔ (file_tokens_of most_text_bytes bytes ≡ Err fault)
 
 abbrev pub UnsupportedReading : Type 0
 UnsupportedReading = (bytes word : List ℕ) → (schema_of bytes ≡ Err (Unsupported word)) ↔ HasUnsupported bytes word

@@ -3,7 +3,7 @@ use Rattle.std.specs.Prelude.{ℕ, List, Option, Some, None, Result, Err}
 use Rattle.ba_lex.specs.Tokens.{file_tokens_of, lexemes_of}
 use Rattle.ba_lex.specs.declared.token.Lexeme.{Lexeme}
 use Rattle.ba_model.specs.Readings.{◌>>=◌, widened}
-use Rattle.ba_model.specs.declared.limits.TheConstants.{MAX_TEXT_BYTES}
+use Rattle.ba_model.specs.Limits.{most_text_bytes}
 use Rattle.ba_model.specs.declared.schema.Schema.{Schema}
 use Rattle.ba_sql_ddl.specs.Check.{checked}
 use Rattle.ba_sql_ddl.specs.Meaning.{draft_of}
@@ -24,6 +24,6 @@ texts_of words = unless (first_unsupported words) (widened (λ e. Syntax) (table
 -- a file of at most so many bytes
 unfoldable pub schema_of : List ℕ → Result Schema DdlFault
 schema_of bytes = do
-  tokens ← widened Lex (file_tokens_of MAX_TEXT_BYTES bytes)
+  tokens ← widened Lex (file_tokens_of most_text_bytes bytes)
   texts ← texts_of (lexemes_of tokens)
   checked (draft_of texts)

@@ -2,7 +2,7 @@
 use Rattle.std.proofs.Common.{List, sym, subst}
 use Rattle.std.specs.List.{All}
 use Rattle.ba_lex.specs.declared.token.Lexeme.{Lexeme}
-use Rattle.ba_model.specs.declared.limits.TheConstants.{MAX_QUERY_BYTES}
+use Rattle.ba_model.specs.Limits.{most_query_bytes}
 use Rattle.ba_model.specs.declared.policy.Parameter.{Parameter}
 use Rattle.ba_model.specs.declared.query.Query.{Query}
 use Rattle.ba_model.specs.declared.schema.Schema.{Schema}
@@ -40,5 +40,5 @@ words_read s p q h =
 
 pub printed_reads : (s : Schema) (p : List Parameter) (q : Query) → IsPrintable s p q → ReadsQuery s p (query_text s p q) q
 printed_reads s p q h =
-    let words = printed_words s p q MAX_QUERY_BYTES h.spelling h.short in
+    let words = printed_words s p q most_query_bytes h.spelling h.short in
     record { tokens = words.tokens; are = words.read; reads = subst (λ (ws : List Lexeme). ReadsWords s p ws q) (sym words.say) (words_read s p q h) }

@@ -1,7 +1,7 @@
 -- A printed query reads back as itself.
 use Rattle.std.specs.Prelude.{◌≡◌, ◌≤◌, ◌^◌, All, List, length, map, Ok}
 use Rattle.ba_model.specs.SchemaFaults.{AreDistinct, AreTables, column_names, table_names}
-use Rattle.ba_model.specs.declared.limits.TheConstants.{MAX_QUERY_BYTES}
+use Rattle.ba_model.specs.Limits.{most_query_bytes}
 use Rattle.ba_model.specs.declared.policy.Parameter.{Parameter}
 use Rattle.ba_model.specs.declared.query.Atom.{Atom}
 use Rattle.ba_model.specs.declared.query.Op.{Op}
@@ -44,7 +44,7 @@ pub record IsPrintable (schema : Schema) (params : List Parameter) (query : Quer
   pub tables : AreNamedApart schema.tables
   pub params_apart : AreDistinct (map (λ parameter. parameter.name) params)
   pub comparisons : All HasComparisons query.parts
-  pub short : length (query_text schema params query) ≤ MAX_QUERY_BYTES
+  pub short : length (query_text schema params query) ≤ most_query_bytes
 
 abbrev pub PrintedQueryReadsBack : Type 0
 PrintedQueryReadsBack = (schema : Schema) (params : List Parameter) (query : Query) → IsPrintable schema params query

@@ -5,7 +5,7 @@ use Rattle.std.proofs.lemmas.Bool.{le-leb, leb-false, leb-true}
 use Rattle.std.proofs.lemmas.Bool.Decides.{nat_tests}
 use Rattle.std.proofs.lemmas.List.{length-append, length-map}
 use Rattle.std.proofs.lemmas.List.Folds.{list_all-append}
-use Rattle.ba_model.specs.declared.limits.TheConstants.{MAX_ATOMS, MAX_HEAD, MAX_PART_TABLES}
+use Rattle.ba_model.specs.Limits.{most_atoms, most_head, most_part_tables}
 use Rattle.ba_model.specs.declared.query.Atom.{Atom}
 use Rattle.ba_model.specs.QueryFaults as faults
 use Rattle.ba_model.specs.declared.query.Operand.{Operand}
@@ -199,18 +199,18 @@ some_parts : (k : ℕ) → (min (suc k) 33 == 0) ≡ false
 some_parts k = grind (arith, nat_tests)
 
 abbrev limits_by : ResolvedSelect → Bool → Bool
-limits_by select b = nat_le (length select.from) MAX_PART_TABLES && (b && nat_le (length select.head) MAX_HEAD)
+limits_by select b = nat_le (length select.from) most_part_tables && (b && nat_le (length select.head) most_head)
 
-fits_some : (select : ResolvedSelect) (k l : ℕ) → fits_by select (count_with (min (suc k) 33) l) ≡ limits_by select (nat_le l MAX_ATOMS)
+fits_some : (select : ResolvedSelect) (k l : ℕ) → fits_by select (count_with (min (suc k) 33) l) ≡ limits_by select (nat_le l most_atoms)
 fits_some select k l = rw (some_parts k) refl
 
 within_by : (select : ResolvedSelect) (ms : List (List Atom)) → fits_by select (measure ms) ≡ list_all faults.part_within (map (part_of select) ms)
 within_by select [] = refl
-within_by select (m ∷ []) = rw (limit_max (length m) 0) (and_true_limit (nat_le (length select.from) MAX_PART_TABLES) (nat_le (length m) MAX_ATOMS) (nat_le (length select.head) MAX_HEAD))
+within_by select (m ∷ []) = rw (limit_max (length m) 0) (and_true_limit (nat_le (length select.from) most_part_tables) (nat_le (length m) most_atoms) (nat_le (length select.head) most_head))
 within_by select (m ∷ n ∷ ns) =
     fits_some select (suc (length ns)) (min (longest (m ∷ n ∷ ns)) 65)
     ∙ ap (limits_by select) (limit_max (length m) (longest (n ∷ ns)))
-    ∙ both_limits (nat_le (length select.from) MAX_PART_TABLES) (nat_le (length m) MAX_ATOMS) (nat_le (min (longest (n ∷ ns)) 65) MAX_ATOMS) (nat_le (length select.head) MAX_HEAD)
+    ∙ both_limits (nat_le (length select.from) most_part_tables) (nat_le (length m) most_atoms) (nat_le (min (longest (n ∷ ns)) 65) most_atoms) (nat_le (length select.head) most_head)
     ∙ ap (λ (b : Bool). faults.part_within (part_of select m) && b) (sym (fits_some select (length ns) (min (longest (n ∷ ns)) 65)) ∙ within_by select (n ∷ ns))
 
 pub fits_count : (select : ResolvedSelect) → fits_by select (measure (members select.condition)) ≡ list_all faults.part_within (select_parts select)

@@ -11,7 +11,7 @@ use Rattle.ba_model.specs.Fit.{kinds_of}
 use Rattle.ba_model.specs.QueryFaults as faults
 use Rattle.ba_model.specs.Readings.{◌>>=◌, widened}
 use Rattle.ba_model.specs.declared.check_query.QueryFault.TheVariants as drafts
-use Rattle.ba_model.specs.declared.limits.TheConstants.{MAX_QUERY_BYTES}
+use Rattle.ba_model.specs.Limits.{most_query_bytes}
 use Rattle.ba_model.specs.declared.policy.Parameter.{Parameter}
 use Rattle.ba_model.specs.declared.query.Part.{Part}
 use Rattle.ba_model.specs.declared.query.Query.{Query}
@@ -61,7 +61,7 @@ module _ (schema : Schema) (params : List Parameter) (text : List ℕ) where
       same a b e = cc
 
   words_one : (ws vs : List Lexeme) → HasWords text ws → HasWords text vs → ws ≡ vs
-  words_one ws vs a b = sym a.say ∙ ap lexemes_of (same_words (tokens_of MAX_QUERY_BYTES text) a.tokens b.tokens a.are b.are) ∙ b.say
+  words_one ws vs a b = sym a.say ∙ ap lexemes_of (same_words (tokens_of most_query_bytes text) a.tokens b.tokens a.are b.are) ∙ b.say
 
   writes_one : (t u : QueryText) → Writes text t → Writes text u → t ≡ u
   writes_one t u a b =
@@ -106,7 +106,7 @@ module _ (schema : Schema) (params : List Parameter) (text : List ℕ) where
 
   -- ---- tokens and grammar
 
-  at_tokens : (x : LexFault) → tokens_of MAX_QUERY_BYTES text ≡ Err x → IsFirstFault (Lex x) schema params text
+  at_tokens : (x : LexFault) → tokens_of most_query_bytes text ≡ Err x → IsFirstFault (Lex x) schema params text
   unfolding rank
   at_tokens x e = record { has = e; first = λ g lt. absurd (omega (arith, lt)) }
 
@@ -351,10 +351,10 @@ module _ (schema : Schema) (params : List Parameter) (text : List ℕ) where
   unfolding query_of_words
   of_words words f has h = of_syntax words f has (written_of words) refl h
 
-  of_tokens : (f : ReadQueryFault) (r : Result (List Token) LexFault) → tokens_of MAX_QUERY_BYTES text ≡ r → (widened lex_fault r >>= λ tokens. query_of_words schema params (lexemes_of tokens)) ≡ Err f → IsFirstFault f schema params text
+  of_tokens : (f : ReadQueryFault) (r : Result (List Token) LexFault) → tokens_of most_query_bytes text ≡ r → (widened lex_fault r >>= λ tokens. query_of_words schema params (lexemes_of tokens)) ≡ Err f → IsFirstFault f schema params text
   of_tokens f (Ok ts) e h = of_words (lexemes_of ts) f (record { tokens = ts; are = e; say = refl }) h
   of_tokens f (Err x) e h = subst (λ (k : ReadQueryFault). IsFirstFault k schema params text) (err_same h) (at_tokens x e)
 
   pub first_fault : (f : ReadQueryFault) → query_of schema params text ≡ Err f → IsFirstFault f schema params text
   unfolding query_of
-  first_fault f h = of_tokens f (tokens_of MAX_QUERY_BYTES text) refl h
+  first_fault f h = of_tokens f (tokens_of most_query_bytes text) refl h

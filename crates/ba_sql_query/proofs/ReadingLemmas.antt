@@ -10,7 +10,7 @@ use Rattle.ba_model.specs.Fit.{kind_of, kinds_of}
 use Rattle.ba_model.specs.QueryFaults as faults
 use Rattle.ba_model.specs.Readings.{Gives, widened}
 use Rattle.ba_model.specs.declared.failure.Failure.{Failure}
-use Rattle.ba_model.specs.declared.limits.TheConstants.{MAX_QUERY_BYTES}
+use Rattle.ba_model.specs.Limits.{most_query_bytes}
 use Rattle.ba_model.specs.declared.policy.Parameter.{Parameter}
 use Rattle.ba_model.specs.declared.query.Operand.{Operand}
 use Rattle.ba_model.specs.declared.query.Part.{Part}
@@ -217,8 +217,8 @@ module _ (schema : Schema) (params : List Parameter) where
   pub text_sound : (text : List ℕ) (q : Query) → query_of schema params text ≡ Ok q → ReadsQuery schema params text q
   unfolding query_of
   text_sound text q e =
-      let a = bind_ok (widened lex_fault (tokens_of MAX_QUERY_BYTES text)) (λ tokens. query_of_words schema params (lexemes_of tokens)) q e in
-      record { tokens = a.0; are = widened_ok lex_fault (tokens_of MAX_QUERY_BYTES text) a.0 a.1; reads = words_sound (lexemes_of a.0) q a.2 }
+      let a = bind_ok (widened lex_fault (tokens_of most_query_bytes text)) (λ tokens. query_of_words schema params (lexemes_of tokens)) q e in
+      record { tokens = a.0; are = widened_ok lex_fault (tokens_of most_query_bytes text) a.0 a.1; reads = words_sound (lexemes_of a.0) q a.2 }
 
   pub text_complete : (text : List ℕ) (q : Query) → ReadsQuery schema params text q → query_of schema params text ≡ Ok q
   unfolding query_of

@@ -8,7 +8,7 @@ use Rattle.ba_model.specs.Fit.{kinds_of}
 use Rattle.ba_model.specs.QueryFaults as faults
 use Rattle.ba_model.specs.declared.check_query.QueryFault.{QueryFault}
 use Rattle.ba_model.specs.declared.check_query.QueryFault.TheVariants as drafts
-use Rattle.ba_model.specs.declared.limits.TheConstants.{MAX_QUERY_BYTES}
+use Rattle.ba_model.specs.Limits.{most_query_bytes}
 use Rattle.ba_model.specs.declared.policy.Parameter.{Parameter}
 use Rattle.ba_model.specs.declared.query.Part.{Part}
 use Rattle.ba_model.specs.declared.schema.Schema.{Schema}
@@ -27,7 +27,7 @@ use Rattle.ba_sql_query.specs.declared.resolved.ResolvedSelect.{ResolvedSelect}
 -- the text's tokens say the words
 pub record HasWords (text : List ℕ) (words : List Lexeme) : Type 0 where
   pub tokens : List Token
-  pub are : tokens_of MAX_QUERY_BYTES text ≡ Ok tokens
+  pub are : tokens_of most_query_bytes text ≡ Ok tokens
   pub say : lexemes_of tokens ≡ words
 
 -- its words are supported, and spell what is written
@@ -93,7 +93,7 @@ Lacks TooMany schema params text = CountsLack schema params text
 
 -- it has the fault; of unsupported words that is the first
 abbrev pub Has : ReadQueryFault → Schema → List Parameter → List ℕ → Type 0
-Has (Lex f) schema params text = tokens_of MAX_QUERY_BYTES text ≡ Err f
+Has (Lex f) schema params text = tokens_of most_query_bytes text ≡ Err f
 Has (Unsupported w) schema params text = (words : List Lexeme) × HasWords text words × IsFirstUnsupported words w
 Has Syntax schema params text = ¬ Lacks Syntax schema params text
 Has UnknownTable schema params text = ¬ Lacks UnknownTable schema params text

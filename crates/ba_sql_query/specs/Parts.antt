@@ -1,7 +1,7 @@
 -- The parts of selects whose names are numbers: the disjunctive form of each condition.
 use Rattle.std.specs.Prelude.{ℕ, suc, ◌+◌, ◌*◌, Bool, ◌==◌, ◌||◌, ◌&&◌, nat_le, List, [], ◌∷◌, ◌++◌, map, length, min, max, if◌then◌else◌}
 use Rattle.std.specs.List.{flat_map}
-use Rattle.ba_model.specs.declared.limits.TheConstants.{MAX_ATOMS, MAX_HEAD, MAX_PARTS, MAX_PART_TABLES}
+use Rattle.ba_model.specs.Limits.{most_atoms, most_head, most_part_tables, most_parts}
 use Rattle.ba_model.specs.declared.query.Atom.{Atom}
 use Rattle.ba_model.specs.declared.query.Op.TheVariants.{Eq}
 use Rattle.ba_model.specs.declared.query.Operand.{Operand}
@@ -89,18 +89,18 @@ longest [] = 0
 longest (m ∷ ms) = max (length m) (longest ms)
 
 abbrev pub measure : List (List Atom) → Count
-measure ms = record { parts = min (length ms) (suc MAX_PARTS); longest = min (longest ms) (suc MAX_ATOMS) }
+measure ms = record { parts = min (length ms) (suc most_parts); longest = min (longest ms) (suc most_atoms) }
 
 abbrev pub count_of : ResolvedTest → Count
 count_of (One atom) = record { parts = 1; longest = 1 }
-count_of (Among side among) = record { parts = min (length among) (suc MAX_PARTS); longest = min (length among) 1 }
+count_of (Among side among) = record { parts = min (length among) (suc most_parts); longest = min (length among) 1 }
 
 -- of the product; of no members the longest has no atoms
 abbrev pub count_both : Count → Count → Count
-count_both a b = record { parts = min (a.parts * b.parts) (suc MAX_PARTS); longest = if a.parts * b.parts == 0 then 0 else min (a.longest + b.longest) (suc MAX_ATOMS) }
+count_both a b = record { parts = min (a.parts * b.parts) (suc most_parts); longest = if a.parts * b.parts == 0 then 0 else min (a.longest + b.longest) (suc most_atoms) }
 
 abbrev pub count_either : Count → Count → Count
-count_either a b = record { parts = min (a.parts + b.parts) (suc MAX_PARTS); longest = max a.longest b.longest }
+count_either a b = record { parts = min (a.parts + b.parts) (suc most_parts); longest = max a.longest b.longest }
 
 abbrev pub count_join : List Count → List Count
 count_join [] = []
@@ -128,4 +128,4 @@ count_top (c ∷ stack) = c
 -- whether each part of a select with this count is within the limits
 abbrev pub fits_by : ResolvedSelect → Count → Bool
 fits_by select count =
-    (count.parts == 0) || (nat_le (length select.from) MAX_PART_TABLES && (nat_le count.longest MAX_ATOMS && nat_le (length select.head) MAX_HEAD))
+    (count.parts == 0) || (nat_le (length select.from) most_part_tables && (nat_le count.longest most_atoms && nat_le (length select.head) most_head))

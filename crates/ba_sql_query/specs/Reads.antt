@@ -8,7 +8,7 @@ use Rattle.ba_model.specs.Fit.{kinds_of}
 use Rattle.ba_model.specs.QueryFaults as faults
 use Rattle.ba_model.specs.SchemaFaults.{columns_of}
 use Rattle.ba_model.specs.declared.check_query.QueryFault.TheVariants as drafts
-use Rattle.ba_model.specs.declared.limits.TheConstants.{MAX_QUERY_BYTES}
+use Rattle.ba_model.specs.Limits.{most_query_bytes}
 use Rattle.ba_model.specs.declared.policy.Parameter.{Parameter}
 use Rattle.ba_model.specs.declared.query.Atom.{Atom}
 use Rattle.ba_model.specs.declared.query.Operand.{Operand}
@@ -198,10 +198,10 @@ pub record ReadsWords (schema : Schema) (params : List Parameter) (words : List 
   pub form : IsQueryText written words
   pub means : IsQueryOf schema params written q
 
--- the text has at most MAX_QUERY_BYTES bytes, and its tokens say the words
+-- the text has at most most_query_bytes bytes, and its tokens say the words
 pub record ReadsQuery (schema : Schema) (params : List Parameter) (text : List ℕ) (q : Query) : Type 0 where
   pub tokens : List Token
-  pub are : tokens_of MAX_QUERY_BYTES text ≡ Ok tokens
+  pub are : tokens_of most_query_bytes text ≡ Ok tokens
   pub reads : ReadsWords schema params (lexemes_of tokens) q
 
 -- words, and a text, are read as exactly what they read as

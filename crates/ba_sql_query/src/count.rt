@@ -2,7 +2,7 @@
 ghost use Rattle.std.specs.Prelude.{◌≡◌, [], IfOk, OnOk, length, min, not, reverse, suc};
 ghost use Rattle.std.specs.List.{list_all};
 ghost use Rattle.ba_model.specs.QueryFaults as faults;
-ghost use Rattle.ba_model.specs.declared.limits.TheConstants.{MAX_PARTS};
+ghost use Rattle.ba_model.specs.Limits.{most_parts};
 ghost use Rattle.ba_sql_query.specs.Parts.{count_after, count_both, count_either, count_join, count_of, count_run, count_sum, count_top, fits_by, measure, members, parts_of};
 
 use crate::resolved::{ResolvedNode, ResolvedSelect, ResolvedTest};
@@ -152,7 +152,7 @@ fn fits(select: &ResolvedSelect, count: Count) -> bool
 
 fn total_of(alloc: Global, selects: &[ResolvedSelect]) -> Result<Total, AllocError>
     ensures parts { IfOk result
-        (λ total. total.parts ≡ min (length (parts_of selects.now)) (suc MAX_PARTS)) }
+        (λ total. total.parts ≡ min (length (parts_of selects.now)) (suc most_parts)) }
     ensures fits { IfOk result
         (λ total. total.fits ≡ list_all faults.part_within (parts_of selects.now)) }
 {

@@ -16,7 +16,7 @@ use Rattle.ba_model.specs.declared.schema.Table.{Table}
 use Rattle.ba_model.specs.declared.value.Value.{Value}
 use Rattle.ba_model.specs.declared.value.Value.TheVariants.{Int}
 use Rattle.ba_model.specs.Readings.{◌>>=◌}
-use Rattle.ba_model.specs.declared.limits.TheConstants.{MAX_ROWS}
+use Rattle.ba_model.specs.Limits.{most_rows}
 use Rattle.ba_tables.specs.FileFaults.{HasBadHeader, HasOtherWidth, HasTooMany, IsFirstBad, IsNoText, LacksNumber, TellsHeader, TellsNumber, TellsTooMany, TellsUtf8, TellsWidth}
 use Rattle.ba_tables.specs.Spelling.{Spells, SpellsNumber, SpellsRow}
 use Rattle.ba_tables.specs.TableFile.{is_header, names_of, number_of, row_at, rows_from, rows_of_file, rows_of_lines, rows_of_rest, value_at, values_from, within_limit}
@@ -247,7 +247,7 @@ FileFault table bytes BadHeader = HasBadHeader table bytes
 FileFault table bytes (BadWidth row) = IsFirstBad HasOtherWidth table bytes row
 FileFault table bytes (BadUtf8 row) = IsFirstBad IsNoText table bytes row
 FileFault table bytes (BadNumber row column) = IsFirstBad (LacksNumber column) table bytes row
-FileFault table bytes (TooMany limit) = (limit ≡ MAX_ROWS) × HasTooMany table bytes
+FileFault table bytes (TooMany limit) = (limit ≡ most_rows) × HasTooMany table bytes
 
 first_bad : (Bad : List Column → List (List ℕ) → Type 0) (table : Table) (bytes : List ℕ) (lines : List (List (List ℕ))) (f : TableFault) (row : ℕ) (h : FirstBad 1 table.columns lines f)
     → records default_config (strip_bom bytes) ≡ names_of table.columns ∷ lines → row ≡ 1 + length h.before → Bad table.columns h.line → IsFirstBad Bad table bytes row
@@ -271,13 +271,13 @@ file_bad table bytes lines (BadNumber row column) header h = first_bad (LacksNum
 
 file_many : (table : Table) (bytes : List ℕ) (lines : List (List (List ℕ))) (all : List (List Value)) (f : TableFault) → records default_config (strip_bom bytes) ≡ names_of table.columns ∷ lines
     → rows_from 1 table.columns lines ≡ Ok all → within_limit all ≡ Err f → FileFault table bytes f
-file_many table bytes lines all f header read e = by (nat_le (length all) MAX_ROWS) refl e
+file_many table bytes lines all f header read e = by (nat_le (length all) most_rows) refl e
   where
-    by : (b : Bool) → nat_le (length all) MAX_ROWS ≡ b → cond b (Ok all) (Err (TooMany MAX_ROWS)) ≡ Err f → FileFault table bytes f
+    by : (b : Bool) → nat_le (length all) most_rows ≡ b → cond b (Ok all) (Err (TooMany most_rows)) ≡ Err f → FileFault table bytes f
     by true t g = cc g
     by false t g =
-        let above : MAX_ROWS < length all = grind (arith, nat_tests) in
-        subst (FileFault table bytes) (err_same (TooMany MAX_ROWS) f g) (refl, record { lines = lines; header = header; rows = all; rows_are = rows_spell 1 table.columns lines all read; many = above })
+        let above : most_rows < length all = grind (arith, nat_tests) in
+        subst (FileFault table bytes) (err_same (TooMany most_rows) f g) (refl, record { lines = lines; header = header; rows = all; rows_are = rows_spell 1 table.columns lines all read; many = above })
 
 rest_fault : (table : Table) (bytes : List ℕ) (lines : List (List (List ℕ))) (f : TableFault) → records default_config (strip_bom bytes) ≡ names_of table.columns ∷ lines → rows_of_rest table.columns lines ≡ Err f → FileFault table bytes f
 rest_fault table bytes lines f header e = by (rows_from 1 table.columns lines) refl e
@@ -338,7 +338,7 @@ fault_file table bytes (BadNumber row column) h = bad_file (LacksNumber column) 
 fault_file table bytes (TooMany limit) h =
     let m = h.1 in
     rest_is table bytes m.lines m.header
-    ∙ rw (spells_rows 1 table.columns m.lines m.rows m.rows_are, beyond (length m.rows) MAX_ROWS m.many) (ap (λ (n : ℕ). Err (TooMany n)) (sym h.0))
+    ∙ rw (spells_rows 1 table.columns m.lines m.rows m.rows_are, beyond (length m.rows) most_rows m.many) (ap (λ (n : ℕ). Err (TooMany n)) (sym h.0))
 
 pub tells_header : TellsHeader
 tells_header table bytes = (file_fault table bytes BadHeader, fault_file table bytes BadHeader)

@@ -7,7 +7,7 @@ use Rattle.ba_model.specs.declared.schema.Column.{Column}
 use Rattle.ba_model.specs.declared.schema.Table.{Table}
 use Rattle.ba_model.specs.declared.value.Value.{Value}
 use Rattle.ba_model.specs.Readings.{◌>>=◌, Fails}
-use Rattle.ba_model.specs.declared.limits.TheConstants.{MAX_ROWS}
+use Rattle.ba_model.specs.Limits.{most_rows}
 use Rattle.ba_tables.specs.TableFile.{row_at, is_header, rows_from, rows_of_file, rows_of_lines, rows_of_rest, within_limit}
 use Rattle.ba_model.specs.declared.failure.Failure.{Failure}
 use Rattle.ba_model.specs.declared.failure.Failure.TheVariants.{NoMemory, Fault}
@@ -18,7 +18,7 @@ use Rattle.ba_tables.proofs.FrontLemmas.{regroup, with_front, with_none}
 -- the rows before this one were read, and those within the limit are kept
 pub record Kept (cs : List Column) (start lines : List (List (List ℕ))) (rows : List (List Value)) (row : ℕ) : Type 0 where
   pub all : List (List Value)
-  pub kept : rows ≡ take MAX_ROWS all
+  pub kept : rows ≡ take most_rows all
   pub count : row ≡ length all + 1
   pub so_far : with_front all (rows_from row cs lines) ≡ rows_from 1 cs start
 
@@ -28,7 +28,7 @@ take_none n = sym (take_all n [] (omega arith))
 pub none_kept : (cs : List Column) (start : List (List (List ℕ))) → Kept cs start start [] 1
 none_kept cs start = record {
   all = [];
-  kept = take_none MAX_ROWS;
+  kept = take_none most_rows;
   count = omega arith;
   so_far = with_none (rows_from 1 cs start);
 }
@@ -42,26 +42,26 @@ count_next : (all : List (List Value)) (v : List Value) (row : ℕ) → row ≡ 
 count_next all v row e = omega (arith, length-append all (v ∷ []))
 
 pub one_kept : (cs : List Column) (start lines rest : List (List (List ℕ))) (rows : List (List Value)) (row : ℕ) (line : List (List ℕ)) (v : List Value) → Kept cs start lines rows row → lines ≡ line ∷ rest → row_at row cs line ≡ Ok v
-    → row ≤ MAX_ROWS → Kept cs start rest (rows ++ v ∷ []) (row + 1)
+    → row ≤ most_rows → Kept cs start rest (rows ++ v ∷ []) (row + 1)
 one_kept cs start lines rest rows row line v h e r within =
     let count = h.count in
-    let short : length h.all ≤ MAX_ROWS = omega arith in
-    let longer : length (h.all ++ v ∷ []) ≤ MAX_ROWS = omega (arith, length-append h.all (v ∷ [])) in
+    let short : length h.all ≤ most_rows = omega arith in
+    let longer : length (h.all ++ v ∷ []) ≤ most_rows = omega (arith, length-append h.all (v ∷ [])) in
     record {
       all = h.all ++ v ∷ [];
-      kept = rw (h.kept, take_all MAX_ROWS h.all short) (sym (take_all MAX_ROWS (h.all ++ v ∷ []) longer));
+      kept = rw (h.kept, take_all most_rows h.all short) (sym (take_all most_rows (h.all ++ v ∷ []) longer));
       count = count_next h.all v row count;
       so_far = next_row h.all row cs line rest v (rows_from 1 cs start) r (rw e at h.so_far);
     }
 
 pub one_dropped : (cs : List Column) (start lines rest : List (List (List ℕ))) (rows : List (List Value)) (row : ℕ) (line : List (List ℕ)) (v : List Value) → Kept cs start lines rows row → lines ≡ line ∷ rest → row_at row cs line ≡ Ok v
-    → MAX_ROWS < row → Kept cs start rest rows (row + 1)
+    → most_rows < row → Kept cs start rest rows (row + 1)
 one_dropped cs start lines rest rows row line v h e r above =
     let count = h.count in
-    let long : MAX_ROWS ≤ length h.all = omega arith in
+    let long : most_rows ≤ length h.all = omega arith in
     record {
       all = h.all ++ v ∷ [];
-      kept = h.kept ∙ sym (take-append-le MAX_ROWS h.all (v ∷ []) long);
+      kept = h.kept ∙ sym (take-append-le most_rows h.all (v ∷ []) long);
       count = count_next h.all v row count;
       so_far = next_row h.all row cs line rest v (rows_from 1 cs start) r (rw e at h.so_far);
     }
@@ -93,17 +93,17 @@ pub beyond : (n m : ℕ) → m < n → nat_le n m ≡ false
 beyond n m h = grind (arith, nat_tests)
 
 -- after the last row
-pub all_kept : (cs : List Column) (start lines : List (List (List ℕ))) (rows : List (List Value)) (row : ℕ) → Kept cs start lines rows row → lines ≡ [] → row - 1 ≤ MAX_ROWS → rows_of_rest cs start ≡ Ok rows
+pub all_kept : (cs : List Column) (start lines : List (List (List ℕ))) (rows : List (List Value)) (row : ℕ) → Kept cs start lines rows row → lines ≡ [] → row - 1 ≤ most_rows → rows_of_rest cs start ≡ Ok rows
 all_kept cs start lines rows row h none few =
     let count = h.count in
-    let short : length h.all ≤ MAX_ROWS = omega arith in
-    rw (no_rows h.all row cs (rows_from 1 cs start) (rw none at h.so_far), within (length h.all) MAX_ROWS short, h.kept, take_all MAX_ROWS h.all short) refl
+    let short : length h.all ≤ most_rows = omega arith in
+    rw (no_rows h.all row cs (rows_from 1 cs start) (rw none at h.so_far), within (length h.all) most_rows short, h.kept, take_all most_rows h.all short) refl
 
-pub too_many : (cs : List Column) (start lines : List (List (List ℕ))) (rows : List (List Value)) (row : ℕ) → Kept cs start lines rows row → lines ≡ [] → MAX_ROWS < row - 1 → rows_of_rest cs start ≡ Err (TooMany MAX_ROWS)
+pub too_many : (cs : List Column) (start lines : List (List (List ℕ))) (rows : List (List Value)) (row : ℕ) → Kept cs start lines rows row → lines ≡ [] → most_rows < row - 1 → rows_of_rest cs start ≡ Err (TooMany most_rows)
 too_many cs start lines rows row h none many =
     let count = h.count in
-    let long : MAX_ROWS < length h.all = omega arith in
-    rw (no_rows h.all row cs (rows_from 1 cs start) (rw none at h.so_far), beyond (length h.all) MAX_ROWS long) refl
+    let long : most_rows < length h.all = omega arith in
+    rw (no_rows h.all row cs (rows_from 1 cs start) (rw none at h.so_far), beyond (length h.all) most_rows long) refl
 
 -- the header
 pub file_is : (table : Table) (bytes : List ℕ) → rows_of_file table bytes ≡ rows_of_lines table.columns (records default_config (strip_bom bytes))

@@ -17,7 +17,7 @@ use Rattle.ba_model.specs.declared.schema.Table.{Table}
 use Rattle.ba_model.specs.declared.value.Value.{Value}
 use Rattle.ba_model.specs.declared.value.Value.TheVariants.{Int}
 use Rattle.ba_model.specs.Readings.{◌>>=◌}
-use Rattle.ba_model.specs.declared.limits.TheConstants.{MAX_ROWS}
+use Rattle.ba_model.specs.Limits.{most_rows}
 use Rattle.ba_tables.specs.Spelling.{IsDigits, ReadsAsSpelled, RowsAreUnique, Spells, SpellsNumber, SpellsRow, SpellsTable}
 use Rattle.ba_tables.specs.TableFile.{digits_up_to, is_header, names_of, number_of, row_at, rows_from, rows_of_file, rows_of_lines, rows_of_rest, value_at, values_from, within_limit}
 use Rattle.ba_tables.specs.declared.fault.TableFault.{TableFault}
@@ -160,10 +160,10 @@ header_told cs line e = (pointwise_decides bytes_eq-Decides line (names_of cs)).
 pub header_test : (cs : List Column) → is_header cs (names_of cs) ≡ true
 header_test cs = (pointwise_decides bytes_eq-Decides (names_of cs) (names_of cs)).1 refl
 
-passed : (all : List (List Value)) (rows : List (List Value)) → within_limit all ≡ Ok rows → (all ≡ rows) × (length all ≤ MAX_ROWS)
-passed all rows e = by (nat_le (length all) MAX_ROWS) refl e
+passed : (all : List (List Value)) (rows : List (List Value)) → within_limit all ≡ Ok rows → (all ≡ rows) × (length all ≤ most_rows)
+passed all rows e = by (nat_le (length all) most_rows) refl e
   where
-    by : (b : Bool) → nat_le (length all) MAX_ROWS ≡ b → cond b (Ok all) (Err (TooMany MAX_ROWS)) ≡ Ok rows → (all ≡ rows) × (length all ≤ MAX_ROWS)
+    by : (b : Bool) → nat_le (length all) most_rows ≡ b → cond b (Ok all) (Err (TooMany most_rows)) ≡ Ok rows → (all ≡ rows) × (length all ≤ most_rows)
     by true t g = (cc g, grind (arith, nat_tests))
     by false t g = cc g
 
@@ -171,7 +171,7 @@ record Lines (cs : List Column) (all : List (List (List ℕ))) (rows : List (Lis
   lines : List (List (List ℕ))
   header : all ≡ names_of cs ∷ lines
   rows_are : AllZip (SpellsRow cs) lines rows
-  few : length rows ≤ MAX_ROWS
+  few : length rows ≤ most_rows
 
 lines_spell : (cs : List Column) (all : List (List (List ℕ))) (rows : List (List Value)) → rows_of_lines cs all ≡ Ok rows → Lines cs all rows
 unfolding rows_of_lines
@@ -186,12 +186,12 @@ lines_spell cs (line ∷ lines) rows h = by (is_header cs line) refl h
           lines = lines;
           header = ap (λ l. l ∷ lines) (header_told cs line t);
           rows_are = rows_spell 1 cs lines rows (all.1 ∙ ap Ok p.0);
-          few = subst (λ x. length x ≤ MAX_ROWS) p.0 p.1;
+          few = subst (λ x. length x ≤ most_rows) p.0 p.1;
         }
     by false t g = cc g
 
-spells_lines : (cs : List Column) (all lines : List (List (List ℕ))) (rows : List (List Value)) → all ≡ names_of cs ∷ lines → AllZip (SpellsRow cs) lines rows → length rows ≤ MAX_ROWS → rows_of_lines cs all ≡ Ok rows
-spells_lines cs all lines rows e h few = rw (e, lines_are cs (names_of cs) lines, header_test cs, spells_rows 1 cs lines rows h, within (length rows) MAX_ROWS few) refl
+spells_lines : (cs : List Column) (all lines : List (List (List ℕ))) (rows : List (List Value)) → all ≡ names_of cs ∷ lines → AllZip (SpellsRow cs) lines rows → length rows ≤ most_rows → rows_of_lines cs all ≡ Ok rows
+spells_lines cs all lines rows e h few = rw (e, lines_are cs (names_of cs) lines, header_test cs, spells_rows 1 cs lines rows h, within (length rows) most_rows few) refl
 
 file_spells : (table : Table) (bytes : List ℕ) (rows : List (List Value)) → rows_of_file table bytes ≡ Ok rows → SpellsTable table bytes rows
 file_spells table bytes rows h =

@@ -7,7 +7,7 @@ use Rattle.ba_model.specs.declared.schema.Column.{Column}
 use Rattle.ba_model.specs.declared.schema.Kind.TheVariants.{Int as IntKind}
 use Rattle.ba_model.specs.declared.schema.Table.{Table}
 use Rattle.ba_model.specs.declared.value.Value.{Value}
-use Rattle.ba_model.specs.declared.limits.TheConstants.{MAX_ROWS}
+use Rattle.ba_model.specs.Limits.{most_rows}
 use Rattle.ba_tables.specs.Spelling.{SpellsNumber, SpellsRow}
 use Rattle.ba_tables.specs.TableFile.{names_of, rows_of_file}
 use Rattle.ba_tables.specs.declared.fault.TableFault.TheVariants.{BadHeader, BadWidth, BadUtf8, BadNumber, TooMany}
@@ -58,7 +58,7 @@ pub record HasTooMany (table : Table) (bytes : List ℕ) : Type 0 where
   pub header : records default_config (strip_bom bytes) ≡ names_of table.columns ∷ lines
   pub rows : List (List Value)
   pub rows_are : AllZip (SpellsRow table.columns) lines rows
-  pub many : MAX_ROWS < length rows
+  pub many : most_rows < length rows
 
 -- ---- the laws: each fault is told exactly where the file has it as its first
 
@@ -76,4 +76,4 @@ TellsNumber = (table : Table) (bytes : List ℕ) (row column : ℕ)
     → (rows_of_file table bytes ≡ Err (BadNumber row column)) ↔ IsFirstBad (LacksNumber column) table bytes row
 
 abbrev pub TellsTooMany : Type 0
-TellsTooMany = (table : Table) (bytes : List ℕ) (limit : ℕ) → (rows_of_file table bytes ≡ Err (TooMany limit)) ↔ ((limit ≡ MAX_ROWS) × HasTooMany table bytes)
+TellsTooMany = (table : Table) (bytes : List ℕ) (limit : ℕ) → (rows_of_file table bytes ≡ Err (TooMany limit)) ↔ ((limit ≡ most_rows) × HasTooMany table bytes)

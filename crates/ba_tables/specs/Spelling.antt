@@ -10,7 +10,7 @@ use Rattle.ba_model.specs.declared.schema.Kind.TheVariants.{Int as IntKind, Text
 use Rattle.ba_model.specs.declared.schema.Table.{Table}
 use Rattle.ba_model.specs.declared.value.Value.{Value}
 use Rattle.ba_model.specs.declared.value.Value.TheVariants.{Int, Text}
-use Rattle.ba_model.specs.declared.limits.TheConstants.{MAX_ROWS}
+use Rattle.ba_model.specs.Limits.{most_rows}
 use Rattle.ba_tables.specs.TableFile.{names_of, rows_of_file}
 
 -- one digit or more and nothing else
@@ -54,7 +54,7 @@ pub record SpellsTable (table : Table) (bytes : List ℕ) (rows : List (List Val
   pub lines : List (List (List ℕ))
   pub header : records default_config (strip_bom bytes) ≡ names_of table.columns ∷ lines
   pub rows_are : AllZip (SpellsRow table.columns) lines rows
-  pub few : length rows ≤ MAX_ROWS
+  pub few : length rows ≤ most_rows
 
 -- a file reads as rows exactly where it spells them
 abbrev pub ReadsAsSpelled : Type 0

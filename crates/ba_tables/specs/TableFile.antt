@@ -6,7 +6,7 @@ use Rattle.std.specs.Str.{all_ascii_digits, bytes_eq, is_utf8}
 use Rattle.std.specs.Str.Parse.{digits_value, starts_with_minus}
 use Rattle.csv.specs.Reading.{default_config, records, strip_bom}
 use Rattle.ba_model.specs.Readings.{◌>>=◌}
-use Rattle.ba_model.specs.declared.limits.TheConstants.{MAX_ROWS}
+use Rattle.ba_model.specs.Limits.{most_rows}
 use Rattle.ba_model.specs.declared.schema.Column.{Column}
 use Rattle.ba_model.specs.declared.schema.Kind.{Kind}
 use Rattle.ba_model.specs.declared.schema.Kind.TheVariants.{Int as IntKind, Text as TextKind}
@@ -56,7 +56,7 @@ rows_from row columns (line ∷ lines) = do
   Ok (values ∷ rows)
 
 abbrev pub within_limit : List (List Value) → Result (List (List Value)) TableFault
-within_limit rows = if nat_le (length rows) MAX_ROWS then Ok rows else Err (TooMany MAX_ROWS)
+within_limit rows = if nat_le (length rows) most_rows then Ok rows else Err (TooMany most_rows)
 
 -- the rows of the records after the header
 abbrev pub rows_of_rest : List Column → List (List (List ℕ)) → Result (List (List Value)) TableFault

@@ -16,7 +16,7 @@ use Rattle.ba_template.specs.declared.shapes.ShapeAtom.{ShapeAtom}
 use Rattle.ba_template.specs.declared.shapes.ShapeOperand.{ShapeOperand}
 use Rattle.ba_template.specs.declared.shapes.ShapeOperand.TheVariants.{Col, Hole, Param}
 use Rattle.ba_template.specs.declared.shapes.ShapePart.{ShapePart}
-use Rattle.ba_template.specs.declared.shapes.TheConstants.{SHARDS}
+use Rattle.ba_model.specs.Limits.{shard_count}
 
 -- vars gives the variables' kinds
 abbrev pub shape_operand : List Kind → Operand → ShapeOperand
@@ -39,7 +39,7 @@ abbrev pub weight : ShapePart → ℕ
 weight part = sum part.from + length part.conds + length part.head
 
 abbrev pub shard_of : Shape → ℕ
-shard_of shape = sum_by weight shape.parts % SHARDS
+shard_of shape = sum_by weight shape.parts % shard_count
 
 -- with values of their kinds for the variables a query has the same shape, so what matches a template has the template's shape
 abbrev pub InstanceHasShape : Type 0

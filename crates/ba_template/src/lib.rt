@@ -9,6 +9,6 @@ mod standing;
 mod template;
 
 pub use found::Match;
-pub use shapes::{SHARDS, Shape, ShapeAtom, ShapeOperand, ShapePart};
+pub use shapes::{Shape, ShapeAtom, ShapeOperand, ShapePart};
 pub use standing::each_var_stands;
 pub use template::Template;

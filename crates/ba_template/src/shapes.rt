@@ -3,11 +3,8 @@ ghost use Rattle.std.specs.Prelude.{◌≡◌, ◌%◌, ◌↔◌, IfOk, IsTrue,
 ghost use Rattle.std.specs.List.{sum};
 ghost use Rattle.ba_template.specs.Shapes.{shape_atom, shape_of, shape_operand, shape_part, shard_of, weight};
 
-use ba_model::{Atom, Duplicate, Kind, List, Op, Operand, Part, Query, Same};
+use ba_model::{Atom, Duplicate, Kind, List, Op, Operand, Part, Query, SHARDS, Same};
 use std::alloc::{AllocError, Global};
-
-/// How many shards there are.
-pub const SHARDS: u32 = 8;
 
 /// What stands in a shape for an operand.
 #[derive(Clone, Copy, Debug)]
@@ -124,7 +121,7 @@ fn operand_shape(vars: &[Kind], operand: &Operand) -> ShapeOperand
 
 /// What a part adds to the shard.
 fn part_shard(part: &ShapePart) -> u32
-    ensures { result ≡ weight part.now % SHARDS }
+    ensures { result ≡ weight part.now % shard_count }
 {
     (table_shard(part.from.as_slice())
         + count_shard(part.conds.len())
@@ -133,7 +130,7 @@ fn part_shard(part: &ShapePart) -> u32
 }
 
 fn table_shard(from: &[u32]) -> u32
-    ensures { result ≡ sum from.now % SHARDS }
+    ensures { result ≡ sum from.now % shard_count }
 {
     let mut total = 0;
     for table in from {
@@ -143,7 +140,7 @@ fn table_shard(from: &[u32]) -> u32
 }
 
 fn count_shard(count: usize) -> u32
-    ensures { result ≡ count % SHARDS }
+    ensures { result ≡ count % shard_count }
 {
     (count % SHARDS as usize) as u32
 }

@@ -14,7 +14,7 @@ use std::marker::Model;
 /// literals of the question and of the rows that were shown before it, and a condition on them, its
 /// assumed atoms.
 ///
-/// The type keeps that the steps are at most [`ba_model::MAX_BUDGET`], are accepted from the
+/// The type keeps that the steps are at most [`ba_model::MAX_STEPS`], are accepted from the
 /// problem's start and leave no branch open, that under every context and valuation that meet the
 /// condition the question is strongly compliant after its rows, and that each variable stands in the
 /// goal or an entry.

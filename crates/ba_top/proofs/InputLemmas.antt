@@ -17,7 +17,7 @@ use Rattle.ba_model.specs.declared.policy.Policy.{Policy}
 use Rattle.ba_model.specs.declared.schema.Schema.{Schema}
 use Rattle.ba_model.specs.declared.schema.Table.{Table}
 use Rattle.ba_model.specs.declared.value.Value.{Value}
-use Rattle.ba_model.specs.declared.limits.TheConstants.{MAX_BUDGET, MAX_FILE_BYTES, MAX_WORKERS}
+use Rattle.ba_model.specs.Limits.{most_budget, most_file_bytes, most_workers}
 use Rattle.ba_outside.specs.Seen.{FilesSeen}
 use Rattle.ba_plan.proofs.Plans.{found_ok, memory_now, then_err, then_ok}
 use Rattle.ba_plan.specs.Follows.{Follows, Gives, Got}
@@ -48,7 +48,7 @@ no_rule s rules none = subst (All (RuleFits s)) (sym none) (All-nil (RuleFits s)
 
 -- what was read belongs together
 pub input_fits : (policy : Policy) (tables : TableSet) (script : Script) (sets : List TableSet) (workers budget : ℕ) → PolicyFits policy → IsSetOf policy.schema tables → IsScript policy.params script
-    → All (IsSetOf policy.schema) sets → length sets ≡ published script.entries → (0 < workers) × (workers ≤ MAX_WORKERS) → budget ≤ MAX_BUDGET → AreTables policy.schema.tables → policy.schema.rules ≡ []
+    → All (IsSetOf policy.schema) sets → length sets ≡ published script.entries → (0 < workers) × (workers ≤ most_workers) → budget ≤ most_budget → AreTables policy.schema.tables → policy.schema.rules ≡ []
     → IsInput (record { policy = policy; tables = tables; script = script; published = sets; workers = workers; budget = budget })
 input_fits policy tables script sets workers budget fits set is all count many few tables_are none = record {
   policy = fits;
@@ -172,8 +172,8 @@ published_err workers budget policy tables script schema entries s t e same is f
 
 -- the schema, the policy, the tables, and then the rest
 pub named_ok : (names : Names) (bytes text : List ℕ) (schema : Schema) (policy : Policy) (tables : TableSet) (s m n o t : FilesSeen) (r : Result Input (Stop Refusal))
-    → Got names.schema MAX_FILE_BYTES bytes s m → widened (ddl_refusal names.schema) (schema_of bytes) ≡ Ok schema
-    → Got names.policy MAX_FILE_BYTES text m n → widened (policy_refusal names.policy) (policy_of schema text) ≡ Ok policy
+    → Got names.schema most_file_bytes bytes s m → widened (ddl_refusal names.schema) (schema_of bytes) ≡ Ok schema
+    → Got names.policy most_file_bytes text m n → widened (policy_refusal names.policy) (policy_of schema text) ≡ Ok policy
     → Follows (tables_plan names.tables schema) n o (Ok tables) → Follows (script_plan names.script names.workers names.budget policy tables) o t r → Follows (reading_of names) s t r
 named_ok names bytes text schema policy tables s m n o t r got read given is set rest = inr (
   bytes,
@@ -191,8 +191,8 @@ named_ok names bytes text schema policy tables s m n o t r got read given is set
 
 -- the schema, the policy, and tables without a reading
 pub named_err : (names : Names) (bytes text : List ℕ) (schema : Schema) (policy : Policy) (s m n t : FilesSeen) (e : Stop Refusal)
-    → Got names.schema MAX_FILE_BYTES bytes s m → widened (ddl_refusal names.schema) (schema_of bytes) ≡ Ok schema
-    → Got names.policy MAX_FILE_BYTES text m n → widened (policy_refusal names.policy) (policy_of schema text) ≡ Ok policy
+    → Got names.schema most_file_bytes bytes s m → widened (ddl_refusal names.schema) (schema_of bytes) ≡ Ok schema
+    → Got names.policy most_file_bytes text m n → widened (policy_refusal names.policy) (policy_of schema text) ≡ Ok policy
     → Follows (tables_plan names.tables schema) n t (Err e) → Follows (reading_of names) s t (Err e)
 named_err names bytes text schema policy s m n t e got read given is set = inr (
   bytes,
@@ -210,8 +210,8 @@ named_err names bytes text schema policy s m n t e got read given is set = inr (
 
 -- the schema, the policy, and then the proof
 pub proof_ok : (names : ProofNames) (bytes text : List ℕ) (schema : Schema) (policy : Policy) (s m n t : FilesSeen) (r : Result Proof (Stop Refusal))
-    → Got names.schema MAX_FILE_BYTES bytes s m → widened (ddl_refusal names.schema) (schema_of bytes) ≡ Ok schema
-    → Got names.policy MAX_FILE_BYTES text m n → widened (policy_refusal names.policy) (policy_of schema text) ≡ Ok policy
+    → Got names.schema most_file_bytes bytes s m → widened (ddl_refusal names.schema) (schema_of bytes) ≡ Ok schema
+    → Got names.policy most_file_bytes text m n → widened (policy_refusal names.policy) (policy_of schema text) ≡ Ok policy
     → Follows (proof_plan names.proof policy) n t r → Follows (proof_reading_of names) s t r
 proof_ok names bytes text schema policy s m n t r got read given is rest = inr (
   bytes,

@@ -2,7 +2,7 @@
 use Rattle.std.specs.Prelude.{◌≡◌, ◌⊎◌, ◌≤◌, List, ℕ, [], ◌∷◌, length, Option, Some, None, Err, ⊤}
 use Rattle.ba_kernel.specs.Courses.{ProblemFits}
 use Rattle.ba_kernel.specs.Replays.{Closes}
-use Rattle.ba_model.specs.declared.limits.TheConstants.{MAX_BUDGET}
+use Rattle.ba_model.specs.Limits.{most_steps}
 use Rattle.ba_outside.specs.Seen.{SinkSeen}
 use Rattle.ba_outside.specs.declared.sink.WriteFail.TheVariants.{Failed, NoMemory as NoRoom}
 use Rattle.ba_plan.specs.Sent.{SentLines, WroteLines}
@@ -24,7 +24,7 @@ use Rattle.ba_wire.specs.declared.verdict.Verdict.TheVariants.{Accepted, NotShow
 -- The proof can be checked: its problem fits its policy, and its steps are within their limit.
 pub record IsCheckable (proof : Proof) : Type 0 where
   pub problem : ProblemFits proof.problem
-  pub few : length proof.steps ≤ MAX_BUDGET
+  pub few : length proof.steps ≤ most_steps
 
 -- what was read for a command belongs together
 abbrev pub IsTask : Task → Type 0

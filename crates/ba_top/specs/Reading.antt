@@ -12,7 +12,7 @@ use Rattle.ba_model.specs.declared.schema.Schema.{Schema}
 use Rattle.ba_model.specs.declared.schema.Table.{Table}
 use Rattle.ba_model.specs.declared.value.Value.{Value}
 use Rattle.ba_model.specs.declared.limits.Counted.TheVariants.{FileBytes}
-use Rattle.ba_model.specs.declared.limits.TheConstants.{BUDGET, MAX_FILE_BYTES}
+use Rattle.ba_model.specs.Limits.{most_file_bytes, usual_budget}
 use Rattle.ba_plan.specs.Plan.{Plan, done, refuse, ask, found, ◌>>=◌}
 use Rattle.ba_plan.specs.declared.stop.Stop.{Stop}
 use Rattle.ba_plan.specs.declared.stop.Stop.TheVariants.{Refused, Read, TooLong, NoMemory}
@@ -50,7 +50,7 @@ pub record Names : Type 0 where
   pub budget : ℕ
 
 abbrev pub file_of : List ℕ → Plan Refusal (List ℕ)
-file_of name = ask name MAX_FILE_BYTES done
+file_of name = ask name most_file_bytes done
 
 abbrev pub table_plan : List ℕ → Table → Plan Refusal (List (List Value))
 table_plan set table = do
@@ -125,7 +125,7 @@ over bytes (refuse e) = refuse e
 over bytes (ask name limit next) = if nat_lt limit (length (bytes name)) then refuse (Limit FileBytes limit) else over bytes (next (bytes name))
 
 abbrev pub workload_names : ℕ → Names
-workload_names workers = record { schema = codes "schema.sql"; policy = codes "policy.sql"; tables = codes "tables"; script = codes "script.jsonl"; workers = workers; budget = BUDGET }
+workload_names workers = record { schema = codes "schema.sql"; policy = codes "policy.sql"; tables = codes "tables"; script = codes "script.jsonl"; workers = workers; budget = usual_budget }
 
 -- what stops a reading of such files
 abbrev pub given_stop : Stop Refusal → Stop Refusal

@@ -5,7 +5,7 @@ use Rattle.ba_lex.specs.declared.token.LexFault.TheVariants as lex
 use Rattle.ba_model.specs.declared.check_schema.SchemaFault.{SchemaFault}
 use Rattle.ba_model.specs.declared.check_schema.SchemaFault.TheVariants as tables
 use Rattle.ba_model.specs.declared.schema.Schema.{Schema}
-use Rattle.ba_model.specs.declared.limits.TheConstants.{MAX_BUDGET, MAX_TEXT_BYTES}
+use Rattle.ba_model.specs.Limits.{most_steps, most_text_bytes}
 use Rattle.ba_model.specs.declared.limits.Counted.TheVariants as what
 use Rattle.ba_policy.specs.declared.error.PolicyFault.{PolicyFault}
 use Rattle.ba_policy.specs.declared.error.PolicyFault.TheVariants as policy
@@ -32,7 +32,7 @@ abbrev pub text_fault : List ℕ → ReadQueryFault → Refusal
 text_fault file fault = Input file (reason.Text fault)
 
 abbrev pub lex_fault : List ℕ → LexFault → Refusal
-lex_fault file lex.TooLong = Limit what.TextBytes MAX_TEXT_BYTES
+lex_fault file lex.TooLong = Limit what.TextBytes most_text_bytes
 lex_fault file lex.BadByte = text_fault file (query.Lex lex.BadByte)
 lex_fault file lex.OpenQuote = text_fault file (query.Lex lex.OpenQuote)
 lex_fault file lex.NumberTooLarge = text_fault file (query.Lex lex.NumberTooLarge)
@@ -94,5 +94,5 @@ script_refusal file (TooMany it limit) = Limit it limit
 
 unfoldable pub proof_refusal : List ℕ → ProofFault → Refusal
 proof_refusal file proof.BadJson = Input file reason.Json
-proof_refusal file proof.TooLong = Steps MAX_BUDGET
+proof_refusal file proof.TooLong = Steps most_steps
 proof_refusal file (proof.BadField field) = Input file (reason.Field (field_name field))

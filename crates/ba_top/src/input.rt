@@ -6,7 +6,7 @@ ghost use Rattle.ba_model.specs.Conform.{RowFits};
 ghost use Rattle.ba_model.specs.Fit.{PolicyFits};
 ghost use Rattle.ba_model.specs.Readings.{widened};
 ghost use Rattle.ba_model.specs.SchemaFaults.{AreTables};
-ghost use Rattle.ba_model.specs.declared.limits.TheConstants.{MAX_BUDGET as most_budget, MAX_WORKERS as most_workers};
+ghost use Rattle.ba_model.specs.Limits.{most_budget, most_workers};
 ghost use Rattle.ba_plan.specs.Follows.{Follows, Gives};
 ghost use Rattle.ba_policy.specs.Reading.{policy_of};
 ghost use Rattle.ba_script.specs.Reading.{published, published_by, script_of};

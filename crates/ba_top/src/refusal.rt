@@ -6,7 +6,7 @@ ghost use Rattle.ba_top.specs.Refusals.{broken_refusal, ddl_refusal, file_of_tab
 
 use crate::report::Refusal;
 use ba_lex::LexFault;
-use ba_model::{Counted, MAX_BUDGET, MAX_TEXT_BYTES, Schema, SchemaFault, Str};
+use ba_model::{Counted, MAX_STEPS, MAX_TEXT_BYTES, Schema, SchemaFault, Str};
 use ba_policy::PolicyFault;
 use ba_proof::ProofFault;
 use ba_script::ScriptFault;
@@ -176,7 +176,7 @@ pub(crate) fn proof_refusal(
             file,
             reason: Reason::Json,
         }),
-        ProofFault::TooLong => Ok(Refusal::Steps { limit: MAX_BUDGET }),
+        ProofFault::TooLong => Ok(Refusal::Steps { limit: MAX_STEPS }),
         ProofFault::BadField(field) => {
             let name = Str::new(alloc, field.name())?;
             Ok(Refusal::Input {

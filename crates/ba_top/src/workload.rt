@@ -1,7 +1,7 @@
 //! Reads a workload.
 ghost use Rattle.std.specs.Prelude.{◌≡◌, ◌<◌, ◌≤◌, IfOk};
 ghost use Rattle.ba_lanes.specs.Legal.{IsInput};
-ghost use Rattle.ba_model.specs.declared.limits.TheConstants.{MAX_WORKERS as most_workers};
+ghost use Rattle.ba_model.specs.Limits.{most_workers};
 ghost use Rattle.ba_outside.specs.Seen.{FilesSeen};
 ghost use Rattle.ba_plan.specs.Follows.{Follows};
 ghost use Rattle.ba_top.specs.Checking.{IsTask};

@@ -8,7 +8,7 @@ use crate::scene::Scene;
 use crate::step::cause_text;
 use crate::text::{facts_text, known_text, terms_text};
 use ba_kernel::{Problem, ProblemDraft, Search, Step};
-use ba_model::{Duplicate, Failure, MAX_BUDGET, Query, Shared};
+use ba_model::{Duplicate, Failure, MAX_STEPS, Query, Shared};
 use std::alloc::{AllocError, Global};
 
 // The problem of a question after what its request was told.
@@ -95,7 +95,7 @@ fn tell_skipped(page: &mut Page, count: usize) -> Result<(), AllocError> {
 
 // Takes a step, and gives whether it is accepted.
 fn take(alloc: Global, search: &mut Search, step: &Step) -> Result<bool, AllocError> {
-    if search.steps().len() as u64 >= MAX_BUDGET {
+    if search.steps().len() as u64 >= MAX_STEPS {
         return Ok(false);
     }
     let step = step.copy(alloc)?;

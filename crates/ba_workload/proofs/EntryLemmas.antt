@@ -7,7 +7,7 @@ use Rattle.std.proofs.lemmas.List.{append-nil}
 use Rattle.std.proofs.lemmas.Nat.{mod_below}
 use Rattle.std.proofs.lemmas.Slice.Eq.{bytes_eq-Decides}
 use Rattle.ba_model.specs.Readings.{◌>>=◌, widened}
-use Rattle.ba_model.specs.declared.limits.TheConstants.{MAX_ASKS, MAX_REQUESTS}
+use Rattle.ba_model.specs.Limits.{most_asks, most_requests}
 use Rattle.ba_model.specs.declared.policy.Context.{Context}
 use Rattle.ba_model.specs.declared.policy.Parameter.{Parameter}
 use Rattle.ba_script.proofs.SaysLemmas.{script_of_entries}
@@ -94,19 +94,19 @@ quiet_on before k user event h = record {
 
 -- numbers that are written in a request's lines
 record AreSmall (k user event : ℕ) : Type 0 where
-  number : k < MAX_REQUESTS
+  number : k < most_requests
   user_small : user ≤ users
   event_small : event ≤ events
 
-begin_says : (before : List ScriptEntry) (k user n : ℕ) (name : List ℕ) → IsQuiet before k → k < MAX_REQUESTS
+begin_says : (before : List ScriptEntry) (k user n : ℕ) (name : List ℕ) → IsQuiet before k → k < most_requests
     → entry_of (my_user ∷ []) before n (line.Begin name (user_member user ∷ [])) ≡ Ok (entry.Begin k name (context_of user))
 unfolding begin_of contexts.context_of contexts.is_declared contexts.is_called
-begin_says before k user n name h few = rw (h.quiet name, h.count, lt-ltb k MAX_REQUESTS few) refl
+begin_says before k user n name h few = rw (h.quiet name, h.count, lt-ltb k most_requests few) refl
 
-ask_says : (before : List ScriptEntry) (k asks n : ℕ) (name query : List ℕ) → open_after before name ≡ Some (record { request = k; asks = asks }) → asks < MAX_ASKS
+ask_says : (before : List ScriptEntry) (k asks n : ℕ) (name query : List ℕ) → open_after before name ≡ Some (record { request = k; asks = asks }) → asks < most_asks
     → entry_of (my_user ∷ []) before n (line.Ask name query) ≡ Ok (entry.Ask k name query)
 unfolding ask_of
-ask_says before k asks n name query is few = rw (is, lt-ltb asks MAX_ASKS few) refl
+ask_says before k asks n name query is few = rw (is, lt-ltb asks most_asks few) refl
 
 end_says : (before : List ScriptEntry) (k asks n : ℕ) (name : List ℕ) → open_after before name ≡ Some (record { request = k; asks = asks })
     → entry_of (my_user ∷ []) before n (line.End name) ≡ Ok (entry.End k name)
@@ -167,7 +167,7 @@ lines_from seed k n = flat_map (λ i. request_lines (name_of i) (user_of seed i)
 abbrev entries_at : ℕ → ℕ → ℕ → List ScriptEntry
 entries_at seed k n = flat_map (entries_of seed) (range_with_len k n)
 
-small_at : (seed k : ℕ) → k < MAX_REQUESTS → AreSmall k (user_of seed k) (event_at seed k)
+small_at : (seed k : ℕ) → k < most_requests → AreSmall k (user_of seed k) (event_at seed k)
 unfolding drawn
 small_at seed k number = record {
   number = number;
@@ -175,7 +175,7 @@ small_at seed k number = record {
   event_small = let low = mod_below (7 * user_of seed k + 13 * draw seed (2 * k + 1) attended) events (omega arith) in omega (arith, low);
 }
 
-requests_said : (seed k n : ℕ) (before : List ScriptEntry) → IsQuiet before k → k + n ≤ MAX_REQUESTS
+requests_said : (seed k n : ℕ) (before : List ScriptEntry) → IsQuiet before k → k + n ≤ most_requests
     → entries_from (my_user ∷ []) before (lines_from seed k n) ≡ Ok (before ++ entries_at seed k n)
 requests_said seed k zero before h few = ap Ok (sym (append-nil before))
 requests_said seed k (suc n) before h few =
@@ -209,7 +209,7 @@ printed k user event small =
       ),
     )
 
-text_lines : (seed k n : ℕ) → k + n ≤ MAX_REQUESTS → script_lines (flat_map (request_of seed) (range_with_len k n)) ≡ lines_from seed k n
+text_lines : (seed k n : ℕ) → k + n ≤ most_requests → script_lines (flat_map (request_of seed) (range_with_len k n)) ≡ lines_from seed k n
 unfolding request_text
 text_lines seed k zero few = refl
 text_lines seed k (suc n) few =

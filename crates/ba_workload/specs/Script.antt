@@ -1,7 +1,7 @@
 -- What the script says, as it is read.
 use Rattle.std.specs.Prelude.{◌≡◌, ℕ, ◌≤◌, pos, List, [], ◌∷◌, codes, Ok}
 use Rattle.std.specs.List.{flat_map, range_with_len}
-use Rattle.ba_model.specs.declared.limits.TheConstants.{MAX_REQUESTS}
+use Rattle.ba_model.specs.Limits.{most_requests}
 use Rattle.ba_model.specs.declared.policy.Context.{Context}
 use Rattle.ba_model.specs.declared.policy.Parameter.{Parameter}
 use Rattle.ba_model.specs.declared.schema.Kind.TheVariants as kind
@@ -38,4 +38,4 @@ script seed requests = record { entries = flat_map (entries_of seed) (range_with
 
 -- for a policy with this parameter the text is read as the script
 abbrev pub ScriptReadsBack : Type 0
-ScriptReadsBack = (seed requests : ℕ) → requests ≤ MAX_REQUESTS → script_of (my_user ∷ []) (script_text seed requests) ≡ Ok (script seed requests)
+ScriptReadsBack = (seed requests : ℕ) → requests ≤ most_requests → script_of (my_user ∷ []) (script_text seed requests) ≡ Ok (script seed requests)

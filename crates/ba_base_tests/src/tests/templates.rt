@@ -1,13 +1,13 @@
 //! Templates of questions that no row answers, each proved by one step: `SELECT .. FROM .. WHERE 0 = 1`.
 ghost use Rattle.std.specs.Prelude.{◌≤◌, ◌↔◌, [], All, IfOk, IsTrue, length};
 ghost use Rattle.ba_model.specs.Fit.{KeyFits, IsQuery, kinds_of};
-ghost use Rattle.ba_model.specs.declared.limits.TheConstants.{MAX_BUDGET};
+ghost use Rattle.ba_model.specs.Limits.{most_steps};
 ghost use Rattle.ba_kernel.specs.Courses.{LinkFits, LinksFit, ProblemFits, RuleFits};
 ghost use Rattle.ba_kernel.specs.Drafts.{IsChecked};
 
 use ba_kernel::{Problem, ProblemDraft, Proved, Step, replay};
 use ba_model::{
-    Atom, Column, Duplicate, Kind, List, MAX_BUDGET, Op, Operand, Part, Policy, Query, Schema,
+    Atom, Column, Duplicate, Kind, List, MAX_STEPS, Op, Operand, Part, Policy, Query, Schema,
     Shared, Str, Table, Value,
 };
 use ba_template::{Template, each_var_stands};
@@ -171,7 +171,7 @@ fn step(alloc: Global) -> Result<List<Step>, AllocError> {
 fn proof_of(alloc: Global, problem: Problem, steps: List<Step>) -> Result<Proved, AllocError>
     requires { ProblemFits problem }
 {
-    if steps.len() as u64 > MAX_BUDGET {
+    if steps.len() as u64 > MAX_STEPS {
         return Err(AllocError);
     }
     match replay(alloc, problem, steps) {

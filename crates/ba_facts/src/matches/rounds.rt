@@ -1,7 +1,7 @@
 //! The least round of the facts of a part under which an atom is one of the part's.
 ghost use Rattle.std.specs.Prelude.{◌≡◌, ◌↔◌, ◌+◌, ◌≤◌, ◌++◌, ℕ, List, [], Any, IsTrue, Some, length, map, option_copied};
 ghost use Rattle.std.specs.List.{AllZip};
-ghost use Rattle.ba_model.specs.declared.limits.TheConstants.{MAX_PART_TABLES};
+ghost use Rattle.ba_model.specs.Limits.{most_part_tables};
 ghost use Rattle.arrayvec.specs.ArrayVec.{array_vec_len};
 ghost use Rattle.ba_facts.specs.Known.{seen};
 ghost use Rattle.ba_facts.specs.Matches.{AreTheSame, GivesAtom, HeadIs, LeastRound, round_of, row_of, term_of, terms_at};
@@ -29,7 +29,7 @@ impl<'a> Search<'a> {
         chosen: &mut ArrayVec<usize, MAX_PART_TABLES>,
         given: &GivenAtom<'_>,
     ) -> Option<u32>
-        requires { array_vec_len chosen.old + length from.now ≤ MAX_PART_TABLES }
+        requires { array_vec_len chosen.old + length from.now ≤ most_part_tables }
         ensures chosen { chosen.new.items ≡ chosen.old.items }
         ensures least { LeastRound self.now.branch.now (HasAtomFrom self.now.branch.now self.now.side self.now.part.now self.now.wanted (option_copied given.now.row) given.now.atom.now from.now chosen.old.items) result }
     {

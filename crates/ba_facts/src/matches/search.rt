@@ -1,7 +1,7 @@
 //! The search for facts of a side, one for each table of a part.
 ghost use Rattle.std.specs.Prelude.{◌≡◌, ◌↔◌, ◌+◌, ◌≤◌, [], IfOk, IsTrue, OnOk, length, map};
 ghost use Rattle.std.specs.List.{AllZip};
-ghost use Rattle.ba_model.specs.declared.limits.TheConstants.{MAX_PART_TABLES};
+ghost use Rattle.ba_model.specs.Limits.{most_part_tables};
 ghost use Rattle.arrayvec.specs.ArrayVec.{array_vec_len};
 ghost use Rattle.ba_facts.specs.Matches.{AreTheSame, IsFactOf, IsUndecided, row_of, term_of, terms_at};
 ghost use Rattle.ba_facts.specs.Searching.{AddsThose, Completes, IsAnsweredFrom, IsNoFront, IsOther};
@@ -74,7 +74,7 @@ impl<'a> Search<'a> {
         chosen: &mut ArrayVec<usize, MAX_PART_TABLES>,
         row: &GivenRow<'_>,
     ) -> bool
-        requires { array_vec_len chosen.old + length from.now ≤ MAX_PART_TABLES }
+        requires { array_vec_len chosen.old + length from.now ≤ most_part_tables }
         ensures chosen { chosen.new.items ≡ chosen.old.items }
         ensures found { IsTrue result ↔ IsAnsweredFrom self.now.branch.now self.now.side self.now.part.now self.now.wanted (row_of self.now.branch.now row.now.facts.now row.now.operands.now) from.now chosen.old.items }
     {

@@ -1,6 +1,6 @@
 //! A policy, proof files as changes of one file, and what they come to.
 ghost use Rattle.std.specs.Prelude.{◌≤◌, IfOk, length};
-ghost use Rattle.ba_model.specs.declared.limits.TheConstants.{MAX_BUDGET};
+ghost use Rattle.ba_model.specs.Limits.{most_steps};
 ghost use Rattle.ba_kernel.specs.Courses.{ProblemFits};
 ghost use Rattle.ba_proof.specs.Checked.{IsPolicy};
 
@@ -56,7 +56,7 @@ fn step_fault(alloc: Global, step: u32, fault: StepFault) -> Result<String, Allo
 
 fn checked(alloc: Global, proof: Proof) -> Result<String, AllocError>
     requires fits { ProblemFits proof.problem }
-    requires few { length proof.steps ≤ MAX_BUDGET }
+    requires few { length proof.steps ≤ most_steps }
 {
     match check(alloc, proof) {
         Ok(proved) => {

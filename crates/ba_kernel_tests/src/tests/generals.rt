@@ -1,6 +1,6 @@
 //! Templates of proofs, worked out by hand.
 ghost use Rattle.std.specs.Prelude.{◌≤◌, IfOk, length};
-ghost use Rattle.ba_model.specs.declared.limits.TheConstants.{MAX_BUDGET};
+ghost use Rattle.ba_model.specs.Limits.{most_steps};
 ghost use Rattle.ba_kernel.specs.Courses.{ProblemFits};
 ghost use Rattle.ba_general.specs.Generals.{IsOfQuestion};
 ghost use Rattle.ba_proof.specs.Checked.{IsPolicy};
@@ -28,7 +28,7 @@ fn read(
     requires { IsPolicy policy.now }
     ensures fits { IfOk result (λ it. ProblemFits it.problem) }
     ensures question { IfOk result (λ it. IsOfQuestion it.problem) }
-    ensures few { IfOk result (λ it. length it.steps ≤ MAX_BUDGET) }
+    ensures few { IfOk result (λ it. length it.steps ≤ most_steps) }
 {
     let file = format!(in alloc;
         "{{\"context\":{{\"MyUId\":2}},{question},{steps},\"version\":1}}"

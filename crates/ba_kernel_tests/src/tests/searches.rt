@@ -14,7 +14,7 @@ use super::steps::step;
 use super::words::{Handle, number};
 use ba_facts::{Mapping, Side};
 use ba_kernel::{Search, Step};
-use ba_model::{Failure, MAX_BUDGET};
+use ba_model::{Failure, MAX_STEPS};
 
 /// How many steps were taken, and the branches.
 fn all(rt: &impl Handle, search: &Search) -> String {
@@ -31,7 +31,7 @@ fn all(rt: &impl Handle, search: &Search) -> String {
 /// Takes the step and tells `ok`, or its fault. Ends the process where the search isn't as it was before
 /// then.
 fn told_taken(rt: &impl Handle, search: &mut Search, step: Step) -> String {
-    assert!(rt; (search.steps().len() as u64) < MAX_BUDGET, "few steps");
+    assert!(rt; (search.steps().len() as u64) < MAX_STEPS, "few steps");
     let before = all(rt, search);
     let told = match search.apply(rt.alloc(), step) {
         Ok(()) => return format!(in rt.alloc(); "ok").expect(rt, "memory"),

@@ -8,14 +8,14 @@ use super::given::problem;
 use super::steps::steps;
 use super::words::Handle;
 use ba_kernel::{Proved, ReplayFault, replay};
-use ba_model::{Failure, MAX_BUDGET};
+use ba_model::{Failure, MAX_STEPS};
 use ba_template::{Template, each_var_stands};
 
 /// What the steps come to.
 pub fn replayed(rt: &impl Handle, text: &str) -> Result<Proved, ReplayFault> {
     let (given, lines) = text.split_once("by ").unwrap_or((text, ""));
     let steps = steps(rt, lines);
-    assert!(rt; steps.len() as u64 <= MAX_BUDGET, "few steps");
+    assert!(rt; steps.len() as u64 <= MAX_STEPS, "few steps");
     match replay(rt.alloc(), problem(rt, given), steps) {
         Ok(proved) => Ok(proved),
         Err(Failure::Fault(fault)) => Err(fault),

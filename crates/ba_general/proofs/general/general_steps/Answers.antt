@@ -1,7 +1,7 @@
 use Rattle.std.proofs.Common.{◌≡◌, subst, sym, ◌∙◌}
 use Rattle.std.proofs.lemmas.Bool.{false≢true}
 use Rattle.std.proofs.lemmas.Result.{IfOk-weaker}
-use Rattle.ba_model.specs.declared.limits.TheConstants.{MAX_BUDGET}
+use Rattle.ba_model.specs.Limits.{most_steps}
 use Rattle.ba_general.proofs.GeneralLemmas.{told_with, told_without, tried_few}
 use Rattle.ba_general.specs.Generals.{IsToldBy}
 use Rattle.ba_general.specs.Retold.{AreWithVariables}
@@ -13,7 +13,7 @@ returns-then-told-clause-told c =
     (subst (λ vs. AreWithVariables vs c.args.kept.now c.in_ok-steps.steps) c.as_slice.ensures c.in_ok-steps.ensures) (c.in_ok-told.ensures.0 c.if-told.true)
 
 pub returns-then-told-clause-few : goal.returns-then-told-clause-few
-returns-then-told-clause-few c = tried_few c.as_slice.result.now c.args.kept.now c.in_ok-steps.steps MAX_BUDGET c.in_ok-steps.ensures c.requires.few
+returns-then-told-clause-few c = tried_few c.as_slice.result.now c.args.kept.now c.in_ok-steps.steps most_steps c.in_ok-steps.ensures c.requires.few
 
 pub returns-else-told-clause-told : goal.returns-else-told-clause-told
 returns-else-told-clause-told c =

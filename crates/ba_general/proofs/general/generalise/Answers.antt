@@ -1,7 +1,7 @@
 use Rattle.std.proofs.Common.{◌<◌, All, arith, length, subst, sym, ◌∙◌}
 use Rattle.std.proofs.lemmas.Bool.{false≢true}
 use Rattle.ba_kernel.specs.Courses.{ProblemFits}
-use Rattle.ba_model.specs.declared.limits.TheConstants.{MAX_BUDGET}
+use Rattle.ba_model.specs.Limits.{most_steps}
 use Rattle.ba_general.proofs.EntryLemmas.{numbers_there}
 use Rattle.ba_general.proofs.GeneralLemmas.{generalised_of, made_accepted, made_fits, made_stands, question_fits, renumbered_few, wide_by_entries, wide_by_operands}
 use Rattle.ba_general.proofs.InstanceLemmas.{own_instance}
@@ -42,7 +42,7 @@ made_general-requires-clause-fits c =
 
 pub made_general-requires-clause-few : goal.made_general-requires-clause-few
 made_general-requires-clause-few c =
-    renumbered_few c.as_slice-2.result.now c.in_ok-kept.kept c.in_ok-kept-2.kept (length c.steps.result.now) MAX_BUDGET c.in_ok-kept-2.ensures c.in_ok-kept.ensures.few
+    renumbered_few c.as_slice-2.result.now c.in_ok-kept.kept c.in_ok-kept-2.kept (length c.steps.result.now) most_steps c.in_ok-kept-2.ensures c.in_ok-kept.ensures.few
     c.steps.ensures.proved.few
 
 pub made_general-requires-clause-stands : goal.made_general-requires-clause-stands

@@ -1,7 +1,7 @@
 use Rattle.std.proofs.Common.{◌≡◌, ℕ, ◌+◌, ◌-◌, ◌/◌, ◌<◌, ◌≤◌, arith, ap, length, refl, subst, sym, take, ◌∙◌}
 use Rattle.std.proofs.lemmas.Bool.{false≢true}
 use Rattle.std.specs.Prelude.{OnOk, Result, Ok, Err}
-use Rattle.ba_model.specs.declared.limits.TheConstants.{MAX_BUDGET}
+use Rattle.ba_model.specs.Limits.{most_steps}
 use Rattle.ba_general.proofs.DroppingLemmas.{halves_run, set_back}
 use Rattle.ba_general.proofs.FullLemmas.{atoms_can}
 use Rattle.ba_general.proofs.PassLemmas.{empty_run, run_one, run_told}
@@ -61,7 +61,7 @@ drop_run-requires t c =
     c.requires.kept c.set.ensures.kept c.set-2.ensures.kept in
     let middle = middle_in c.args.first c.args.end (c.args.first + (c.args.end - c.args.first) / 2) c.if-first-end.false refl in
     let fits = subst (λ p. PatternFits p.now) (sym pattern) c.requires.fits in
-    let few = subst (λ s. length s.now ≤ MAX_BUDGET) (sym steps) c.requires.few in
+    let few = subst (λ s. length s.now ≤ most_steps) (sym steps) c.requires.few in
     let atoms_fit = subst (λ p. AtomsFit p.now.problem c.set-2.new.self.atoms.items) (sym pattern)
     (subst (λ xs. AtomsFit c.args.self.now.pattern.now.problem xs.items) (sym atoms) c.requires.atoms) in
     let there = subst (λ xs. c.args.end ≤ length xs.items) (sym atoms) c.requires.there in
@@ -83,7 +83,7 @@ drop_run-requires-2 t c =
     let middle = middle_in c.args.first c.args.end (c.args.first + (c.args.end - c.args.first) / 2) c.if-first-end.false refl in
     let below : c.args.first + (c.args.end - c.args.first) / 2 ≤ length c.args.self.now.atoms.items = omega (arith, middle.1, c.requires.there) in
     let fits = subst (λ p. PatternFits p.now) (sym pattern) c.requires.fits in
-    let few = subst (λ s. length s.now ≤ MAX_BUDGET) (sym steps) c.requires.few in
+    let few = subst (λ s. length s.now ≤ most_steps) (sym steps) c.requires.few in
     let atoms_fit = subst (λ p. AtomsFit p.now.problem c.drop_run.new.self.atoms.items) (sym pattern)
     (subst (λ xs. AtomsFit c.args.self.now.pattern.now.problem xs.items) (sym atoms) c.requires.atoms) in
     let there = subst (λ xs. c.args.first + (c.args.end - c.args.first) / 2 ≤ length xs.items) (sym atoms) below in

@@ -1,7 +1,7 @@
 use Rattle.std.proofs.Common.{◌≡◌, ◌≢◌, ◌≤◌, ◌+◌, ℕ, List, [], ◌∷◌, ◌++◌, All, ap, arith, length, length-append, refl, subst, ◌∙◌}
 use Rattle.std.proofs.lemmas.List.Elements.{All-cons, All-head, All-nil, All-tail}
 use Rattle.ba_model.specs.Fit.{IsQuery, PartFits, PartWithin, kinds_of}
-use Rattle.ba_model.specs.declared.limits.TheConstants.{MAX_PARTS}
+use Rattle.ba_model.specs.Limits.{most_parts}
 use Rattle.ba_model.specs.declared.policy.Parameter.{Parameter}
 use Rattle.ba_model.specs.declared.query.Part.{Part}
 use Rattle.ba_model.specs.declared.query.Query.{Query}
@@ -29,14 +29,14 @@ module _ (s : Schema) (rule : Rule) (some_left : rule.left.parts ≢ []) (some_r
   left_fits : IsQuery s [] [] (record { parts = rule.left.parts ++ rule.right.parts }) → IsQuery s [] [] rule.left
   left_fits is = record {
     fits = record { kinds = is.fits.kinds; some_kind = is.fits.some_kind; some_part = some_left; parts = all_left (PartFits s [] [] is.fits.kinds) rule.left.parts rule.right.parts is.fits.parts };
-    few_parts = fewer (length rule.left.parts) (length rule.right.parts) (length (rule.left.parts ++ rule.right.parts)) MAX_PARTS (length-append rule.left.parts rule.right.parts) is.few_parts;
+    few_parts = fewer (length rule.left.parts) (length rule.right.parts) (length (rule.left.parts ++ rule.right.parts)) most_parts (length-append rule.left.parts rule.right.parts) is.few_parts;
     within = all_left PartWithin rule.left.parts rule.right.parts is.within;
   }
 
   right_fits : IsQuery s [] [] (record { parts = rule.left.parts ++ rule.right.parts }) → IsQuery s [] [] rule.right
   right_fits is = record {
     fits = record { kinds = is.fits.kinds; some_kind = is.fits.some_kind; some_part = some_right; parts = all_right (PartFits s [] [] is.fits.kinds) rule.left.parts rule.right.parts is.fits.parts };
-    few_parts = few (length rule.left.parts) (length rule.right.parts) (length (rule.left.parts ++ rule.right.parts)) MAX_PARTS (length-append rule.left.parts rule.right.parts) is.few_parts;
+    few_parts = few (length rule.left.parts) (length rule.right.parts) (length (rule.left.parts ++ rule.right.parts)) most_parts (length-append rule.left.parts rule.right.parts) is.few_parts;
     within = all_right PartWithin rule.left.parts rule.right.parts is.within;
   }
 
