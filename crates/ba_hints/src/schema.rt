@@ -170,6 +170,8 @@ fn general_text(fault: SchemaFault) -> &'static str {
             "a link leads from a number to a text, or from a text to a number",
         SchemaFault::EmptyKey => "a key or a link has no column",
         SchemaFault::TooMany { .. } => "a count is above its limit",
+        SchemaFault::Rule { .. } =>
+            "a rule has a query that doesn't fit, or two whose heads differ",
     }
 }
 

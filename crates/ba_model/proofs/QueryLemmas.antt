@@ -226,7 +226,7 @@ module _ (s : Schema) (params vars : List Kind) where
       let both : faults.agree (Some k) (Some l) ≡ true = subst (λ o. faults.agree o (Some l) ≡ true) px (subst (λ o. faults.agree (kind_of s params vars from x) o ≡ true) qy (and_left (faults.agree (kind_of s params vars from x) (kind_of s params vars others y)) _ e)) in
       ap₂ (λ a b. a ∷ b) (agree_is k l both) (kinds_match from others xs ys ks ls pxs qys (and_right (faults.agree (kind_of s params vars from x) (kind_of s params vars others y)) _ e))
 
-  match_kinds : (from others : List ℕ) (xs ys : List Operand) (ks : List Kind) → map (kind_of s params vars from) xs ≡ map Some ks → map (kind_of s params vars others) ys ≡ map Some ks → faults.heads_match s params vars from xs others ys ≡ true
+  pub match_kinds : (from others : List ℕ) (xs ys : List Operand) (ks : List Kind) → map (kind_of s params vars from) xs ≡ map Some ks → map (kind_of s params vars others) ys ≡ map Some ks → faults.heads_match s params vars from xs others ys ≡ true
   match_kinds from others [] [] ks p q = refl
   match_kinds from others [] (y ∷ ys) [] p q = cc
   match_kinds from others [] (y ∷ ys) (k ∷ ks) p q = cc

@@ -7,3 +7,5 @@ pub mod Conform
 pub mod Fit
 pub mod QueryFaults
 pub mod SchemaFaults
+pub mod RuleFaults
+pub mod Equations

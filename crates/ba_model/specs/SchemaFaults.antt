@@ -7,7 +7,7 @@ use Rattle.ba_model.specs.QueryFaults.{agree, is_empty}
 use Rattle.ba_model.specs.declared.limits.Counted.{Counted}
 use Rattle.ba_model.specs.declared.limits.Counted.TheVariants.{Tables, Columns, Keys, Links}
 use Rattle.ba_model.specs.declared.check_schema.SchemaFault.{SchemaFault}
-use Rattle.ba_model.specs.declared.check_schema.SchemaFault.TheVariants.{DuplicateTable, DuplicateColumn, UnknownTable, UnknownColumn, WidthDiffers, KindDiffers, EmptyKey, TooMany}
+use Rattle.ba_model.specs.declared.check_schema.SchemaFault.TheVariants.{DuplicateTable, DuplicateColumn, UnknownTable, UnknownColumn, WidthDiffers, KindDiffers, EmptyKey, TooMany, Rule}
 use Rattle.ba_model.specs.declared.schema.Column.{Column}
 use Rattle.ba_model.specs.declared.schema.Kind.{Kind}
 use Rattle.ba_model.specs.declared.schema.Link.{Link}
@@ -99,7 +99,7 @@ excess tables = if nat_lt most_tables (length tables) then Some Tables else tabl
 
 -- ---- the order
 
--- the tables are without the fault
+-- the tables are without the fault; no table has one of a rule
 abbrev pub Lacks : SchemaFault → List Table → Type 0
 Lacks DuplicateTable tables = AreDistinct (table_names tables)
 Lacks DuplicateColumn tables = All ColumnsDistinct tables
@@ -109,6 +109,7 @@ Lacks WidthDiffers tables = list_all widths_agree tables ≡ true
 Lacks KindDiffers tables = list_all (kinds_agree tables) tables ≡ true
 Lacks EmptyKey tables = list_all some_columns tables ≡ true
 Lacks (TooMany what limit) tables = excess tables ≡ None
+Lacks (Rule rule fault) tables = Unit {0}
 
 -- the tables have the fault; of counts above their limits that is the first
 abbrev pub Has : SchemaFault → List Table → Type 0
@@ -120,6 +121,7 @@ Has WidthDiffers tables = ¬ Lacks WidthDiffers tables
 Has KindDiffers tables = ¬ Lacks KindDiffers tables
 Has EmptyKey tables = ¬ Lacks EmptyKey tables
 Has (TooMany what limit) tables = (excess tables ≡ Some what) × (limit ≡ limit_of what)
+Has (Rule rule fault) tables = ⊥
 
 -- where a fault stands in the order
 abbrev pub rank : SchemaFault → ℕ
@@ -131,6 +133,7 @@ rank WidthDiffers = 4
 rank KindDiffers = 5
 rank EmptyKey = 6
 rank (TooMany what limit) = 7
+rank (Rule rule fault) = 8
 
 -- the first fault of the order that the tables have
 pub record IsFirstFault (f : SchemaFault) (tables : List Table) : Type 0 where

@@ -351,7 +351,7 @@ pub fn heads_match(
     }
 }
 
-fn parts_match(
+pub(crate) fn parts_match(
     schema: &Schema,
     params: &[Parameter],
     vars: &[Kind],
@@ -468,18 +468,15 @@ fn all_within(parts: &[Part]) -> bool
 }
 
 // The first fault of the parts, if they have one.
-fn fault_of(
+pub(crate) fn fault_of(
     schema: &Schema,
-    params: &List<Parameter>,
-    vars: &List<Kind>,
-    parts: &List<Part>,
+    params: &[Parameter],
+    vars: &[Kind],
+    parts: &[Part],
 ) -> Result<(), QueryFault>
     ensures ok { IfOk result (λ _. HasNoFault schema.now (kinds_of params.now) vars.now parts.now) }
     ensures first { IfErr result (λ fault. IsFirstFault fault schema.now (kinds_of params.now) vars.now parts.now) }
 {
-    let params = params.as_slice();
-    let vars = vars.as_slice();
-    let parts = parts.as_slice();
     if !all_tables_there(schema, parts) {
         return Err(QueryFault::BadTable);
     }
@@ -504,6 +501,19 @@ fn fault_of(
     Ok(())
 }
 
+// The same over lists.
+fn fault_of_lists(
+    schema: &Schema,
+    params: &List<Parameter>,
+    vars: &List<Kind>,
+    parts: &List<Part>,
+) -> Result<(), QueryFault>
+    ensures ok { IfOk result (λ _. HasNoFault schema.now (kinds_of params.now) vars.now parts.now) }
+    ensures first { IfErr result (λ fault. IsFirstFault fault schema.now (kinds_of params.now) vars.now parts.now) }
+{
+    fault_of(schema, params.as_slice(), vars.as_slice(), parts.as_slice())
+}
+
 impl Query {
     /// The draft as a query for a schema, parameters and variables of these kinds, or its first fault.
     ///
@@ -520,7 +530,7 @@ impl Query {
         ensures fault { IfErr result (λ fault. IsFirstFault fault schema.now (kinds_of params.now) vars.now draft.parts) }
         ensures exact { OnErr result (¬ IsQuery schema.now (kinds_of params.now) vars.now (record { parts = draft.parts })) }
     {
-        fault_of(schema, params, vars, &draft.parts)?;
+        fault_of_lists(schema, params, vars, &draft.parts)?;
         Ok(Query { parts: draft.parts })
     }
 }

@@ -1,17 +1,20 @@
 //! Whether a draft is a schema, or its first fault.
-ghost use Rattle.std.specs.Prelude.{◌≡◌, ◌↔◌, ◌==◌, [], IfOk, IfErr, IsTrue, is_some, length, map, nat_eq, not, slice_get, All};
+ghost use Rattle.std.specs.Prelude.{◌≡◌, ◌↔◌, ◌==◌, [], IfOk, IfErr, IsTrue, MatchOption, is_some, length, map, nat_eq, not, slice_get, All};
 ghost use Rattle.std.specs.List.{IsDistinct, list_all};
+ghost use Rattle.ba_model.specs.Fit.{IsQuery};
 ghost use Rattle.ba_model.specs.QueryFaults.{agree, is_empty};
 ghost use Rattle.ba_model.specs.Readings.{OfFault};
+ghost use Rattle.ba_model.specs.RuleFaults.{IsRuleFault, IsSchema, IsSchemaFault, RuleFits, drafted};
 ghost use Rattle.ba_model.specs.SchemaFaults as faults;
 ghost use Rattle.ba_model.specs.SchemaFaults.{AreTables, IsFirstFault};
 
-use crate::check_query::agree;
+use crate::check_query::{QueryFault, agree, fault_of, parts_match};
 use crate::failure::Failure;
-use crate::limits::{Counted, MAX_COLUMNS, MAX_KEYS, MAX_LINKS, MAX_TABLES};
+use crate::limits::{Counted, MAX_COLUMNS, MAX_KEYS, MAX_LINKS, MAX_RULES, MAX_TABLES};
 use crate::list::List;
+use crate::query::Query;
 use crate::same::Duplicate;
-use crate::schema::{Column, Kind, Link, Schema, Table};
+use crate::schema::{Column, Kind, Link, Rule, Schema, Table};
 use crate::text::Str;
 use indexmap::IndexSet;
 use std::alloc::{AllocError, Global};
@@ -21,6 +24,7 @@ use std::hash::Hash;
 #[derive(Debug, Drop)]
 pub struct SchemaDraft {
     pub tables: List<Table>,
+    pub rules: List<Rule>,
 }
 
 /// Why a draft is no schema. Of several faults the first of this order is told.
@@ -34,6 +38,9 @@ pub enum SchemaFault {
     KindDiffers,
     EmptyKey,
     TooMany { what: Counted, limit: u64 },
+    /// The rule of this number, from 0, has the fault: its left query, or else its right one, or else
+    /// their heads differ.
+    Rule { rule: u32, fault: QueryFault },
 }
 
 // Whether no two of the items are equal.
@@ -347,30 +354,103 @@ fn later_fault(tables: &[Table]) -> Result<(), SchemaFault>
     }
 }
 
+// The first fault of the tables.
+fn tables_fault(alloc: Global, tables: &[Table]) -> Result<(), Failure<SchemaFault>>
+    ensures ok { IfOk result (λ _. AreTables tables.now) }
+    ensures fault { IfErr result (λ e. OfFault e (λ fault. IsFirstFault fault tables.now)) }
+{
+    let names = tables_distinct(alloc, tables)?;
+    if !names {
+        return Err(Failure::Fault(SchemaFault::DuplicateTable));
+    }
+    let columns = all_columns_distinct(alloc, tables)?;
+    if !columns {
+        return Err(Failure::Fault(SchemaFault::DuplicateColumn));
+    }
+    later_fault(tables).map_err(Failure::Fault)
+}
+
+// The first fault of a draft's tables.
+fn draft_tables_fault(alloc: Global, draft: &SchemaDraft) -> Result<(), Failure<SchemaFault>>
+    ensures ok { IfOk result (λ _. AreTables draft.now.tables) }
+    ensures fault { IfErr result (λ e. OfFault e (IsSchemaFault (drafted draft.now))) }
+{
+    tables_fault(alloc, draft.tables.as_slice())
+}
+
+// Whether the heads of two queries have as many operands, of the same kinds.
+fn heads_match(schema: &Schema, left: &Query, right: &Query) -> bool
+    requires left { IsQuery schema.now [] [] left.now }
+    requires right { IsQuery schema.now [] [] right.now }
+    ensures { IsTrue result ↔ RuleFits schema.now (record { left = left.now; right = right.now }) }
+{
+    match (left.parts.find(0), right.parts.find(0)) {
+        (Some(part), Some(other)) => parts_match(schema, &[], &[], part, other),
+        _ => false,
+    }
+}
+
+// The fault of a rule, if it has one.
+fn rule_fault(schema: &Schema, rule: &Rule) -> Option<QueryFault>
+    ensures { MatchOption result (RuleFits schema.now rule.now) (IsRuleFault schema.now rule.now) }
+{
+    if let Err(fault) = fault_of(schema, &[], &[], rule.left.parts.as_slice()) {
+        return Some(fault);
+    }
+    if let Err(fault) = fault_of(schema, &[], &[], rule.right.parts.as_slice()) {
+        return Some(fault);
+    }
+    if heads_match(schema, &rule.left, &rule.right) {
+        None
+    } else {
+        Some(QueryFault::HeadDiffers)
+    }
+}
+
+// The first fault of the rules of a schema whose tables have none.
+fn rules_fault(schema: &Schema) -> Result<(), SchemaFault>
+    requires { AreTables schema.now.tables }
+    ensures ok { IfOk result (λ _. IsSchema schema.now) }
+    ensures fault { IfErr result (IsSchemaFault schema.now) }
+{
+    let rules = schema.rules.as_slice();
+    if rules.len() > MAX_RULES {
+        return Err(SchemaFault::TooMany {
+            what: Counted::Rules,
+            limit: MAX_RULES as u64,
+        });
+    }
+    for (number, rule) in rules.iter().enumerate() {
+        if let Some(fault) = rule_fault(schema, rule) {
+            return Err(SchemaFault::Rule {
+                rule: number as u32,
+                fault,
+            });
+        }
+    }
+    Ok(())
+}
+
 impl Schema {
-    /// The draft as a schema without rules, or its first fault.
+    /// The draft as a schema, or its first fault.
     ///
     /// It is one exactly where names of tables and of a table's columns are distinct, keys and links
     /// have columns that are there (a key each once), a link has as many target columns, of the same
-    /// kinds, and all counts are within the limits. A draft with a fault is dropped.
+    /// kinds, all counts are within the limits, and each rule has two queries for the schema, without
+    /// parameters and variables, whose heads have the same kinds. That there are too many rules is told
+    /// after all faults of the tables, then the first rule with a fault. A draft with a fault is
+    /// dropped.
     pub fn check(alloc: Global, draft: SchemaDraft) -> Result<Schema, Failure<SchemaFault>>
-        ensures content { IfOk result (λ schema. (schema.tables ≡ draft.tables) × (schema.rules ≡ [])) }
-        ensures ok { IfOk result (λ schema. AreTables schema.tables) }
-        ensures fault { IfErr result (λ e. OfFault e (λ fault. IsFirstFault fault draft.tables)) }
+        ensures content { IfOk result (λ schema. schema ≡ drafted draft) }
+        ensures ok { IfOk result IsSchema }
+        ensures fault { IfErr result (λ e. OfFault e (IsSchemaFault (drafted draft))) }
     {
-        let tables = draft.tables.as_slice();
-        let names = tables_distinct(alloc, tables)?;
-        if !names {
-            return Err(Failure::Fault(SchemaFault::DuplicateTable));
-        }
-        let columns = all_columns_distinct(alloc, tables)?;
-        if !columns {
-            return Err(Failure::Fault(SchemaFault::DuplicateColumn));
-        }
-        later_fault(tables).map_err(Failure::Fault)?;
-        Ok(Schema {
+        draft_tables_fault(alloc, &draft)?;
+        let schema = Schema {
             tables: draft.tables,
-            rules: List::new(alloc),
-        })
+            rules: draft.rules,
+        };
+        rules_fault(&schema).map_err(Failure::Fault)?;
+        Ok(schema)
     }
 }

@@ -3,6 +3,7 @@
 
 mod check_query;
 mod check_schema;
+mod equations;
 mod failure;
 mod holds;
 pub mod laws;

@@ -52,13 +52,18 @@ fn limit_text<R: Files + AllocGlobal>(
     limit: u64,
 ) -> Result<String, AllocError> {
     let alloc = reads.rt.alloc();
-    match what {
-        Counted::TextBytes | Counted::FileBytes => {
-            let text = format!(in alloc; "it has more than {limit} bytes")?;
+    let counted = match what {
+        Counted::TextBytes | Counted::FileBytes => Some("bytes"),
+        Counted::Steps => Some("steps"),
+        _ => None,
+    };
+    match counted {
+        Some(counted) => {
+            let text = format!(in alloc; "it has more than {limit} {counted}")?;
             let hint = Hint::plain(alloc, text.as_str())?;
             hint.line(alloc, reads.last(), &[])
         }
-        _ => reads.file_text(Part::of_count(reads.asked.len(), what), reads.last()),
+        None => reads.file_text(Part::of_count(reads.asked.len(), what), reads.last()),
     }
 }
 
@@ -121,10 +126,5 @@ pub fn notice<R: Files + AllocGlobal>(
         ),
         Detail::Memory => memory_text(alloc, outcome),
         Detail::Limit { what, limit } => limit_text(&reads, *what, *limit),
-        Detail::Steps { limit } => {
-            let text = format!(in alloc; "it has more than {limit} steps")?;
-            let hint = Hint::plain(alloc, text.as_str())?;
-            hint.line(alloc, reads.last(), &[])
-        }
     }
 }

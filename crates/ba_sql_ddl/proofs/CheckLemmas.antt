@@ -1,20 +1,23 @@
 -- The first fault of a draft, by the function and as the model tells it.
-use Rattle.std.proofs.Common.{◌≡◌, ℕ, ◌<◌, Bool, true, false, not, nat_eq, List, [], ◌∷◌, All, Option, Some, None, Result, Ok, Err, refl, sym, ap, subst, lit<}
+use Rattle.std.proofs.Common.{◌≡◌, ◌∙◌, ℕ, ◌<◌, Bool, true, false, not, nat_eq, List, [], ◌∷◌, All, Option, Some, None, Result, Ok, Err, refl, sym, ap, subst, lit<, arith}
 use Rattle.std.specs.Prelude.{IfErr, IfOk}
 use Rattle.std.specs.List.{AllByRecursion, IsDistinct, list_all, list_any}
 use Rattle.std.proofs.lemmas.Bool.{and_from, and_parts, false_from_ne_true, not_from_false, not-true, or_from, or_parts}
 use Rattle.std.proofs.lemmas.List.Elements.{All-from_recursion, recursion_from_All}
+use Rattle.std.proofs.lemmas.Option.{slice_get_past}
 use Rattle.ba_model.specs.Readings.{Fails, Gives, OfFault}
+use Rattle.ba_model.specs.RuleFaults.{IsSchema, IsSchemaFault}
 use Rattle.ba_model.specs.SchemaFaults.{AreTables, ColumnsDistinct, IsFirstFault, Lacks, column_names, columns_there, kinds_agree, rank, some_columns, table_names, targets_there, widths_agree}
 use Rattle.ba_model.specs.declared.limits.Counted.{Counted}
 use Rattle.ba_model.specs.declared.check_schema.SchemaFault.{SchemaFault}
-use Rattle.ba_model.specs.declared.check_schema.SchemaFault.TheVariants.{DuplicateTable, DuplicateColumn, UnknownTable, UnknownColumn, WidthDiffers, KindDiffers, EmptyKey, TooMany}
+use Rattle.ba_model.specs.declared.check_schema.SchemaFault.TheVariants.{DuplicateTable, DuplicateColumn, UnknownTable, UnknownColumn, WidthDiffers, KindDiffers, EmptyKey, TooMany, Rule as OfRule}
 use Rattle.ba_model.specs.declared.failure.Failure.{Failure}
 use Rattle.ba_model.specs.declared.failure.Failure.TheVariants.{NoMemory, Fault}
 use Rattle.ba_model.specs.declared.schema.Column.{Column}
+use Rattle.ba_model.specs.declared.schema.Rule.{Rule}
 use Rattle.ba_model.specs.declared.schema.Schema.{Schema}
 use Rattle.ba_model.specs.declared.schema.Table.{Table}
-use Rattle.ba_sql_ddl.specs.Check.{AreNotNull, are_distinct, columns_distinct, first_fault, well_formed}
+use Rattle.ba_sql_ddl.specs.Check.{AreNotNull, are_distinct, columns_distinct, first_fault, schema, well_formed}
 use Rattle.ba_sql_ddl.specs.Meaning.{first_nullable, nullable_column}
 use Rattle.ba_sql_ddl.specs.Numbers.{same_name}
 
@@ -136,6 +139,7 @@ the_fault (TooMany what limit) tables h =
     (rw (below (TooMany what limit) KindDiffers tables h (lit< tt))
     (rw (below (TooMany what limit) EmptyKey tables h (lit< tt))
     (rw h.has.0 (ap (λ (n : ℕ). Some (TooMany what n)) (sym h.has.1)))))))))
+the_fault (OfRule rule fault) tables h = absurd h.has
 
 -- ---- the schema, or the fault
 
@@ -147,10 +151,26 @@ fault_fails : (tables : List Table) (e : Failure SchemaFault) → OfFault e (λ 
 fault_fails tables NoMemory h = tt
 fault_fails tables (Fault f) h = rw (the_fault f tables h) refl
 
-pub check_gives : (tables : List Table) (r : Result Schema (Failure SchemaFault)) → IfOk r (λ s. (s.tables ≡ tables) × (s.rules ≡ []))
-    → IfOk r (λ s. AreTables s.tables) → IfErr r (λ e. OfFault e (λ f. IsFirstFault f tables)) → Gives r (well_formed tables)
-check_gives tables (Ok s) content are fault = tables_give tables s are content.0 content.1
-check_gives tables (Err e) content are fault = fault_fails tables e fault
+-- without rules a fault is of the tables
+without_rules : (tables : List Table) (f : SchemaFault) → IsSchemaFault (schema tables) f → IsFirstFault f tables
+without_rules tables _ (IsSchemaFault.of_tables first) = first
+without_rules tables _ (IsSchemaFault.too_many are more) = absurd (omega (arith, more))
+without_rules tables _ (IsSchemaFault.of_rule {number} are few unfit) = absurd (none unfit.rule (sym (slice_get_past [] number (omega arith)) ∙ unfit.there))
+  where
+    none : (rule : Rule) → ◌≡◌ {A = Option Rule} None (Some rule) → ⊥
+    none rule e = cc
+
+fault_of_tables : (tables : List Table) (e : Failure SchemaFault) → OfFault e (IsSchemaFault (schema tables)) → OfFault e (λ f. IsFirstFault f tables)
+fault_of_tables tables NoMemory h = tt
+fault_of_tables tables (Fault f) h = without_rules tables f h
+
+pub check_gives : (tables : List Table) (rules : List Rule) (r : Result Schema (Failure SchemaFault)) → rules ≡ []
+    → IfOk r (λ s. s ≡ record { tables = tables; rules = rules }) → IfOk r IsSchema
+    → IfErr r (λ e. OfFault e (IsSchemaFault (record { tables = tables; rules = rules }))) → Gives r (well_formed tables)
+check_gives tables rules (Ok s) none content is fault =
+    tables_give tables s is.tables (ap (λ (z : Schema). z.tables) content) (ap (λ (z : Schema). z.rules) content ∙ none)
+check_gives tables rules (Err e) none content is fault =
+    fault_fails tables e (fault_of_tables tables e (subst (λ rs. OfFault e (IsSchemaFault (record { tables = tables; rules = rs }))) none fault))
 
 -- ---- no nullable column
 

@@ -8,7 +8,7 @@ use Rattle.ba_model.specs.Limits.{limit_of}
 use Rattle.ba_model.specs.SchemaFaults.{AreTables, IsFirstFault, Lacks, columns_there, excess, kinds_agree, rank, some_columns, table_names, targets_there, widths_agree}
 use Rattle.ba_model.specs.declared.limits.Counted.{Counted}
 use Rattle.ba_model.specs.declared.check_schema.SchemaFault.{SchemaFault}
-use Rattle.ba_model.specs.declared.check_schema.SchemaFault.TheVariants.{DuplicateTable, DuplicateColumn, UnknownTable, UnknownColumn, WidthDiffers, KindDiffers, EmptyKey, TooMany}
+use Rattle.ba_model.specs.declared.check_schema.SchemaFault.TheVariants.{DuplicateTable, DuplicateColumn, UnknownTable, UnknownColumn, WidthDiffers, KindDiffers, EmptyKey, TooMany, Rule}
 use Rattle.ba_model.specs.declared.failure.Failure.{Failure}
 use Rattle.ba_model.specs.declared.schema.Schema.{Schema}
 use Rattle.ba_model.specs.declared.schema.Table.{Table}
@@ -39,6 +39,7 @@ lacks_of WidthDiffers tables h = h
 lacks_of KindDiffers tables h = h
 lacks_of EmptyKey tables h = h
 lacks_of (TooMany what limit) tables h = h
+lacks_of (Rule rule fault) tables h = tt
 
 abbrev Levels : List Table → ℕ → Type 0
 Levels tables zero = Unit {0}
@@ -55,7 +56,7 @@ level tables (suc n) m h lt = at (nat_eq m n) refl (level tables n m h.0)
 first : (f : SchemaFault) (tables : List Table) → Levels tables (rank f) → (g : SchemaFault) → rank g < rank f → Lacks g tables
 first f tables h g lt = lacks_of g tables (level tables (rank f) (rank g) h lt)
 
-rank_below : (f : SchemaFault) → rank f < 8
+rank_below : (f : SchemaFault) → rank f < 9
 rank_below DuplicateTable = omega arith
 rank_below DuplicateColumn = omega arith
 rank_below UnknownTable = omega arith
@@ -64,6 +65,7 @@ rank_below WidthDiffers = omega arith
 rank_below KindDiffers = omega arith
 rank_below EmptyKey = omega arith
 rank_below (TooMany what limit) = omega arith
+rank_below (Rule rule fault) = omega arith
 
 abbrev pub Told : Option SchemaFault → List Table → Type 0
 Told None tables = AreTables tables
@@ -73,7 +75,7 @@ not_both : (b : Bool) → b ≡ false → b ≡ true → ⊥
 not_both b e h = false≢true (sym e ∙ h)
 
 last_told : (o : Option Counted) (tables : List Table) → excess tables ≡ o → Levels tables 7 → Told (too_many o) tables
-last_told None tables e h = record { lacks = λ (f : SchemaFault). lacks_of f tables (level tables 8 (rank f) (h, e) (rank_below f)) }
+last_told None tables e h = record { lacks = λ (f : SchemaFault). lacks_of f tables (level tables 9 (rank f) ((h, e), e) (rank_below f)) }
 last_told (Some what) tables e h = record { has = (e, refl); first = first (TooMany what (limit_of what)) tables h }
 
 abbrev result : List Table → Bool → Bool → Bool → Bool → Bool → Bool → Bool → Option SchemaFault

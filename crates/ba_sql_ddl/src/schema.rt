@@ -55,7 +55,8 @@ fn first_nullable(tables: &[Table]) -> Option<(&Str, &Str)>
 fn well_formed(alloc: Global, tables: List<Table>) -> Result<Schema, Failure<SchemaFault>>
     ensures { Gives result (well_formed tables) }
 {
-    Schema::check(alloc, SchemaDraft { tables })
+    let rules = List::new(alloc);
+    Schema::check(alloc, SchemaDraft { tables, rules })
 }
 
 #[tactic(auto, unfolding(crate::specs::Check::checked))]

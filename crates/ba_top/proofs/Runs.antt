@@ -13,12 +13,12 @@ use Rattle.ba_plan.specs.declared.stop.Stop.{Stop}
 use Rattle.ba_plan.specs.declared.stop.Stop.TheVariants.{Refused, Read as Unreadable, TooLong, NoMemory}
 use Rattle.ba_proof.specs.declared.checking.CheckFault.{CheckFault}
 use Rattle.ba_proof.specs.declared.proof.Proof.{Proof}
-use Rattle.ba_top.specs.Causes.{ComesTo, IsLimit, IsStepLimit, Tells, stopped}
+use Rattle.ba_top.specs.Causes.{ComesTo, IsLimit, Tells, stopped}
 use Rattle.ba_top.specs.Checking.{EndsCheck, EndsLine, IsAccepted, IsFinding, IsVerdict, detail_found, line_found}
 use Rattle.ba_top.specs.Ran.{Accepts, EndsFault, EndsPrint, EndsRun, EndsStop, Ran, RanTask, Rejects, Served, detail_of}
 use Rattle.ba_top.specs.Reading.{plan_of}
 use Rattle.ba_top.specs.declared.report.Detail.{Detail}
-use Rattle.ba_top.specs.declared.report.Detail.TheVariants.{Done, NotAccepted, Words, Input as BadInput, Read, Write, Memory, Limit, Steps}
+use Rattle.ba_top.specs.declared.report.Detail.TheVariants.{Done, NotAccepted, Words, Input as BadInput, Read, Write, Memory, Limit}
 use Rattle.ba_lanes.specs.declared.journal.Input.{Input}
 use Rattle.ba_lanes.specs.declared.journal.Journal.{Journal}
 use Rattle.ba_top.specs.declared.report.Refusal.{Refusal}
@@ -43,7 +43,6 @@ stops_as : (stop : Stop Refusal) (s t : SinkSeen) (detail : Detail) → EndsStop
 stops_as (Refused refusal.Words) s t detail ends = ends_as fault.Words s t detail ends
 stops_as (Refused (refusal.Input file reason)) s t detail ends = ends_as (fault.Input file reason) s t detail ends
 stops_as (Refused (refusal.Limit what limit)) s t detail ends = ends_as (fault.Limit what limit) s t detail ends
-stops_as (Refused (refusal.Steps limit)) s t detail ends = ends_as (fault.Steps limit) s t detail ends
 stops_as (Unreadable file) s t detail ends = ends_as (fault.Read file) s t detail ends
 stops_as (TooLong file limit) s t detail ends = ends_as (fault.Limit FileBytes limit) s t detail ends
 stops_as NoMemory s t detail ends = inl ends.0
@@ -58,7 +57,6 @@ runs_as input told journal s t Words ends = absurd ends
 runs_as input told journal s t (BadInput file reason) ends = absurd ends
 runs_as input told journal s t (Read file) ends = absurd ends
 runs_as input told journal s t (Limit what limit) ends = absurd ends
-runs_as input told journal s t (Steps limit) ends = absurd ends
 
 -- a finding that is told ends with its own detail, or that of the writing
 told_as : (proof : Proof) (s t : SinkSeen) (detail : Detail) (found : Option CheckFault) → IsFinding proof found → EndsLine (verdict_bytes (line_found (length proof.steps) found)) (detail_found found) s t detail → IsVerdict proof detail ⊎ ((detail ≡ Write) × Rose s.faults t.faults) ⊎ (detail ≡ Memory)
@@ -118,7 +116,6 @@ unreadable (Ok (task.Check proof)) file e = absurd e
 unreadable (Err (Refused refusal.Words)) file e = absurd (cc)
 unreadable (Err (Refused (refusal.Input f reason))) file e = absurd (cc)
 unreadable (Err (Refused (refusal.Limit what limit))) file e = absurd (cc)
-unreadable (Err (Refused (refusal.Steps limit))) file e = absurd (cc)
 unreadable (Err (Unreadable f)) file e = let h : f ≡ file = cc in ap (λ z. Err (Unreadable z)) h
 unreadable (Err (TooLong f n)) file e = absurd (cc)
 unreadable (Err NoMemory) file e = absurd (cc)
@@ -134,22 +131,9 @@ limit_of (Ok (task.Check proof)) what limit e = absurd e
 limit_of (Err (Refused refusal.Words)) what limit e = absurd (cc)
 limit_of (Err (Refused (refusal.Input f reason))) what limit e = absurd (cc)
 limit_of (Err (Refused (refusal.Limit w n))) what limit e = let h : w ≡ what = cc in let k : n ≡ limit = cc in inl (rw (h, k) refl)
-limit_of (Err (Refused (refusal.Steps n))) what limit e = absurd (cc)
 limit_of (Err (Unreadable f)) what limit e = absurd (cc)
 limit_of (Err (TooLong f n)) what limit e = let w : FileBytes ≡ what = cc in let h : n ≡ limit = cc in inr (sym w, (f, ap (λ z. Err (TooLong f z)) h))
 limit_of (Err NoMemory) what limit e = absurd (cc)
-
-step_limit_of : (reading : Result Task (Stop Refusal)) (limit : ℕ) → ComesTo reading (Steps limit) → reading ≡ Err (Refused (refusal.Steps limit))
-step_limit_of (Ok (task.Run input told)) limit e = absurd (cc)
-step_limit_of (Ok (task.Print text)) limit e = absurd (cc)
-step_limit_of (Ok (task.Check proof)) limit e = absurd e
-step_limit_of (Err (Refused refusal.Words)) limit e = absurd (cc)
-step_limit_of (Err (Refused (refusal.Input f reason))) limit e = absurd (cc)
-step_limit_of (Err (Refused (refusal.Limit w n))) limit e = absurd (cc)
-step_limit_of (Err (Refused (refusal.Steps n))) limit e = let h : n ≡ limit = cc in ap (λ z. Err (Refused (refusal.Steps z))) h
-step_limit_of (Err (Unreadable f)) limit e = absurd (cc)
-step_limit_of (Err (TooLong f n)) limit e = absurd (cc)
-step_limit_of (Err NoMemory) limit e = absurd (cc)
 
 pub ran_read : (words : List (List ℕ)) (f g : FilesSeen) (s t : SinkSeen) (detail : Detail) (journal : Option Journal) → Ran words f g s t detail journal → (file : List ℕ) → detail ≡ Read file → FailedAt file f g
 unfolding Ended
@@ -173,15 +157,6 @@ ran_limit words f g s t detail journal ran what limit e = by_end (ended words f 
     by_end (reading, follows, inr (inl (is, rose))) = absurd (cc)
     by_end (reading, follows, inr (inr is)) = absurd (cc)
 
-pub ran_steps : (words : List (List ℕ)) (f g : FilesSeen) (s t : SinkSeen) (detail : Detail) (journal : Option Journal) → Ran words f g s t detail journal → (limit : ℕ) → detail ≡ Steps limit → IsStepLimit words limit f g
-unfolding Ended
-ran_steps words f g s t detail journal ran limit e = by_end (ended words f g s t detail journal ran)
-  where
-    by_end : Ended words f g s t detail → IsStepLimit words limit f g
-    by_end (reading, follows, inl is) = subst (λ z. Follows (plan_of words) f g z) (step_limit_of reading limit (subst (ComesTo reading) e is)) follows
-    by_end (reading, follows, inr (inl (is, rose))) = absurd (cc)
-    by_end (reading, follows, inr (inr is)) = absurd (cc)
-
 not_write : (reading : Result Task (Stop Refusal)) → ¬ (ComesTo reading Write)
 not_write (Ok (task.Run input told)) e = cc
 not_write (Ok (task.Print text)) e = cc
@@ -189,7 +164,6 @@ not_write (Ok (task.Check proof)) e = e
 not_write (Err (Refused refusal.Words)) e = cc
 not_write (Err (Refused (refusal.Input f reason))) e = cc
 not_write (Err (Refused (refusal.Limit what limit))) e = cc
-not_write (Err (Refused (refusal.Steps limit))) e = cc
 not_write (Err (Unreadable f)) e = cc
 not_write (Err (TooLong f n)) e = cc
 not_write (Err NoMemory) e = cc
@@ -209,7 +183,6 @@ not_done : (stop : Stop Refusal) → ¬ (Done ≡ stopped stop)
 not_done (Refused refusal.Words) e = cc
 not_done (Refused (refusal.Input f reason)) e = cc
 not_done (Refused (refusal.Limit what limit)) e = cc
-not_done (Refused (refusal.Steps limit)) e = cc
 not_done (Unreadable f) e = cc
 not_done (TooLong f n) e = cc
 not_done NoMemory e = cc
@@ -244,7 +217,6 @@ rejects words f g (Ok (task.Check proof)) why follows is = record { proof = proo
 rejects words f g (Err (Refused refusal.Words)) why follows e = absurd (cc)
 rejects words f g (Err (Refused (refusal.Input file reason))) why follows e = absurd (cc)
 rejects words f g (Err (Refused (refusal.Limit what limit))) why follows e = absurd (cc)
-rejects words f g (Err (Refused (refusal.Steps limit))) why follows e = absurd (cc)
 rejects words f g (Err (Unreadable file)) why follows e = absurd (cc)
 rejects words f g (Err (TooLong file n)) why follows e = absurd (cc)
 rejects words f g (Err NoMemory) why follows e = absurd (cc)
@@ -282,7 +254,6 @@ tells whole (Read file) is = tt
 tells whole Write is = tt
 tells whole Memory is = tt
 tells whole (Limit what limit) is = is
-tells whole (Steps limit) is = is
 
 -- what the reading came to tells of the words and the files
 tells_of : (reading whole : Result Task (Stop Refusal)) (detail : Detail) → Settles reading whole → ComesTo reading detail → Tells detail whole

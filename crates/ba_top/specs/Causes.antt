@@ -10,7 +10,7 @@ use Rattle.ba_plan.specs.declared.stop.Stop.TheVariants.{Refused, Read as Unread
 use Rattle.ba_top.specs.Checking.{IsVerdict}
 use Rattle.ba_top.specs.Reading.{plan_of}
 use Rattle.ba_top.specs.declared.report.Detail.{Detail}
-use Rattle.ba_top.specs.declared.report.Detail.TheVariants.{Done, NotAccepted, Words, Input as BadInput, Read, Write, Memory, Limit, Steps}
+use Rattle.ba_top.specs.declared.report.Detail.TheVariants.{Done, NotAccepted, Words, Input as BadInput, Read, Write, Memory, Limit}
 use Rattle.ba_top.specs.declared.report.Refusal.{Refusal}
 use Rattle.ba_top.specs.declared.report.Refusal.TheVariants as refusal
 use Rattle.ba_top.specs.declared.report.Task.{Task}
@@ -21,7 +21,6 @@ abbrev pub stopped : Stop Refusal → Detail
 stopped (Refused refusal.Words) = Words
 stopped (Refused (refusal.Input file reason)) = BadInput file reason
 stopped (Refused (refusal.Limit what limit)) = Limit what limit
-stopped (Refused (refusal.Steps limit)) = Steps limit
 stopped (Unreadable file) = Read file
 stopped (TooLong file limit) = Limit FileBytes limit
 stopped NoMemory = Memory
@@ -41,7 +40,6 @@ Tells (NotAccepted fault) reading = ComesTo reading (NotAccepted fault)
 Tells Words reading = ComesTo reading Words
 Tells (BadInput file reason) reading = ComesTo reading (BadInput file reason)
 Tells (Limit what limit) reading = ComesTo reading (Limit what limit)
-Tells (Steps limit) reading = ComesTo reading (Steps limit)
 Tells (Read file) reading = ⊤
 Tells Write reading = ⊤
 Tells Memory reading = ⊤
@@ -49,7 +47,3 @@ Tells Memory reading = ⊤
 -- the limit is of a count in what was read, or of the bytes of the last name asked for
 abbrev pub IsLimit : List (List ℕ) → Counted → ℕ → FilesSeen → FilesSeen → Type 0
 IsLimit words what limit old new = Follows (plan_of words) old new (Err (Refused (refusal.Limit what limit))) ⊎ ((what ≡ FileBytes) × ((file : List ℕ) × LongAt file limit old new))
-
--- the limit is that of the steps of the proof that was read
-abbrev pub IsStepLimit : List (List ℕ) → ℕ → FilesSeen → FilesSeen → Type 0
-IsStepLimit words limit old new = Follows (plan_of words) old new (Err (Refused (refusal.Steps limit)))

@@ -12,7 +12,7 @@ use Rattle.ba_proof.specs.declared.checking.CheckFault.TheVariants as check
 use Rattle.ba_proof.specs.declared.proof.Proof.{Proof}
 use Rattle.ba_lanes.specs.Legal.{IsInput}
 use Rattle.ba_top.specs.declared.report.Detail.{Detail}
-use Rattle.ba_top.specs.declared.report.Detail.TheVariants.{Done, NotAccepted, Words, Input as BadInput, Read, Write, Memory, Limit, Steps}
+use Rattle.ba_top.specs.declared.report.Detail.TheVariants.{Done, NotAccepted, Words, Input as BadInput, Read, Write, Memory, Limit}
 use Rattle.ba_top.specs.declared.report.Task.{Task}
 use Rattle.ba_top.specs.declared.report.Task.TheVariants.{Run, Print, Check}
 use Rattle.ba_wire.specs.Verdicts.{verdict_bytes}
@@ -64,7 +64,6 @@ IsVerdict proof (Read file) = ⊥
 IsVerdict proof Write = ⊥
 IsVerdict proof Memory = ⊥
 IsVerdict proof (Limit what limit) = ⊥
-IsVerdict proof (Steps limit) = ⊥
 
 -- ---- what a check writes
 

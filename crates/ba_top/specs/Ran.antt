@@ -15,7 +15,7 @@ use Rattle.ba_lanes.specs.Legal.{Legal, lacks_memory}
 use Rattle.ba_top.specs.Reading.{plan_of}
 use Rattle.ba_top.specs.Text.{told_lines}
 use Rattle.ba_top.specs.declared.report.Detail.{Detail}
-use Rattle.ba_top.specs.declared.report.Detail.TheVariants.{Done, NotAccepted, Words, Input as BadInput, Read, Write, Memory, Limit, Steps}
+use Rattle.ba_top.specs.declared.report.Detail.TheVariants.{Done, NotAccepted, Words, Input as BadInput, Read, Write, Memory, Limit}
 use Rattle.ba_lanes.specs.declared.journal.Input.{Input}
 use Rattle.ba_lanes.specs.declared.journal.Journal.{Journal}
 use Rattle.ba_top.specs.declared.report.Refusal.{Refusal}
@@ -37,14 +37,12 @@ status_of (Read file) = 4
 status_of Write = 5
 status_of Memory = 6
 status_of (Limit what limit) = 7
-status_of (Steps limit) = 7
 
 abbrev pub detail_of : Fault → Detail
 detail_of fault.Words = Words
 detail_of (fault.Input file reason) = BadInput file reason
 detail_of (fault.Read file) = Read file
 detail_of (fault.Limit what limit) = Limit what limit
-detail_of (fault.Steps limit) = Steps limit
 
 -- How the writing of a journal ends: all is written, and it is done, or some line lacked memory; or a front is written, and the sink
 -- failed or memory ran out.
@@ -58,7 +56,6 @@ EndsRun input told journal s t Words = ⊥
 EndsRun input told journal s t (BadInput file reason) = ⊥
 EndsRun input told journal s t (Read file) = ⊥
 EndsRun input told journal s t (Limit what limit) = ⊥
-EndsRun input told journal s t (Steps limit) = ⊥
 
 -- how the writing of a fault's line ends
 abbrev pub EndsFault : Fault → SinkSeen → SinkSeen → Detail → Type 0
@@ -69,7 +66,6 @@ abbrev pub EndsStop : Stop Refusal → SinkSeen → SinkSeen → Detail → Type
 EndsStop (Refused refusal.Words) s t detail = EndsFault fault.Words s t detail
 EndsStop (Refused (refusal.Input file reason)) s t detail = EndsFault (fault.Input file reason) s t detail
 EndsStop (Refused (refusal.Limit what limit)) s t detail = EndsFault (fault.Limit what limit) s t detail
-EndsStop (Refused (refusal.Steps limit)) s t detail = EndsFault (fault.Steps limit) s t detail
 EndsStop (Unreadable file) s t detail = EndsFault (fault.Read file) s t detail
 EndsStop (TooLong file limit) s t detail = EndsFault (fault.Limit FileBytes limit) s t detail
 EndsStop NoMemory s t detail = (detail ≡ Memory) × (t ≡ s)

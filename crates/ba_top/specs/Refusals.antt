@@ -2,6 +2,8 @@
 use Rattle.std.specs.Prelude.{ℕ, List, [], option_map, slice_get, unwrap_or}
 use Rattle.ba_lex.specs.declared.token.LexFault.{LexFault}
 use Rattle.ba_lex.specs.declared.token.LexFault.TheVariants as lex
+use Rattle.ba_model.specs.declared.check_query.QueryFault.{QueryFault}
+use Rattle.ba_model.specs.declared.check_query.QueryFault.TheVariants as checked
 use Rattle.ba_model.specs.declared.check_schema.SchemaFault.{SchemaFault}
 use Rattle.ba_model.specs.declared.check_schema.SchemaFault.TheVariants as tables
 use Rattle.ba_model.specs.declared.schema.Schema.{Schema}
@@ -24,7 +26,7 @@ use Rattle.ba_tables.specs.declared.fault.TableFault.{TableFault}
 use Rattle.ba_tables.specs.declared.fault.TableFault.TheVariants as table
 use Rattle.ba_top.specs.Path.{path_of}
 use Rattle.ba_top.specs.declared.report.Refusal.{Refusal}
-use Rattle.ba_top.specs.declared.report.Refusal.TheVariants.{Input, Limit, Steps}
+use Rattle.ba_top.specs.declared.report.Refusal.TheVariants.{Input, Limit}
 use Rattle.ba_wire.specs.declared.fault.Reason.TheVariants as reason
 
 -- a fault that query texts have too
@@ -39,6 +41,16 @@ lex_fault file lex.NumberTooLarge = text_fault file (query.Lex lex.NumberTooLarg
 
 -- ---- the schema
 
+-- a fault of a checked query, by the name that it has where a text is read
+abbrev pub read_fault : QueryFault → ReadQueryFault
+read_fault checked.BadTable = query.UnknownTable
+read_fault checked.BadColumn = query.UnknownColumn
+read_fault checked.KindDiffers = query.KindDiffers
+read_fault checked.OrderOnText = query.OrderOnText
+read_fault checked.HeadDiffers = query.HeadDiffers
+read_fault checked.UnknownParam = query.UnknownParam
+read_fault checked.TooMany = query.TooMany
+
 abbrev pub schema_fault : List ℕ → SchemaFault → Refusal
 schema_fault file tables.DuplicateTable = Input file reason.DuplicateTable
 schema_fault file tables.DuplicateColumn = Input file reason.DuplicateColumn
@@ -48,6 +60,7 @@ schema_fault file tables.WidthDiffers = Input file reason.WidthDiffers
 schema_fault file tables.KindDiffers = text_fault file query.KindDiffers
 schema_fault file tables.EmptyKey = Input file reason.EmptyKey
 schema_fault file (tables.TooMany it limit) = Limit it limit
+schema_fault file (tables.Rule rule fault) = Input file (reason.Rule rule (read_fault fault))
 
 unfoldable pub ddl_refusal : List ℕ → DdlFault → Refusal
 ddl_refusal file (ddl.Lex fault) = lex_fault file fault
@@ -94,5 +107,5 @@ script_refusal file (TooMany it limit) = Limit it limit
 
 unfoldable pub proof_refusal : List ℕ → ProofFault → Refusal
 proof_refusal file proof.BadJson = Input file reason.Json
-proof_refusal file proof.TooLong = Steps most_steps
+proof_refusal file proof.TooLong = Limit what.Steps most_steps
 proof_refusal file (proof.BadField field) = Input file (reason.Field (field_name field))

@@ -2,11 +2,11 @@
 ghost use Rattle.std.specs.Prelude.{◌≡◌, Err, IfOk, string_bytes};
 ghost use Rattle.ba_plan.specs.Follows.{Gives};
 ghost use Rattle.ba_top.specs.Path.{path_of};
-ghost use Rattle.ba_top.specs.Refusals.{broken_refusal, ddl_refusal, file_of_table, lex_fault, policy_refusal, proof_refusal, schema_fault, script_refusal, table_refusal, text_fault};
+ghost use Rattle.ba_top.specs.Refusals.{broken_refusal, ddl_refusal, file_of_table, lex_fault, policy_refusal, proof_refusal, read_fault, schema_fault, script_refusal, table_refusal, text_fault};
 
 use crate::report::Refusal;
 use ba_lex::LexFault;
-use ba_model::{Counted, MAX_STEPS, MAX_TEXT_BYTES, Schema, SchemaFault, Str};
+use ba_model::{Counted, MAX_STEPS, MAX_TEXT_BYTES, QueryFault, Schema, SchemaFault, Str};
 use ba_policy::PolicyFault;
 use ba_proof::ProofFault;
 use ba_script::ScriptFault;
@@ -37,6 +37,20 @@ fn lex_fault(file: Str, fault: LexFault) -> Refusal
     }
 }
 
+fn read_fault(fault: QueryFault) -> ReadQueryFault
+    ensures { result ≡ read_fault fault }
+{
+    match fault {
+        QueryFault::BadTable => ReadQueryFault::UnknownTable,
+        QueryFault::BadColumn => ReadQueryFault::UnknownColumn,
+        QueryFault::KindDiffers => ReadQueryFault::KindDiffers,
+        QueryFault::OrderOnText => ReadQueryFault::OrderOnText,
+        QueryFault::HeadDiffers => ReadQueryFault::HeadDiffers,
+        QueryFault::UnknownParam => ReadQueryFault::UnknownParam,
+        QueryFault::TooMany => ReadQueryFault::TooMany,
+    }
+}
+
 fn schema_fault(file: Str, fault: SchemaFault) -> Refusal
     ensures { result ≡ schema_fault file fault }
 {
@@ -49,6 +63,10 @@ fn schema_fault(file: Str, fault: SchemaFault) -> Refusal
         SchemaFault::UnknownColumn => return text_fault(file, ReadQueryFault::UnknownColumn),
         SchemaFault::KindDiffers => return text_fault(file, ReadQueryFault::KindDiffers),
         SchemaFault::TooMany { what, limit } => return Refusal::Limit { what, limit },
+        SchemaFault::Rule { rule, fault } => Reason::Rule {
+            rule,
+            fault: read_fault(fault),
+        },
     };
     Refusal::Input { file, reason }
 }
@@ -176,7 +194,10 @@ pub(crate) fn proof_refusal(
             file,
             reason: Reason::Json,
         }),
-        ProofFault::TooLong => Ok(Refusal::Steps { limit: MAX_STEPS }),
+        ProofFault::TooLong => Ok(Refusal::Limit {
+            what: Counted::Steps,
+            limit: MAX_STEPS,
+        }),
         ProofFault::BadField(field) => {
             let name = Str::new(alloc, field.name())?;
             Ok(Refusal::Input {

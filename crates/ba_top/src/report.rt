@@ -34,8 +34,6 @@ pub enum Refusal {
     Input { file: Str, reason: Reason },
     /// A count of a file above its limit.
     Limit { what: Counted, limit: u64 },
-    /// A proof of more steps than the limit.
-    Steps { limit: u64 },
 }
 
 /// How a command ended.
@@ -57,8 +55,6 @@ pub enum Detail {
     Memory,
     /// A count above its limit.
     Limit { what: Counted, limit: u64 },
-    /// A proof of more steps than the limit.
-    Steps { limit: u64 },
 }
 
 /// What the top call answers: the exit status, its cause, and the journal where lines were answered. A check has none.

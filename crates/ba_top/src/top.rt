@@ -5,7 +5,7 @@ ghost use Rattle.ba_outside.specs.Causes.{Rose};
 ghost use Rattle.ba_plan.specs.Ends.{AsksFront, FailedAt};
 ghost use Rattle.ba_plan.specs.Plan.{names_of, outcome_of};
 ghost use Rattle.ba_proof.specs.declared.checking.CheckFault.{CheckFault};
-ghost use Rattle.ba_top.specs.Causes.{ComesTo, IsLimit, IsStepLimit, Tells};
+ghost use Rattle.ba_top.specs.Causes.{ComesTo, IsLimit, Tells};
 ghost use Rattle.ba_top.specs.Checking.{IsTask};
 ghost use Rattle.ba_lanes.specs.Legal.{IsInput};
 ghost use Rattle.ba_top.specs.Ran.{Accepts, EndsFault, EndsPrint, EndsRun, EndsStop, Ran, RanInput, RanTask, Rejects, Served, detail_of, status_of};
@@ -36,7 +36,7 @@ fn status(detail: &Detail) -> u8
         Detail::Read { .. } => 4,
         Detail::Write => 5,
         Detail::Memory => 6,
-        Detail::Limit { .. } | Detail::Steps { .. } => 7,
+        Detail::Limit { .. } => 7,
     }
 }
 
@@ -48,7 +48,6 @@ fn detail(fault: Fault) -> Detail
         Fault::Input { file, reason } => Detail::Input { file, reason },
         Fault::Read { file } => Detail::Read { file },
         Fault::Limit { what, limit } => Detail::Limit { what, limit },
-        Fault::Steps { limit } => Detail::Steps { limit },
     }
 }
 
@@ -95,7 +94,6 @@ fn end_stop<S: Sink>(alloc: Global, stop: Stop<Refusal>, sink: &mut S) -> Detail
                 end_fault(alloc, Fault::Input { file, reason }, sink)
             }
             Refusal::Limit { what, limit } => end_fault(alloc, Fault::Limit { what, limit }, sink),
-            Refusal::Steps { limit } => end_fault(alloc, Fault::Steps { limit }, sink),
         },
         Stop::Read(file) => end_fault(alloc, Fault::Read { file }, sink),
         Stop::TooLong(_, limit) => {
@@ -226,9 +224,6 @@ pub fn blockaid<R: Threads + Wait + Sync, F: Files, S: Sink, G: Gate + Sync>(
     // A count above its limit is one of what was read, or of the bytes of the last name asked for.
     ensures limit { (what : Counted) (limit : ℕ) → result.detail ≡ Detail.Limit what limit
         → IsLimit (map string_bytes words.now) what limit (F.seen files.old) (F.seen files.new) }
-    // More steps than the limit are those of the proof that was read.
-    ensures steps { (limit : ℕ) → result.detail ≡ Detail.Steps limit
-        → IsStepLimit (map string_bytes words.now) limit (F.seen files.old) (F.seen files.new) }
     // A write fault comes only where the sink's count rose.
     ensures write { result.detail ≡ Detail.Write
         → Rose (S.seen sink.old).faults (S.seen sink.new).faults }

@@ -100,6 +100,7 @@ reason_text reason.DuplicateTable = codes "duplicate_table"
 reason_text reason.DuplicateColumn = codes "duplicate_column"
 reason_text reason.WidthDiffers = codes "width_differs"
 reason_text reason.EmptyKey = codes "empty_key"
+reason_text (reason.Rule rule it) = codes "rule" ␣ decimal rule ␣ fault_words it
 reason_text (reason.DuplicateParam name) = codes "duplicate_param" ␣ name
 reason_text (reason.DuplicateView name) = codes "duplicate_view" ␣ name
 reason_text (reason.View name it) = codes "view" ␣ name ␣ fault_words it
@@ -120,12 +121,17 @@ what_name what.Tables = codes "tables"
 what_name what.Columns = codes "columns"
 what_name what.Keys = codes "keys"
 what_name what.Links = codes "links"
+what_name what.Rules = codes "rules"
 what_name what.Views = codes "views"
 what_name what.Params = codes "params"
+what_name what.CacheKeys = codes "cache_keys"
+what_name what.KeyQueries = codes "key_queries"
 what_name what.Rows = codes "rows"
 what_name what.Lines = codes "lines"
 what_name what.Requests = codes "requests"
 what_name what.Asks = codes "asks"
+what_name what.Steps = codes "steps"
+what_name what.Templates = codes "templates"
 
 abbrev pub count : ℕ → Data
 count n = number (unsigned n)
@@ -224,11 +230,6 @@ fault_json (fault.Limit what limit) =
     (member (codes "limit") (count limit)
     (member (codes "status") (count 7)
     (member (codes "what") (string (what_name what)) no_members))))
-fault_json (fault.Steps limit) =
-    object (member (codes "fault") (string (codes "limit"))
-    (member (codes "limit") (count limit)
-    (member (codes "status") (count 7)
-    (member (codes "what") (string (codes "steps")) no_members))))
 
 -- a value's line
 abbrev pub json_line : Data → List ℕ

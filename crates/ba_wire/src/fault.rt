@@ -29,6 +29,8 @@ pub enum Reason {
     WidthDiffers,
     /// A key or link has no column.
     EmptyKey,
+    /// The fault of this inclusion rule's queries. Rules are numbered from 0.
+    Rule { rule: u32, fault: ReadQueryFault },
     /// Two parameters have this name.
     DuplicateParam { name: Str },
     /// Two views have this name.
@@ -66,8 +68,6 @@ pub enum Fault {
     Read { file: Str },
     /// More than the limit. Exit status 7.
     Limit { what: Counted, limit: u64 },
-    /// More steps of a proof than the limit. Exit status 7.
-    Steps { limit: u64 },
 }
 
 // Why a line of a script is none.
@@ -93,12 +93,17 @@ fn what_name(what: Counted) -> &'static str
         Counted::Columns => "columns",
         Counted::Keys => "keys",
         Counted::Links => "links",
+        Counted::Rules => "rules",
         Counted::Views => "views",
         Counted::Params => "params",
+        Counted::CacheKeys => "cache_keys",
+        Counted::KeyQueries => "key_queries",
         Counted::Rows => "rows",
         Counted::Lines => "lines",
         Counted::Requests => "requests",
         Counted::Asks => "asks",
+        Counted::Steps => "steps",
+        Counted::Templates => "templates",
     }
 }
 
@@ -114,6 +119,7 @@ impl Reason {
             Reason::DuplicateColumn => String::from_str(alloc, "duplicate_column"),
             Reason::WidthDiffers => String::from_str(alloc, "width_differs"),
             Reason::EmptyKey => String::from_str(alloc, "empty_key"),
+            Reason::Rule { rule, fault } => rule_text(alloc, *rule, fault),
             Reason::DuplicateParam { name } => format!(in alloc; "duplicate_param {name}"),
             Reason::DuplicateView { name } => format!(in alloc; "duplicate_view {name}"),
             Reason::View { name, fault } => view_text(alloc, name, fault),
@@ -130,6 +136,14 @@ impl Reason {
             Reason::Field { name } => format!(in alloc; "field {name}"),
         }
     }
+}
+
+fn rule_text(alloc: Global, rule: u32, fault: &ReadQueryFault) -> Result<String, AllocError>
+    ensures { IfOk result (λ text. string_bytes text
+        ≡ codes "rule" ␣ decimal rule ␣ fault_words fault.now) }
+{
+    let words = fault_words(alloc, fault)?;
+    format!(in alloc; "rule {rule} {words}")
 }
 
 fn view_text(alloc: Global, name: &Str, fault: &ReadQueryFault) -> Result<String, AllocError>
@@ -156,7 +170,6 @@ fn fault_object(alloc: Global, fault: &Fault) -> Result<Object, AllocError>
         Fault::Input { file, reason } => input_object(alloc, file, reason),
         Fault::Read { file } => read_object(alloc, file),
         Fault::Limit { what, limit } => limit_object(alloc, *what, *limit),
-        Fault::Steps { limit } => steps_object(alloc, *limit),
     }
 }
 
@@ -197,16 +210,6 @@ fn limit_object(alloc: Global, what: Counted, limit: u64) -> Result<Object, Allo
         .with_count("limit", limit)?
         .with_count("status", 7)?
         .with_text("what", what_name(what))
-}
-
-fn steps_object(alloc: Global, limit: u64) -> Result<Object, AllocError>
-    ensures { IfOk result (λ it. made it ≡ fault_json (Fault.Steps limit)) }
-{
-    Object::new(alloc)
-        .with_text("fault", "limit")?
-        .with_count("limit", limit)?
-        .with_count("status", 7)?
-        .with_text("what", "steps")
 }
 
 /// The text of the fault with its line feed.

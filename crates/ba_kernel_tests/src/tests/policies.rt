@@ -138,7 +138,10 @@ fn schema(rt: &impl Handle, text: &str) -> Schema
     ensures rules { All (RuleFits result) result.rules }
 {
     checked_links_fit();
-    let draft = SchemaDraft { tables: tables(rt) };
+    let draft = SchemaDraft {
+        tables: tables(rt),
+        rules: List::new(rt.alloc()),
+    };
     let checked = Schema::check(rt.alloc(), draft).expect(rt, "a schema");
     let schema = Schema {
         tables: checked.tables,

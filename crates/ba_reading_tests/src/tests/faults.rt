@@ -69,7 +69,9 @@ fn schema_reason(fault: SchemaFault) -> Reason {
             fault: ReadQueryFault::KindDiffers,
         },
         SchemaFault::WidthDiffers => Reason::WidthDiffers,
-        SchemaFault::EmptyKey | SchemaFault::TooMany { .. } => Reason::EmptyKey,
+        SchemaFault::EmptyKey | SchemaFault::TooMany { .. } | SchemaFault::Rule { .. } => {
+            Reason::EmptyKey
+        }
     }
 }
 

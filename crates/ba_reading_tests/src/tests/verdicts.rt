@@ -2,7 +2,7 @@
 
 use super::faults::write_reason;
 use ba_kernel::StepFault;
-use ba_model::Str;
+use ba_model::{Counted, Str};
 use ba_wire::{Fault, Reason, Verdict, fault_text, verdict_text};
 use std::alloc::{AllocError, Global};
 use std::test::Fail;
@@ -63,7 +63,13 @@ fn reasons_of_no_proofs(rt: HostRuntime) -> Result<(), Fail> {
 
 #[test]
 fn more_steps_than_the_limit(rt: HostRuntime) -> Result<(), Fail> {
-    let line = fault_text(rt.alloc(), &Fault::Steps { limit: 100_000 })?;
+    let line = fault_text(
+        rt.alloc(),
+        &Fault::Limit {
+            what: Counted::Steps,
+            limit: 100_000,
+        },
+    )?;
     let wanted = "{\"fault\":\"limit\",\"limit\":100000,\"status\":7,\"what\":\"steps\"}\n";
     assert_eq!(rt; line.as_str(), wanted);
     Ok(())
