@@ -1,1 +1,2 @@
 pub mod JoinSteps
+pub mod PlainSearch

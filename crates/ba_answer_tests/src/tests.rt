@@ -1,6 +1,7 @@
 mod answers;
 mod events;
 mod given;
+mod plain;
 mod proofs;
 mod steps;
 mod tables;

@@ -1,6 +1,6 @@
 //! Answers that were worked out by hand.
 
-use super::Handle;
+use super::{Handle, plain};
 use super::written::{context, field, one, policy, query, rows};
 use ba_eval::{answer, answer_indexed, contains};
 use ba_index::Indexed;
@@ -38,7 +38,7 @@ fn is_found_too(
     wanted: &List<Row>,
 ) -> bool {
     let ctx = context(rt);
-    let plain = ba_plain::answer(rt.alloc(), database, &ctx, query).expect(rt, "memory");
+    let plain = plain::answer(rt.alloc(), database, &ctx, query).expect(rt, "memory");
     let rows = database.copy(rt.alloc()).expect(rt, "memory");
     let indexed = Indexed::new(rt.alloc(), &policy.schema.tables, rows).expect(rt, "memory");
     let kept = answer_indexed(rt.alloc(), &indexed, &ctx, query).expect(rt, "memory");

@@ -1,5 +1,0 @@
-use Rattle.ba_agreement.proofs.AgreeLemmas.{begin_agrees}
-use Rattle.ba_agreement.proofs.laws.begin_agrees.Goals as goal
-
-pub returns : goal.returns
-returns c = begin_agrees

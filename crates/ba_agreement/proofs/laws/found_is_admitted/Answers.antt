@@ -1,5 +1,0 @@
-use Rattle.ba_agreement.proofs.ShelfLemmas.{found_is_admitted}
-use Rattle.ba_agreement.proofs.laws.found_is_admitted.Goals as goal
-
-pub returns : goal.returns
-returns c = found_is_admitted

@@ -1,0 +1,5 @@
+pub mod Agreeing
+pub mod Shelves
+pub mod Whole
+pub mod Journals
+pub mod OneWorker

@@ -1,5 +1,0 @@
-use Rattle.ba_plain.proofs.AnswerLemmas.{is_answer}
-use Rattle.ba_plain.proofs.answer.Goals as goal
-
-pub returns : goal.returns
-returns c = is_answer _ _ _ _ _ c.in_ok-found.ensures c.in_order.ensures
