@@ -1,7 +1,7 @@
 // Files in memory, some of whose calls fail.
 ghost use Rattle.std.specs.Prelude.{◌≡◌, ℕ, ◌+◌, ◌≤◌, Contains, IfNone, IfOk, IfSome, IsErrOf, None, Some, length, min};
-ghost use Rattle.ba_outside.specs.Causes.{last_count, NeverFalls, Rose};
-ghost use Rattle.ba_outside.specs.Files.{Asks, PassesLimit, Tells};
+ghost use Rattle.ba_outside.specs.Causes.{last_count, NeverFalls};
+ghost use Rattle.ba_outside.specs.Files.{Asks, CountsFault, PassesLimit, Tells};
 ghost use Rattle.ba_outside.specs.MemFiles.{FaultsWhere, NextFails, held_in, shown};
 
 use crate::count::{Count, is_listed};
@@ -113,7 +113,7 @@ impl Files for MemFiles {
         ensures counts { IfOk result (λ bytes. (shown self.new).taken
             ≡ min ((shown self.old).taken + length bytes.items) last_count) }
         ensures within { IfOk result (λ bytes. length bytes.items ≤ limit) }
-        ensures fault { IsErrOf result ReadFail.Fault → Rose (shown self.old).faults (shown self.new).faults }
+        ensures fault { CountsFault (shown self.old).faults (shown self.new).faults result }
         ensures carries { (n : ℕ) → IsErrOf result (ReadFail.TooLong n) → n ≡ limit }
         ensures too_long { IsErrOf result (ReadFail.TooLong limit)
             → PassesLimit (shown self.old).held name.now limit (shown self.old).taken (shown self.new).taken }

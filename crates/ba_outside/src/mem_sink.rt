@@ -1,9 +1,9 @@
 // A sink in memory, some of whose calls fail or take a part alone.
 ghost use Rattle.std.specs.Prelude.{◌≡◌, ◌≤◌, ◌<◌, Contains, IfOk, IsErrOf, length};
 ghost use Rattle.std.specs.Io.KnownBytes.{WriteAppends};
-ghost use Rattle.ba_outside.specs.Causes.{NeverFalls, Rose};
+ghost use Rattle.ba_outside.specs.Causes.{NeverFalls};
 ghost use Rattle.ba_outside.specs.MemSink.{FailsWhere, calls_after, count_taken};
-ghost use Rattle.ba_outside.specs.Sink.{Hands};
+ghost use Rattle.ba_outside.specs.Sink.{CountsFailure, Hands};
 
 use crate::count::{Count, is_listed};
 use crate::{Sink, WriteFail};
@@ -113,10 +113,8 @@ impl Sink for MemSink {
         ensures faults { NeverFalls self.old.shown.faults self.new.shown.faults }
         ensures some { IfOk result (λ n. 0 < length bytes.now → 0 < n) }
         ensures front { IfOk result (λ n. n ≤ length bytes.now) }
-        ensures failed { IsErrOf result WriteFail.Failed → Rose self.old.shown.faults self.new.shown.faults }
-        ensures no_memory { IsErrOf result WriteFail.NoMemory → self.new.shown.faults ≡ self.old.shown.faults }
+        ensures failed { CountsFailure self.old.shown.faults self.new.shown.faults result }
         ensures empty { length bytes.now ≡ 0 → result ≡ Ok 0 }
-        ensures empty_is_no_fault { length bytes.now ≡ 0 → self.new.shown.faults ≡ self.old.shown.faults }
     {
         let call = self.calls;
         if bytes.is_empty() {
