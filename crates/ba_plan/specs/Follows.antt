@@ -18,16 +18,21 @@ pub record Asked (name : List ℕ) (old new : FilesSeen) : Type 0 where
   pub moved : Moved old new
   pub asked : new.asked ≡ old.asked ++ name ∷ []
 
+-- no fault was counted
+abbrev pub Faultless : FilesSeen → FilesSeen → Type 0
+Faultless old new = new.faults ≡ old.faults
+
 -- a call gave these bytes
 pub record Got (name : List ℕ) (limit : ℕ) (bytes : List ℕ) (old new : FilesSeen) : Type 0 where
   pub asked : Asked name old new
+  pub faultless : Faultless old new
   pub tells : Tells old.held name bytes
   pub within : length bytes ≤ limit
 
--- a call gave none
+-- a call gave none; where memory ran out, that may be for the name of a file that failed
 abbrev pub Missed : {E : Type 0} → List ℕ → ℕ → FilesSeen → FilesSeen → Stop E → Type 0
 Missed name limit old new (Read file) = (file ≡ name) × Asked name old new × Rose old.faults new.faults
-Missed name limit old new (TooLong file n) = (file ≡ name) × (n ≡ limit) × Asked name old new × PassesLimit old.held name limit old.taken new.taken
+Missed name limit old new (TooLong file n) = (file ≡ name) × (n ≡ limit) × Asked name old new × PassesLimit old.held name limit old.taken new.taken × Faultless old new
 Missed name limit old new NoMemory = Moved old new × ((new.asked ≡ old.asked) ⊎ (new.asked ≡ old.asked ++ name ∷ []))
 Missed name limit old new (Refused e) = ⊥
 
