@@ -23,7 +23,9 @@ CountsFault before now (Err NoMemory) = now ≡ before
 abbrev pub Tells : Option Contents → List ℕ → List ℕ → Type 0
 Tells held name bytes = IfSome held (λ contents. contents name ≡ Some bytes)
 
--- the name holds more bytes than the limit; where nothing is told, more were taken, or their number stands at its last value
+-- the name holds more bytes than the limit; where nothing is told, more were taken, or their number
+-- stands at its last value
 abbrev pub PassesLimit : Option Contents → List ℕ → ℕ → ℕ → ℕ → Type 0
 PassesLimit None name limit before now = RoseBeyond limit before now
-PassesLimit (Some contents) name limit before now = IsSomeAnd (contents name) (λ bytes. limit < length bytes)
+PassesLimit (Some contents) name limit before now =
+    IsSomeAnd (contents name) (λ bytes. limit < length bytes)

@@ -17,8 +17,10 @@ abbrev pub pieces_of : List ℕ → List (List ℕ)
 pieces_of [] = []
 pieces_of (byte ∷ bytes) = (byte ∷ bytes) ∷ []
 
--- one more piece was handed over, unless it is empty; a call that found no memory may have left it out
-abbrev pub Hands : {X : Type 0} → Option (List (List ℕ)) → Option (List (List ℕ)) → List ℕ → Result X WriteFail → Type 0
+-- one more piece was handed over, unless it is empty; a call that found no memory may have left it
+-- out
+abbrev pub Hands : {X : Type 0} → Option (List (List ℕ)) → Option (List (List ℕ)) → List ℕ
+    → Result X WriteFail → Type 0
 Hands old new piece (Ok x) = Grows old new (pieces_of piece)
 Hands old new piece (Err Failed) = Grows old new (pieces_of piece)
 Hands old new piece (Err NoMemory) = Grows old new [] ⊎ Grows old new (pieces_of piece)

@@ -4,9 +4,9 @@ ghost use Rattle.std.specs.Prelude.{◌≡◌};
 use crate::{DiskFiles, Files, ReadFail};
 use std::alloc::Global;
 
-/// The files of a folder: each is the file of `DiskFiles` whose name is a prefix and its own. They tell nothing of what
-/// they hold, keep the names asked for and the number of bytes taken, and count each failure of the file system as a
-/// fault.
+/// The files of a folder: each is the file of `DiskFiles` whose name is a prefix and its own. They
+/// tell nothing of what they hold, keep the names asked for and the number of bytes taken, and
+/// count each failure of the file system as a fault.
 #[derive(Drop)]
 pub struct FolderFiles<'a, R: std::fs::Files + Drop> {
     prefix: &'a str,
@@ -18,9 +18,11 @@ pub struct FolderFiles<'a, R: std::fs::Files + Drop> {
 impl<'a, R: std::fs::Files + Drop> FolderFiles<'a, R> {
     ghost use Rattle.std.specs.Prelude.{◌≡◌, None, [], map, string_bytes};
 
-    /// The files whose names begin with that prefix, never asked so far. `alloc` is kept for the answers.
+    /// The files whose names begin with that prefix, never asked so far. `alloc` is kept for the
+    /// answers.
     pub fn new(system: R, alloc: Global, prefix: &'a str) -> Self
-        ensures { ⟦<FolderFiles<'a, R> as Files>⟧.seen result ≡ record { held = None; asked = []; taken = 0; faults = 0 } }
+        ensures { ⟦<FolderFiles<'a, R> as Files>⟧.seen result
+            ≡ record { held = None; asked = []; taken = 0; faults = 0 } }
     {
         FolderFiles {
             prefix,
@@ -32,7 +34,8 @@ impl<'a, R: std::fs::Files + Drop> FolderFiles<'a, R> {
 
     /// The names asked for, in order.
     pub fn asked(&self) -> &[String]
-        ensures { (⟦<FolderFiles<'a, R> as Files>⟧.seen self.now).asked ≡ map string_bytes result.now }
+        ensures { (⟦<FolderFiles<'a, R> as Files>⟧.seen self.now).asked
+            ≡ map string_bytes result.now }
     {
         &self.asked
     }
@@ -41,7 +44,12 @@ impl<'a, R: std::fs::Files + Drop> FolderFiles<'a, R> {
 impl<R: std::fs::Files + Drop> Files for FolderFiles<'_, R> {
     ghost use Rattle.std.specs.Prelude.{None, map, string_bytes};
 
-    ghost seen = { λ m. record { held = None; asked = map string_bytes m.asked.items; taken = (⟦<DiskFiles<R> as Files>⟧.seen m.files).taken; faults = (⟦<DiskFiles<R> as Files>⟧.seen m.files).faults } };
+    ghost seen = { λ m. record {
+      held = None;
+      asked = map string_bytes m.asked.items;
+      taken = (⟦<DiskFiles<R> as Files>⟧.seen m.files).taken;
+      faults = (⟦<DiskFiles<R> as Files>⟧.seen m.files).faults;
+    } };
 
     fn read(&mut self, name: &str, limit: u64) -> Result<Vec<u8>, ReadFail> {
         let prefix = self.prefix;

@@ -14,18 +14,19 @@ pub enum WriteFail {
     NoMemory,
 }
 
-/// A sink as contracts see it: `seen` says what was written and which pieces were handed over (where these are told),
-/// and how often a write has failed.
+/// A sink as contracts see it: `seen` says what was written and which pieces were handed over
+/// (where these are told), and how often a write has failed.
 pub trait Sink {
     ghost seen: { Self → SinkSeen };
 
-    /// Writes the front of a piece and answers how many bytes of it: at least one, unless the piece is empty. Exactly
-    /// these bytes are appended, and the count of faults is as before. An empty piece is answered with `Ok(0)` and
-    /// leaves no trace.
+    /// Writes the front of a piece and answers how many bytes of it: at least one, unless the piece
+    /// is empty. Exactly these bytes are appended, and the count of faults is as before. An empty
+    /// piece is answered with `Ok(0)` and leaves no trace.
     ///
     /// # Errors
-    /// `Failed` comes only where the count of faults rose; `NoMemory` for want of memory, the count as before. After
-    /// either nothing of the piece is written, and the sink may be written to again.
+    /// `Failed` comes only where the count of faults rose; `NoMemory` for want of memory, the count
+    /// as before. After either nothing of the piece is written, and the sink may be written to
+    /// again.
     fn write(&mut self, bytes: &[u8]) -> Result<usize, WriteFail>
         ensures written { WriteAppends (seen self.old).written (seen self.new).written result bytes.now }
         ensures pieces { Hands (seen self.old).pieces (seen self.new).pieces bytes.now result }

@@ -21,11 +21,13 @@ const SCRIPT: &str = "{\"begin\":\"r1\",\"context\":{\"MyUId\":2}}
 {\"end\":\"r3\"}
 ";
 
-// How many lines the first three jobs have of them: with one worker all; else those of the requests, and of the publish
-// lines, whose number from 0 leaves the job's where it is divided by the number of workers.
+// How many lines the first three jobs have of them: with one worker all; else those of the
+// requests, and of the publish lines, whose number from 0 leaves the job's where it is divided by
+// the number of workers.
 const LINES: [(&str, [u64; 3]); 3] = [("1", [9, 0, 0]), ("2", [7, 2, 0]), ("16", [5, 2, 2])];
 
-/// A gate that counts the passes of the first three jobs, which are to come at the points 0, 1, 2 and so on.
+/// A gate that counts the passes of the first three jobs, which are to come at the points 0, 1, 2
+/// and so on.
 #[derive(Drop)]
 struct CountGate {
     passes: [AtomicU64; 3],
@@ -77,7 +79,8 @@ fn files(alloc: Global) -> Result<MemFiles, AllocError> {
     Ok(MemFiles::new(alloc, files, Vec::new(alloc)))
 }
 
-// Whether the jobs of a run by so many workers pass the gate once for each of their lines, in order.
+// Whether the jobs of a run by so many workers pass the gate once for each of their lines, in
+// order.
 fn pass_in_order<R: Threads + Wait + Sync>(
     rt: &R,
     alloc: Global,
@@ -98,7 +101,7 @@ fn each_lane_passes_the_gate_before_each_of_its_lines(rt: HostRuntime) -> Result
     for (workers, lines) in LINES {
         assert!(rt;
             pass_in_order(&rt, alloc, workers, lines)?,
-            "{workers} workers"
+            "workers: {workers}"
         );
     }
     Ok(())
