@@ -1,7 +1,7 @@
 //! A run, and why it ended so.
 
-use ba_notice::{FolderFiles, notice};
-use ba_outside::{Gate, Sink};
+use ba_notice::notice;
+use ba_outside::{FolderFiles, Gate, Sink};
 use ba_top::blockaid;
 use std::alloc::{AllocError, Global};
 use std::rt::Files;

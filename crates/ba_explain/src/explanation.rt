@@ -3,8 +3,8 @@
 use crate::ended::Ended;
 use ba_command::WordsFault;
 use ba_model::Failure;
-use ba_notice::{FolderFiles, notice};
-use ba_outside::{FirstPiece, FreeGate, KeptFiles};
+use ba_notice::notice;
+use ba_outside::{FirstPiece, FolderFiles, FreeGate, KeptFiles};
 use ba_top::{Outcome, blockaid};
 use ba_why::{Names, Telling, tell_all};
 use std::alloc::AllocError;

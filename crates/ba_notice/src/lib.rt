@@ -9,5 +9,4 @@ mod proof;
 mod telling;
 mod usage;
 
-pub use files::FolderFiles;
 pub use telling::notice;

@@ -9,13 +9,15 @@ use Rattle.ba_outside.specs.declared.mem_files.Held.{Held}
 -- the bytes of the first file of that name
 abbrev pub held_in : List Held → Contents
 held_in [] name = None
-held_in (file ∷ files) name = if bytes_eq (string_bytes file.name) name then Some file.bytes.items else held_in files name
+held_in (file ∷ files) name =
+    if bytes_eq (string_bytes file.name) name then Some file.bytes.items else held_in files name
 
 -- the same, where a name that isn't held reads as empty
 abbrev pub held_or_empty : List Held → Contents
 held_or_empty files name = Some (unwrap_or (held_in files name) [])
 
--- files in memory: the files, the numbers of the calls that fail, how many calls came, and what the calls left
+-- files in memory: the files, the numbers of the calls that fail, how many calls came, and what the
+-- calls left
 pub record MemFilesSeen : Type 0 where
   pub files : List Held
   pub failing : List ℕ
@@ -26,7 +28,12 @@ pub record MemFilesSeen : Type 0 where
 
 -- what is seen of any files
 abbrev pub shown : MemFilesSeen → FilesSeen
-shown m = record { held = Some (held_in m.files); asked = m.asked; taken = m.taken; faults = m.faults }
+shown m = record {
+  held = Some (held_in m.files);
+  asked = m.asked;
+  taken = m.taken;
+  faults = m.faults;
+}
 
 -- the next call's number is listed, or there is no file of the name
 abbrev pub NextFails : MemFilesSeen → List ℕ → Type 0

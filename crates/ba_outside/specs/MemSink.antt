@@ -5,7 +5,8 @@ use Rattle.ba_outside.specs.Seen.{SinkSeen}
 use Rattle.ba_outside.specs.declared.sink.WriteFail.{WriteFail}
 use Rattle.ba_outside.specs.declared.sink.WriteFail.TheVariants.{Failed, NoMemory}
 
--- a sink in memory: what is seen of any sink, the numbers of the calls that fail, how many bytes each call takes, and how many calls came
+-- a sink in memory: what is seen of any sink, the numbers of the calls that fail, how many bytes
+-- each call takes, and how many calls came
 pub record MemSinkSeen : Type 0 where
   pub shown : SinkSeen
   pub failing : List ℕ

@@ -5,14 +5,16 @@ use Rattle.std.specs.Prelude.{ℕ, List, Option}
 abbrev pub Contents : Type 0
 Contents = List ℕ → Option (List ℕ)
 
--- files: what they hold, where that is told; the names asked for, in order; how many bytes were taken; how often a file has failed
+-- files: what they hold, where that is told; the names asked for, in order; how many bytes were
+-- taken; how often a file has failed
 pub record FilesSeen : Type 0 where
   pub held : Option Contents
   pub asked : List (List ℕ)
   pub taken : ℕ
   pub faults : ℕ
 
--- a sink: what was written, and the pieces that were handed to it, in order, where these are told; how often a write has failed
+-- a sink: what was written, and the pieces that were handed to it, in order, where these are told;
+-- how often a write has failed
 pub record SinkSeen : Type 0 where
   pub written : Option (List ℕ)
   pub pieces : Option (List (List ℕ))

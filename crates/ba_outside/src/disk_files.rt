@@ -7,8 +7,9 @@ use crate::{Files, ReadFail};
 use std::alloc::Global;
 use std::io::{ErrorKind, Read};
 
-/// The files of a file system of std, by path. They tell nothing of what they hold, keep the names asked for and the
-/// number of bytes taken, and count each failure of the file system as a fault (want of memory isn't one).
+/// The files of a file system of std, by path. They tell nothing of what they hold, keep the names
+/// asked for and the number of bytes taken, and count each failure of the file system as a fault
+/// (want of memory isn't one).
 #[derive(Drop)]
 pub struct DiskFiles<R: std::fs::Files + Drop> {
     system: R,
@@ -23,7 +24,8 @@ impl<R: std::fs::Files + Drop> DiskFiles<R> {
 
     /// The files of that system, never asked so far. `alloc` is kept for the answers.
     pub fn new(system: R, alloc: Global) -> Self
-        ensures { ⟦<DiskFiles<R> as Files>⟧.seen result ≡ record { held = None; asked = []; taken = 0; faults = 0 } }
+        ensures { ⟦<DiskFiles<R> as Files>⟧.seen result
+            ≡ record { held = None; asked = []; taken = 0; faults = 0 } }
     {
         DiskFiles {
             system,
@@ -50,9 +52,11 @@ fn take_all<T: Read>(
     taken: &mut Count,
 ) -> Result<Vec<u8>, Stop>
     ensures within { IfOk result (λ bytes. length bytes.items ≤ limit) }
-    ensures counts { IfOk result (λ bytes. taken.new.value ≡ min (taken.old.value + length bytes.items) last_count) }
+    ensures counts { IfOk result (λ bytes.
+        taken.new.value ≡ min (taken.old.value + length bytes.items) last_count) }
     ensures never_falls { NeverFalls taken.old.value taken.new.value }
-    ensures too_long { IsErrOf result Stop.TooLong → RoseBeyond limit taken.old.value taken.new.value }
+    ensures too_long { IsErrOf result Stop.TooLong
+        → RoseBeyond limit taken.old.value taken.new.value }
 {
     let mut bytes = Vec::new(alloc);
     let mut piece = [0u8; 16384];
@@ -76,7 +80,12 @@ fn take_all<T: Read>(
 impl<R: std::fs::Files + Drop> Files for DiskFiles<R> {
     ghost use Rattle.std.specs.Prelude.{None, map, string_bytes};
 
-    ghost seen = { λ m. record { held = None; asked = map string_bytes m.asked.items; taken = m.taken.value; faults = m.faults.value } };
+    ghost seen = { λ m. record {
+      held = None;
+      asked = map string_bytes m.asked.items;
+      taken = m.taken.value;
+      faults = m.faults.value;
+    } };
 
     fn read(&mut self, name: &str, limit: u64) -> Result<Vec<u8>, ReadFail> {
         let Ok(asked) = String::from_str(self.alloc, name) else {

@@ -2,8 +2,8 @@
 use crate::{Sink, WriteFail};
 use std::alloc::Global;
 
-/// A sink that drops what is written to it, but for the first piece. It never answers `Failed`, its count of faults is 0
-/// for ever, and it tells nothing of what was written. `NoMemory` may come.
+/// A sink that drops what is written to it, but for the first piece. It never answers `Failed`, its
+/// count of faults is 0 for ever, and it tells nothing of what was written. `NoMemory` may come.
 #[derive(Drop)]
 pub struct FirstPiece {
     bytes: Vec<u8>,
@@ -14,7 +14,8 @@ impl FirstPiece {
 
     /// A sink to which nothing was written. `alloc` is kept for the first piece.
     pub fn new(alloc: Global) -> Self
-        ensures { ⟦<FirstPiece as Sink>⟧.seen result ≡ record { written = None; pieces = None; faults = 0 } }
+        ensures { ⟦<FirstPiece as Sink>⟧.seen result
+            ≡ record { written = None; pieces = None; faults = 0 } }
     {
         FirstPiece {
             bytes: Vec::new(alloc),

@@ -5,9 +5,9 @@ use crate::Gate;
 use std::sync::atomic::{AtomicBool, Ordering};
 use std::thread;
 
-/// A gate that shows whether two jobs run beside each other: it holds job `first` at point 0 until job `second` has
-/// passed point 0, and gives up after `limit` turns of waiting. All others pass at once, and so does `first` where it
-/// is `second` too.
+/// A gate that shows whether two jobs run beside each other: it holds job `first` at point 0 until
+/// job `second` has passed point 0, and gives up after `limit` turns of waiting. All others pass at
+/// once, and so does `first` where it is `second` too.
 #[derive(Drop)]
 pub struct HoldGate {
     pub first: u32,
@@ -18,7 +18,8 @@ pub struct HoldGate {
 }
 
 impl HoldGate {
-    /// A gate that holds job `first` at point 0 until job `second` has passed point 0, or for `limit` turns.
+    /// A gate that holds job `first` at point 0 until job `second` has passed point 0, or for
+    /// `limit` turns.
     pub fn new(first: u32, second: u32, limit: u64) -> Self
         ensures first { result.first ≡ first }
         ensures second { result.second ≡ second }

@@ -2,8 +2,8 @@
 use crate::{Files, Held, ReadFail};
 use std::alloc::{AllocError, Global};
 
-/// Other files, of which it keeps what was read under some names. They are seen as those are: a read that there is no
-/// memory to keep answers `NoMemory`.
+/// Other files, of which it keeps what was read under some names. They are seen as those are: a
+/// read that there is no memory to keep answers `NoMemory`.
 #[derive(Drop)]
 pub struct KeptFiles<'a, F: Files + Drop> {
     files: F,
@@ -15,7 +15,8 @@ pub struct KeptFiles<'a, F: Files + Drop> {
 impl<'a, F: Files + Drop> KeptFiles<'a, F> {
     ghost use Rattle.std.specs.Prelude.{◌≡◌};
 
-    /// These files, of which nothing was kept so far. `alloc` is kept for what is read under the names.
+    /// These files, of which nothing was kept so far. `alloc` is kept for what is read under the
+    /// names.
     pub fn new(alloc: Global, files: F, names: &'a [&'a str]) -> Self
         ensures { ⟦<KeptFiles<'a, F> as Files>⟧.seen result ≡ ⟦<F as Files>⟧.seen files }
     {

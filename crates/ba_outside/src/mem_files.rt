@@ -1,7 +1,7 @@
 // Files in memory, some of whose calls fail.
 ghost use Rattle.std.specs.Prelude.{◌≡◌, ℕ, ◌+◌, ◌≤◌, Contains, IfNone, IfOk, IfSome, IsErrOf, None, Some, length, min};
-ghost use Rattle.ba_outside.specs.Causes.{last_count, NeverFalls, Rose};
-ghost use Rattle.ba_outside.specs.Files.{Asks, PassesLimit, Tells};
+ghost use Rattle.ba_outside.specs.Causes.{last_count, NeverFalls};
+ghost use Rattle.ba_outside.specs.Files.{Asks, CountsFault, PassesLimit, Tells};
 ghost use Rattle.ba_outside.specs.MemFiles.{FaultsWhere, NextFails, held_in, shown};
 
 use crate::count::{Count, is_listed};
@@ -16,8 +16,8 @@ pub struct Held {
     pub bytes: Vec<u8>,
 }
 
-/// Files in memory. They tell what they hold, which is the first file of each name; a name without one is a fault. The
-/// calls whose numbers, from 0, are listed fail with `Fault`.
+/// Files in memory. They tell what they hold, which is the first file of each name; a name without
+/// one is a fault. The calls whose numbers, from 0, are listed fail with `Fault`.
 #[derive(Drop)]
 pub struct MemFiles {
     alloc: Global,
@@ -49,8 +49,8 @@ impl MemFiles {
     ghost use Rattle.std.specs.Prelude.{◌≡◌, [], Some, map, string_bytes};
     ghost use Rattle.ba_outside.specs.MemFiles.{held_in};
 
-    /// Files that were never asked, of which the calls of the numbers in `failing` will fail. `alloc` is kept for the
-    /// answers.
+    /// Files that were never asked, of which the calls of the numbers in `failing` will fail.
+    /// `alloc` is kept for the answers.
     pub fn new(alloc: Global, files: Vec<Held>, failing: Vec<u64>) -> Self
         ensures seen { ⟦<MemFiles as Files>⟧.seen result
             ≡ record { held = Some (held_in files.items); asked = []; taken = 0; faults = 0 } }
@@ -95,8 +95,8 @@ impl Files for MemFiles {
 
     ghost seen = { λ m. shown m };
 
-    /// As the trait says. A call is answered with `Fault` exactly where its number is listed or there is no file of the
-    /// name; want of memory may stand in place of any answer.
+    /// As the trait says. A call is answered with `Fault` exactly where its number is listed or
+    /// there is no file of the name; want of memory may stand in place of any answer.
     fn read(&mut self, name: &str, limit: u64) -> Result<Vec<u8>, ReadFail>
         // Which calls fail.
         ensures files { self.new.files ≡ self.old.files }
@@ -113,10 +113,11 @@ impl Files for MemFiles {
         ensures counts { IfOk result (λ bytes. (shown self.new).taken
             ≡ min ((shown self.old).taken + length bytes.items) last_count) }
         ensures within { IfOk result (λ bytes. length bytes.items ≤ limit) }
-        ensures fault { IsErrOf result ReadFail.Fault → Rose (shown self.old).faults (shown self.new).faults }
+        ensures fault { CountsFault (shown self.old).faults (shown self.new).faults result }
         ensures carries { (n : ℕ) → IsErrOf result (ReadFail.TooLong n) → n ≡ limit }
         ensures too_long { IsErrOf result (ReadFail.TooLong limit)
-            → PassesLimit (shown self.old).held name.now limit (shown self.old).taken (shown self.new).taken }
+            → PassesLimit (shown self.old).held name.now limit
+            (shown self.old).taken (shown self.new).taken }
     {
         let call = self.calls;
         self.calls = call.saturating_add(1);

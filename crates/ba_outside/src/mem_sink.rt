@@ -1,18 +1,19 @@
 // A sink in memory, some of whose calls fail or take a part alone.
 ghost use Rattle.std.specs.Prelude.{◌≡◌, ◌≤◌, ◌<◌, Contains, IfOk, IsErrOf, length};
 ghost use Rattle.std.specs.Io.KnownBytes.{WriteAppends};
-ghost use Rattle.ba_outside.specs.Causes.{NeverFalls, Rose};
+ghost use Rattle.ba_outside.specs.Causes.{NeverFalls};
 ghost use Rattle.ba_outside.specs.MemSink.{FailsWhere, calls_after, count_taken};
-ghost use Rattle.ba_outside.specs.Sink.{Hands};
+ghost use Rattle.ba_outside.specs.Sink.{CountsFailure, Hands};
 
 use crate::count::{Count, is_listed};
 use crate::{Sink, WriteFail};
 use std::alloc::Global;
 use std::marker::Model;
 
-/// A sink in memory. It tells what was written and the pieces handed over. Calls with a piece that isn't empty are
-/// numbered from 0: those whose numbers are listed fail with `Failed`, and call i takes at most as many bytes as number
-/// i of another list says (at least one, and all of its piece where that list is at its end).
+/// A sink in memory. It tells what was written and the pieces handed over. Calls with a piece that
+/// isn't empty are numbered from 0: those whose numbers are listed fail with `Failed`, and call i
+/// takes at most as many bytes as number i of another list says (at least one, and all of its piece
+/// where that list is at its end).
 #[derive(Drop)]
 pub struct MemSink {
     alloc: Global,
@@ -33,7 +34,11 @@ impl Model for MemSink {
     ghost Value = { MemSinkSeen };
 
     ghost view = { λ s. record {
-      shown = record { written = Some s.bytes.items; pieces = Some (lists_of s.pieces.items); faults = s.faults.value };
+      shown = record {
+        written = Some s.bytes.items;
+        pieces = Some (lists_of s.pieces.items);
+        faults = s.faults.value;
+      };
       failing = s.failing.items;
       takes = s.takes.items;
       calls = s.calls;
@@ -46,10 +51,12 @@ impl MemSink {
     ghost use Rattle.std.specs.Prelude.{◌≡◌, [], Some};
     ghost use Rattle.ba_outside.specs.Sink.{lists_of};
 
-    /// A sink that nothing was written to. The calls of the numbers in `failing` will fail, and each call will take at
-    /// most as many bytes as its number in `takes` says. `alloc` is kept for what is written.
+    /// A sink that nothing was written to. The calls of the numbers in `failing` will fail, and
+    /// each call will take at most as many bytes as its number in `takes` says. `alloc` is kept for
+    /// what is written.
     pub fn new(alloc: Global, failing: Vec<u64>, takes: Vec<usize>) -> Self
-        ensures seen { ⟦<MemSink as Sink>⟧.seen result ≡ record { written = Some []; pieces = Some []; faults = 0 } }
+        ensures seen { ⟦<MemSink as Sink>⟧.seen result
+            ≡ record { written = Some []; pieces = Some []; faults = 0 } }
         ensures failing { result.failing ≡ failing.items }
         ensures takes { result.takes ≡ takes.items }
         ensures calls { result.calls ≡ 0 }
@@ -97,15 +104,17 @@ fn count_taken(takes: &[usize], call: u64, len: usize) -> usize
 impl Sink for MemSink {
     ghost seen = { λ s. s.shown };
 
-    /// As the trait says. A call fails exactly where its number is listed, else takes as many bytes as are listed for it;
-    /// want of memory may stand in place of any answer.
+    /// As the trait says. A call fails exactly where its number is listed, else takes as many bytes
+    /// as are listed for it; want of memory may stand in place of any answer.
     fn write(&mut self, bytes: &[u8]) -> Result<usize, WriteFail>
         // Which calls fail, and how many bytes each takes.
         ensures failing { self.new.failing ≡ self.old.failing }
         ensures takes { self.new.takes ≡ self.old.takes }
         ensures calls { self.new.calls ≡ calls_after self.old.calls bytes.now }
-        ensures fails_where { 0 < length bytes.now → FailsWhere (Contains self.old.failing self.old.calls) result }
-        ensures count { IfOk result (λ n. n ≡ count_taken self.old.takes self.old.calls (length bytes.now)) }
+        ensures fails_where { 0 < length bytes.now
+            → FailsWhere (Contains self.old.failing self.old.calls) result }
+        ensures count { IfOk result (λ n.
+            n ≡ count_taken self.old.takes self.old.calls (length bytes.now)) }
 
         // As the trait says.
         ensures written { WriteAppends self.old.shown.written self.new.shown.written result bytes.now }
@@ -113,10 +122,8 @@ impl Sink for MemSink {
         ensures faults { NeverFalls self.old.shown.faults self.new.shown.faults }
         ensures some { IfOk result (λ n. 0 < length bytes.now → 0 < n) }
         ensures front { IfOk result (λ n. n ≤ length bytes.now) }
-        ensures failed { IsErrOf result WriteFail.Failed → Rose self.old.shown.faults self.new.shown.faults }
-        ensures no_memory { IsErrOf result WriteFail.NoMemory → self.new.shown.faults ≡ self.old.shown.faults }
+        ensures failed { CountsFailure self.old.shown.faults self.new.shown.faults result }
         ensures empty { length bytes.now ≡ 0 → result ≡ Ok 0 }
-        ensures empty_is_no_fault { length bytes.now ≡ 0 → self.new.shown.faults ≡ self.old.shown.faults }
     {
         let call = self.calls;
         if bytes.is_empty() {

@@ -1,9 +1,9 @@
 // Where the answers go.
 ghost use Rattle.std.specs.Prelude.{◌≡◌, ℕ, length, ◌≤◌, ◌<◌, IfOk, IsErrOf};
 ghost use Rattle.std.specs.Io.KnownBytes.{WriteAppends};
-ghost use Rattle.ba_outside.specs.Causes.{NeverFalls, Rose};
+ghost use Rattle.ba_outside.specs.Causes.{NeverFalls};
 ghost use Rattle.ba_outside.specs.Seen.{SinkSeen};
-ghost use Rattle.ba_outside.specs.Sink.{Hands};
+ghost use Rattle.ba_outside.specs.Sink.{CountsFailure, Hands};
 
 /// Why a piece wasn't written. Nothing of it is.
 #[derive(Debug, Drop, PartialEq, Eq)]
@@ -14,17 +14,19 @@ pub enum WriteFail {
     NoMemory,
 }
 
-/// A sink as contracts see it: `seen` says what was written and which pieces were handed over (where these are told),
-/// and how often a write has failed.
+/// A sink as contracts see it: `seen` says what was written and which pieces were handed over
+/// (where these are told), and how often a write has failed.
 pub trait Sink {
     ghost seen: { Self → SinkSeen };
 
-    /// Writes the front of a piece and answers how many bytes of it: at least one, unless the piece is empty. Exactly
-    /// these bytes are appended. An empty piece is answered with `Ok(0)`, counts no fault and leaves no trace.
+    /// Writes the front of a piece and answers how many bytes of it: at least one, unless the piece
+    /// is empty. Exactly these bytes are appended, and the count of faults is as before. An empty
+    /// piece is answered with `Ok(0)` and leaves no trace.
     ///
     /// # Errors
-    /// `Failed` comes only where the count of faults rose; `NoMemory` for want of memory, the count as before. After
-    /// either nothing of the piece is written, and the sink may be written to again.
+    /// `Failed` comes only where the count of faults rose; `NoMemory` for want of memory, the count
+    /// as before. After either nothing of the piece is written, and the sink may be written to
+    /// again.
     fn write(&mut self, bytes: &[u8]) -> Result<usize, WriteFail>
         ensures written { WriteAppends (seen self.old).written (seen self.new).written result bytes.now }
         ensures pieces { Hands (seen self.old).pieces (seen self.new).pieces bytes.now result }
@@ -32,8 +34,6 @@ pub trait Sink {
 
         ensures some { IfOk result (λ n. 0 < length bytes.now → 0 < n) }
         ensures front { IfOk result (λ n. n ≤ length bytes.now) }
-        ensures failed { IsErrOf result WriteFail.Failed → Rose (seen self.old).faults (seen self.new).faults }
-        ensures no_memory { IsErrOf result WriteFail.NoMemory → (seen self.new).faults ≡ (seen self.old).faults }
-        ensures empty { length bytes.now ≡ 0 → result ≡ Ok 0 }
-        ensures empty_is_no_fault { length bytes.now ≡ 0 → (seen self.new).faults ≡ (seen self.old).faults };
+        ensures failed { CountsFailure (seen self.old).faults (seen self.new).faults result }
+        ensures empty { length bytes.now ≡ 0 → result ≡ Ok 0 };
 }

@@ -3,8 +3,9 @@ use crate::count::Count;
 use crate::{Sink, WriteFail};
 use std::io::Write;
 
-/// A sink over a writer, such as standard output. It tells nothing of what was written, and counts as a fault each
-/// write that fails, each flush that fails, and each write that takes nothing of a piece that isn't empty.
+/// A sink over a writer, such as standard output. It tells nothing of what was written, and counts
+/// as a fault each write that fails, each flush that fails, and each write that takes nothing of a
+/// piece that isn't empty.
 #[derive(Drop)]
 pub struct StdSink<W: Write + Drop> {
     writer: W,
@@ -16,7 +17,8 @@ impl<W: Write + Drop> StdSink<W> {
 
     /// A sink over that writer, without a fault so far.
     pub fn new(writer: W) -> Self
-        ensures { ⟦<StdSink<W> as Sink>⟧.seen result ≡ record { written = None; pieces = None; faults = 0 } }
+        ensures { ⟦<StdSink<W> as Sink>⟧.seen result
+            ≡ record { written = None; pieces = None; faults = 0 } }
     {
         StdSink {
             writer,

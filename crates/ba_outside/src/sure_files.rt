@@ -4,8 +4,8 @@ use crate::mem_files::find;
 use crate::{Files, Held, ReadFail};
 use std::alloc::Global;
 
-/// Files in memory that never answer `Fault`: their count of faults is 0 for ever. They tell what they hold, and a name
-/// that isn't held reads as empty. `NoMemory` may come.
+/// Files in memory that never answer `Fault`: their count of faults is 0 for ever. They tell what
+/// they hold, and a name that isn't held reads as empty. `NoMemory` may come.
 #[derive(Drop)]
 pub struct SureFiles {
     alloc: Global,
@@ -20,8 +20,12 @@ impl SureFiles {
 
     /// Files that were never asked. `alloc` is kept for the answers.
     pub fn new(alloc: Global, files: Vec<Held>) -> Self
-        ensures { ⟦<SureFiles as Files>⟧.seen result
-            ≡ record { held = Some (held_or_empty files.items); asked = []; taken = 0; faults = 0 } }
+        ensures { ⟦<SureFiles as Files>⟧.seen result ≡ record {
+          held = Some (held_or_empty files.items);
+          asked = [];
+          taken = 0;
+          faults = 0;
+        } }
     {
         SureFiles {
             alloc,
@@ -36,7 +40,12 @@ impl Files for SureFiles {
     ghost use Rattle.std.specs.Prelude.{Some, map, string_bytes};
     ghost use Rattle.ba_outside.specs.MemFiles.{held_or_empty};
 
-    ghost seen = { λ m. record { held = Some (held_or_empty m.files.items); asked = map string_bytes m.asked.items; taken = m.taken.value; faults = 0 } };
+    ghost seen = { λ m. record {
+      held = Some (held_or_empty m.files.items);
+      asked = map string_bytes m.asked.items;
+      taken = m.taken.value;
+      faults = 0;
+    } };
 
     fn read(&mut self, name: &str, limit: u64) -> Result<Vec<u8>, ReadFail> {
         let Ok(asked) = String::from_str(self.alloc, name) else {

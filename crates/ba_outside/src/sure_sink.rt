@@ -2,8 +2,8 @@
 use crate::{Sink, WriteFail};
 use std::alloc::Global;
 
-/// A sink in memory that never answers `Failed`: its count of faults is 0 for ever. It takes each piece whole, and tells
-/// what was written and the pieces handed over. `NoMemory` may come.
+/// A sink in memory that never answers `Failed`: its count of faults is 0 for ever. It takes each
+/// piece whole, and tells what was written and the pieces handed over. `NoMemory` may come.
 #[derive(Drop)]
 pub struct SureSink {
     alloc: Global,
@@ -16,7 +16,8 @@ impl SureSink {
 
     /// A sink that nothing was written to. `alloc` is kept for what is written.
     pub fn new(alloc: Global) -> Self
-        ensures { ⟦<SureSink as Sink>⟧.seen result ≡ record { written = Some []; pieces = Some []; faults = 0 } }
+        ensures { ⟦<SureSink as Sink>⟧.seen result
+            ≡ record { written = Some []; pieces = Some []; faults = 0 } }
     {
         SureSink {
             alloc,
@@ -37,7 +38,11 @@ impl Sink for SureSink {
     ghost use Rattle.std.specs.Prelude.{Some};
     ghost use Rattle.ba_outside.specs.Sink.{lists_of};
 
-    ghost seen = { λ s. record { written = Some s.bytes.items; pieces = Some (lists_of s.pieces.items); faults = 0 } };
+    ghost seen = { λ s. record {
+      written = Some s.bytes.items;
+      pieces = Some (lists_of s.pieces.items);
+      faults = 0;
+    } };
 
     fn write(&mut self, bytes: &[u8]) -> Result<usize, WriteFail> {
         if bytes.is_empty() {

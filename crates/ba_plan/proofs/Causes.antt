@@ -25,7 +25,7 @@ read_fault (ask name limit next) s t file (inr (bytes, mid, got, goes)) =
 pub long_file : {E X : Type 0} (p : Plan E X) (s t : FilesSeen) (file : List ℕ) (n : ℕ) → Follows p s t (Err (TooLong file n)) → LongAt file n s t
 long_file (done x) s t file n (h, same) = absurd h
 long_file (refuse e) s t file n (h, same) = absurd h
-long_file (ask name limit next) s t file n (inl (e, e', asked, passes)) = record {
+long_file (ask name limit next) s t file n (inl (e, e', asked, passes, calm)) = record {
   passes = subst (λ z. PassesLimit s.held file z s.taken t.taken) (sym e') (subst (λ z. PassesLimit s.held z limit s.taken t.taken) (sym e) passes);
   last = asked_last name file s t e asked;
 }

@@ -22,7 +22,7 @@ moved_then s m t h k = record {
 
 missed_moved : {E : Type 0} (name : List ℕ) (limit : ℕ) (s t : FilesSeen) (e : Stop E) → Missed name limit s t e → Moved s t
 missed_moved name limit s t (Read file) (e, asked, rose) = asked.moved
-missed_moved name limit s t (TooLong file n) (e, e', asked, passes) = asked.moved
+missed_moved name limit s t (TooLong file n) (e, e', asked, passes, calm) = asked.moved
 missed_moved name limit s t (Refused e) missed = absurd missed
 missed_moved name limit s t NoMemory (moved, asked) = moved
 

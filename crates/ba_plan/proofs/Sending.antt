@@ -4,7 +4,7 @@ use Rattle.std.specs.Io.KnownBytes.{Appends, Keeps}
 use Rattle.ba_outside.specs.Seen.{SinkSeen}
 use Rattle.ba_outside.specs.declared.sink.WriteFail.{WriteFail}
 use Rattle.ba_outside.specs.declared.sink.WriteFail.TheVariants.{Failed, NoMemory}
-use Rattle.ba_plan.specs.Sent.{Wrote, WrotePart, Sent}
+use Rattle.ba_plan.specs.Sent.{Wrote, WrotePart, Sent, Faultless}
 use Rattle.ba_plan.proofs.Counts.{rose_after}
 
 -- one text and then another
@@ -56,16 +56,16 @@ part_longer s t a b h = record {
 }
 
 -- what was written, and then what becomes of the rest
-pub sent_then : {X : Type 0} (s m t : SinkSeen) (a b : List ℕ) (r : Result X WriteFail) → Wrote a s m → Sent b m t r → Sent (a ++ b) s t r
-sent_then s m t a b (Ok x) h k = wrote_then s m t a b h k
-sent_then s m t a b (Err Failed) h k = (part_then s m t a b h k.0, rose_after s.faults m.faults t.faults h.faults k.1)
-sent_then s m t a b (Err NoMemory) h k = part_then s m t a b h k
+pub sent_then : {X : Type 0} (s m t : SinkSeen) (a b : List ℕ) (r : Result X WriteFail) → Wrote a s m → Faultless s m → Sent b m t r → Sent (a ++ b) s t r
+sent_then s m t a b (Ok x) h calm k = (wrote_then s m t a b h k.0, k.1 ∙ calm)
+sent_then s m t a b (Err Failed) h calm k = (part_then s m t a b h k.0, rose_after s.faults m.faults t.faults h.faults k.1)
+sent_then s m t a b (Err NoMemory) h calm k = (part_then s m t a b h k.0, k.1 ∙ calm)
 
 -- where a text ended early, so did any that begins with it
 pub sent_err : (X Y : Type 0) (s t : SinkSeen) (a b : List ℕ) (e : WriteFail) → Sent {X = X} a s t (Err e) → Sent {X = Y} (a ++ b) s t (Err e)
 sent_err X Y s t a b Failed (h, rose) = (part_longer s t a b h, rose)
-sent_err X Y s t a b NoMemory h = part_longer s t a b h
+sent_err X Y s t a b NoMemory (h, calm) = (part_longer s t a b h, calm)
 
 -- nothing of it, and memory ran out
 pub sent_no_memory : (X : Type 0) (s : SinkSeen) (a : List ℕ) → Sent {X = X} a s s (Err NoMemory)
-sent_no_memory X s a = record { front = []; back = a; whole = refl; wrote = wrote_none s }
+sent_no_memory X s a = (record { front = []; back = a; whole = refl; wrote = wrote_none s }, refl)

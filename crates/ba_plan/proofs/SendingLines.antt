@@ -6,10 +6,10 @@ use Rattle.std.specs.Io.KnownBytes.{Appends, Keeps}
 use Rattle.std.specs.List.{concat}
 use Rattle.ba_outside.specs.Causes.{Rose}
 use Rattle.ba_outside.specs.Seen.{SinkSeen}
-use Rattle.ba_outside.specs.Sink.{Grows, Hands, pieces_of}
+use Rattle.ba_outside.specs.Sink.{CountsFailure, Grows, Hands, pieces_of}
 use Rattle.ba_outside.specs.declared.sink.WriteFail.{WriteFail}
 use Rattle.ba_outside.specs.declared.sink.WriteFail.TheVariants.{Failed, NoMemory}
-use Rattle.ba_plan.specs.Sent.{Wrote, Sent, Rests, AllTaken, PartTaken, WroteLines, WroteLinesPart, SentLines}
+use Rattle.ba_plan.specs.Sent.{Wrote, Sent, Faultless, Rests, AllTaken, PartTaken, WroteLines, WroteLinesPart, SentLines}
 use Rattle.ba_plan.proofs.Counts.{rose_after}
 use Rattle.ba_plan.proofs.Sending.{wrote_none, wrote_kept, wrote_then}
 
@@ -42,6 +42,7 @@ pub record GoesWhole (rest : List ℕ) (s t : SinkSeen) : Type 0 where
   pub rests : Rests rest pieces rest
   pub handed : Grows s.pieces t.pieces pieces
   pub wrote : Wrote rest s t
+  pub faultless : Faultless s t
 
 -- of a rest a front was handed over and written
 pub record GoesPart (rest : List ℕ) (s t : SinkSeen) : Type 0 where
@@ -55,60 +56,69 @@ pub record GoesPart (rest : List ℕ) (s t : SinkSeen) : Type 0 where
 abbrev pub Goes : {X : Type 0} → List ℕ → SinkSeen → SinkSeen → Result X WriteFail → Type 0
 Goes rest s t (Ok x) = GoesWhole rest s t
 Goes rest s t (Err Failed) = GoesPart rest s t × Rose s.faults t.faults
-Goes rest s t (Err NoMemory) = GoesPart rest s t
+Goes rest s t (Err NoMemory) = GoesPart rest s t × Faultless s t
 
 -- nothing is left
 pub goes_done : (rest : List ℕ) (s : SinkSeen) → rest ≡ [] → GoesWhole rest s s
-goes_done rest s e = subst (λ z. GoesWhole z s s) (sym e) (record { pieces = []; rests = refl; handed = grows_same s.pieces; wrote = wrote_none s })
+goes_done rest s e = subst (λ z. GoesWhole z s s) (sym e) (record { pieces = []; rests = refl; handed = grows_same s.pieces; wrote = wrote_none s; faultless = refl })
 
-part_step : (s m t : SinkSeen) (rest : List ℕ) (n : ℕ) → Grows s.pieces m.pieces (rest ∷ []) → Wrote (take n rest) s m → GoesPart (drop n rest) m t → GoesPart rest s t
-part_step s m t rest n handed wrote k = record {
+-- a part was written, without a fault
+wrote_part : (s m : SinkSeen) (a : List ℕ) → Appends s.written m.written a → Faultless s m → Wrote a s m
+wrote_part s m a written calm = record { written = written; faults = omega (arith, calm) }
+
+part_step : (s m t : SinkSeen) (rest : List ℕ) (n : ℕ) → 0 < n → Grows s.pieces m.pieces (rest ∷ []) → Wrote (take n rest) s m → GoesPart (drop n rest) m t → GoesPart rest s t
+part_step s m t rest n more handed wrote k = record {
   pieces = rest ∷ k.pieces;
   front = take n rest ++ k.front;
-  rests = (refl, (n, k.front, refl, k.rests));
+  rests = (refl, (n, k.front, refl, inl more, k.rests));
   handed = grows_then s.pieces m.pieces t.pieces (rest ∷ []) k.pieces handed k.handed;
   wrote = wrote_then s m t (take n rest) k.front wrote k.wrote;
 }
 
 -- a part of the rest was taken, and then what becomes of what is left
-pub goes_step : {X : Type 0} (s m t : SinkSeen) (rest : List ℕ) (n : ℕ) (r : Result X WriteFail) → ((rest ≡ []) → ⊥) → Grows s.pieces m.pieces (pieces_of rest) → Appends s.written m.written (take n rest) → s.faults ≤ m.faults → Goes (drop n rest) m t r → Goes rest s t r
-goes_step s m t rest n (Ok x) some handed written faults k =
+pub goes_step : {X : Type 0} (s m t : SinkSeen) (rest : List ℕ) (n : ℕ) (r : Result X WriteFail) → ((rest ≡ []) → ⊥) → 0 < n → Grows s.pieces m.pieces (pieces_of rest) → Appends s.written m.written (take n rest) → Faultless s m → Goes (drop n rest) m t r → Goes rest s t r
+goes_step s m t rest n (Ok x) some more handed written calm k =
     let handed' = subst (λ z. Grows s.pieces m.pieces z) (pieces_of_some rest some) handed in
     record {
       pieces = rest ∷ k.pieces;
-      rests = (refl, (n, drop n rest, sym (take-append-drop n rest), k.rests));
+      rests = (refl, (n, drop n rest, sym (take-append-drop n rest), inl more, k.rests));
       handed = grows_then s.pieces m.pieces t.pieces (rest ∷ []) k.pieces handed' k.handed;
       wrote = subst (λ z. Wrote z s t) (take-append-drop n rest)
-          (wrote_then s m t (take n rest) (drop n rest) (record { written = written; faults = faults }) k.wrote);
+          (wrote_then s m t (take n rest) (drop n rest) (wrote_part s m (take n rest) written calm) k.wrote);
+      faultless = k.faultless ∙ calm;
     }
-goes_step s m t rest n (Err Failed) some handed written faults k =
+goes_step s m t rest n (Err Failed) some more handed written calm k =
     let handed' = subst (λ z. Grows s.pieces m.pieces z) (pieces_of_some rest some) handed in
-    (part_step s m t rest n handed' (record { written = written; faults = faults }) k.0, rose_after s.faults m.faults t.faults faults k.1)
-goes_step s m t rest n (Err NoMemory) some handed written faults k =
+    let wrote = wrote_part s m (take n rest) written calm in
+    (part_step s m t rest n more handed' wrote k.0, rose_after s.faults m.faults t.faults wrote.faults k.1)
+goes_step s m t rest n (Err NoMemory) some more handed written calm k =
     let handed' = subst (λ z. Grows s.pieces m.pieces z) (pieces_of_some rest some) handed in
-    part_step s m t rest n handed' (record { written = written; faults = faults }) k
+    (part_step s m t rest n more handed' (wrote_part s m (take n rest) written calm) k.0, k.1 ∙ calm)
 
 -- the piece was handed over, and nothing of it taken
 part_kept : (s t : SinkSeen) (rest : List ℕ) → ((rest ≡ []) → ⊥) → Grows s.pieces t.pieces (pieces_of rest) → Keeps s.written t.written → s.faults ≤ t.faults → GoesPart rest s t
 part_kept s t rest some handed kept faults = record {
   pieces = rest ∷ [];
   front = [];
-  rests = (refl, (0, [], refl, refl));
+  rests = (refl, (0, [], refl, inr refl, refl));
   handed = subst (λ z. Grows s.pieces t.pieces z) (pieces_of_some rest some) handed;
   wrote = wrote_kept s t kept faults;
 }
 
 -- a call that fails ends the line
-pub goes_err : (X Y : Type 0) (s t : SinkSeen) (rest : List ℕ) (e : WriteFail) → ((rest ≡ []) → ⊥) → Hands {X = Y} s.pieces t.pieces rest (Err e) → Keeps s.written t.written → s.faults ≤ t.faults → (e ≡ Failed → Rose s.faults t.faults) → Goes {X = X} rest s t (Err e)
-goes_err X Y s t rest Failed some handed kept faults rose = (part_kept s t rest some handed kept faults, rose refl)
-goes_err X Y s t rest NoMemory some (inl none) kept faults rose = record {
-  pieces = [];
-  front = [];
-  rests = refl;
-  handed = none;
-  wrote = wrote_kept s t kept faults;
-}
-goes_err X Y s t rest NoMemory some (inr handed) kept faults rose = part_kept s t rest some handed kept faults
+pub goes_err : (X Y : Type 0) (s t : SinkSeen) (rest : List ℕ) (e : WriteFail) → ((rest ≡ []) → ⊥) → Hands {X = Y} s.pieces t.pieces rest (Err e) → Keeps s.written t.written → s.faults ≤ t.faults → CountsFailure {X = Y} s.faults t.faults (Err e) → Goes {X = X} rest s t (Err e)
+goes_err X Y s t rest Failed some handed kept faults rose = (part_kept s t rest some handed kept faults, rose)
+goes_err X Y s t rest NoMemory some (inl none) kept faults calm = (
+  record {
+    pieces = [];
+    front = [];
+    rests = refl;
+    handed = none;
+    wrote = wrote_kept s t kept faults;
+  },
+  calm,
+)
+goes_err X Y s t rest NoMemory some (inr handed) kept faults calm = (part_kept s t rest some handed kept faults, calm)
 
 -- a line is the only one
 pub lines_one : {X : Type 0} (line : List ℕ) (s t : SinkSeen) (r : Result X WriteFail) → Goes line s t r → SentLines (line ∷ []) s t r
@@ -117,9 +127,10 @@ lines_one line s t (Ok x) h = record {
   taken = (h.pieces, [], sym (append-nil h.pieces), h.rests, refl);
   handed = h.handed;
   wrote = subst (λ z. Wrote z s t) (sym (append-nil line)) h.wrote;
+  faultless = h.faultless;
 }
 lines_one line s t (Err Failed) (h, rose) = (record { pieces = h.pieces; front = h.front; taken = inl h.rests; handed = h.handed; wrote = h.wrote }, rose)
-lines_one line s t (Err NoMemory) h = record { pieces = h.pieces; front = h.front; taken = inl h.rests; handed = h.handed; wrote = h.wrote }
+lines_one line s t (Err NoMemory) (h, calm) = (record { pieces = h.pieces; front = h.front; taken = inl h.rests; handed = h.handed; wrote = h.wrote }, calm)
 
 -- all of some lines and all of others
 all_then : (a b p q : List (List ℕ)) → AllTaken a p → AllTaken b q → AllTaken (a ++ b) (p ++ q)
@@ -153,7 +164,7 @@ part_more (line ∷ a) b p front (inr (first, later, behind, e, e', rests, h)) =
 -- what was taken is a front of the line
 rests_front : (rest : List ℕ) (pieces : List (List ℕ)) (front : List ℕ) → Rests rest pieces front → (back : List ℕ) × (rest ≡ front ++ back)
 rests_front rest [] front e = (rest, ap (λ z. z ++ rest) (sym e))
-rests_front rest (piece ∷ pieces) front (e, (n, later, e', rests)) =
+rests_front rest (piece ∷ pieces) front (e, (n, later, e', more, rests)) =
     let k = rests_front (drop n rest) pieces later rests in
     (k.0, sym (take-append-drop n rest) ∙ ap (λ z. take n rest ++ z) k.1 ∙ sym (append_assoc (take n rest) later k.0) ∙ ap (λ z. z ++ k.0) (sym e'))
 
@@ -192,29 +203,30 @@ lines_then s m t a b (Ok x) h k = record {
   taken = all_then a b h.pieces k.pieces h.taken k.taken;
   handed = grows_then s.pieces m.pieces t.pieces h.pieces k.pieces h.handed k.handed;
   wrote = subst (λ z. Wrote z s t) (sym (concat-append a b)) (wrote_then s m t (concat a) (concat b) h.wrote k.wrote);
+  faultless = k.faultless ∙ h.faultless;
 }
 lines_then s m t a b (Err Failed) h k = (part_then s m t a b h k.0, rose_after s.faults m.faults t.faults h.wrote.faults k.1)
-lines_then s m t a b (Err NoMemory) h k = part_then s m t a b h k
+lines_then s m t a b (Err NoMemory) h k = (part_then s m t a b h k.0, k.1 ∙ h.faultless)
 
 -- where lines ended early, so did any that begin with them
 pub lines_err : (X Y : Type 0) (s t : SinkSeen) (a b : List (List ℕ)) (e : WriteFail) → SentLines {X = X} a s t (Err e) → SentLines {X = Y} (a ++ b) s t (Err e)
 lines_err X Y s t a b Failed (h, rose) = (part_longer s t a b h, rose)
-lines_err X Y s t a b NoMemory h = part_longer s t a b h
+lines_err X Y s t a b NoMemory (h, calm) = (part_longer s t a b h, calm)
 
 -- no line is written
 pub lines_none : (s : SinkSeen) → WroteLines [] s s
-lines_none s = record { pieces = []; taken = refl; handed = grows_same s.pieces; wrote = wrote_none s }
+lines_none s = record { pieces = []; taken = refl; handed = grows_same s.pieces; wrote = wrote_none s; faultless = refl }
 
 -- nothing of the lines, and memory ran out
 pub lines_no_memory : (X : Type 0) (s : SinkSeen) (a : List (List ℕ)) → SentLines {X = X} a s s (Err NoMemory)
-lines_no_memory X s a = record { pieces = []; front = []; taken = part_none a; handed = grows_same s.pieces; wrote = wrote_none s }
+lines_no_memory X s a = (record { pieces = []; front = []; taken = part_none a; handed = grows_same s.pieces; wrote = wrote_none s }, refl)
 
 -- lines are sent as their text
 pub lines_sent : {X : Type 0} (s t : SinkSeen) (lines : List (List ℕ)) (r : Result X WriteFail) → SentLines lines s t r → Sent (concat lines) s t r
-lines_sent s t lines (Ok x) h = h.wrote
+lines_sent s t lines (Ok x) h = (h.wrote, h.faultless)
 lines_sent s t lines (Err Failed) (h, rose) =
     let k = part_front lines h.pieces h.front h.taken in
     (record { front = h.front; back = k.0; whole = k.1; wrote = h.wrote }, rose)
-lines_sent s t lines (Err NoMemory) h =
+lines_sent s t lines (Err NoMemory) (h, calm) =
     let k = part_front lines h.pieces h.front h.taken in
-    record { front = h.front; back = k.0; whole = k.1; wrote = h.wrote }
+    (record { front = h.front; back = k.0; whole = k.1; wrote = h.wrote }, calm)

@@ -21,7 +21,7 @@ front_one old new name names e = (1, e)
 
 missed_asked : {E : Type 0} (name : List ℕ) (limit : ℕ) (s t : FilesSeen) (e : Stop E) → Missed name limit s t e → (t.asked ≡ s.asked) ⊎ (t.asked ≡ s.asked ++ name ∷ [])
 missed_asked name limit s t (Read file) (e, asked, rose) = inr asked.asked
-missed_asked name limit s t (TooLong file n) (e, e', asked, passes) = inr asked.asked
+missed_asked name limit s t (TooLong file n) (e, e', asked, passes, calm) = inr asked.asked
 missed_asked name limit s t (Refused e) missed = absurd missed
 missed_asked name limit s t NoMemory (moved, asked) = asked
 
@@ -76,7 +76,7 @@ settled (Err NoMemory) read whole h ok err = tt
 
 missed_settles : {E X : Type 0} (contents : Contents) (name : List ℕ) (limit : ℕ) (next : List ℕ → Result X (Stop E)) (s t : FilesSeen) (e : Stop E) → s.held ≡ Some contents → Missed name limit s t e → Settles {X = X} (Err e) (comes_of (contents name) limit (Err (Read name)) (Err (TooLong name limit)) next)
 missed_settles contents name limit next s t (Read file) told missed = tt
-missed_settles contents name limit next s t (TooLong file n) told (e, e', asked, passes) =
+missed_settles contents name limit next s t (TooLong file n) told (e, e', asked, passes, calm) =
     let long = subst (λ z. PassesLimit z name limit s.taken t.taken) told passes in
     comes_long (contents name) limit _ _ next long ∙ ap₂ (λ f z. Err (TooLong f z)) (sym e) (sym e')
 missed_settles contents name limit next s t (Refused e) told missed = absurd missed

@@ -25,16 +25,20 @@ found (Err e) = refuse e
 -- what comes of a file: it is missing, or longer than the limit, or read
 abbrev pub comes_of : {Y : Type 0} → Option (List ℕ) → ℕ → Y → Y → (List ℕ → Y) → Y
 comes_of None limit missing long next = missing
-comes_of (Some bytes) limit missing long next = if nat_lt limit (length bytes) then long else next bytes
+comes_of (Some bytes) limit missing long next =
+    if nat_lt limit (length bytes) then long else next bytes
 
 -- What the plan comes to where the contents are told, nothing fails and memory suffices.
 abbrev pub outcome_of : {E X : Type 0} → Contents → Plan E X → Result X (Stop E)
 outcome_of contents (done x) = Ok x
 outcome_of contents (refuse e) = Err (Refused e)
-outcome_of contents (ask name limit next) = comes_of (contents name) limit (Err (Read name)) (Err (TooLong name limit)) (λ bytes. outcome_of contents (next bytes))
+outcome_of contents (ask name limit next) =
+    comes_of (contents name) limit (Err (Read name)) (Err (TooLong name limit))
+    (λ bytes. outcome_of contents (next bytes))
 
 -- The names that it asks for then, in order.
 abbrev pub names_of : {E X : Type 0} → Contents → Plan E X → List (List ℕ)
 names_of contents (done x) = []
 names_of contents (refuse e) = []
-names_of contents (ask name limit next) = name ∷ comes_of (contents name) limit [] [] (λ bytes. names_of contents (next bytes))
+names_of contents (ask name limit next) =
+    name ∷ comes_of (contents name) limit [] [] (λ bytes. names_of contents (next bytes))

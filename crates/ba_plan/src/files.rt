@@ -6,12 +6,12 @@ use ba_model::{List, Str};
 use ba_outside::{Files, ReadFail};
 use std::alloc::Global;
 
-/// Reads the file of that name, which may have at most `limit` bytes: one call of `files`. This is the step of a plan
-/// that asks for a file.
+/// Reads the file of that name, which may have at most `limit` bytes: one call of `files`. This is
+/// the step of a plan that asks for a file.
 ///
 /// # Errors
-/// `Read` and `TooLong` with the name, as the files answer `Fault` and `TooLong`; `NoMemory` as they do, or where there
-/// is none for the name. `Refused` never comes.
+/// `Read` and `TooLong` with the name, as the files answer `Fault` and `TooLong`; `NoMemory` as
+/// they do, or where there is none for the name. `Refused` never comes.
 pub fn read_file<E, F: Files>(
     alloc: Global,
     files: &mut F,

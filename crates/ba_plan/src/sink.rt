@@ -4,11 +4,12 @@ ghost use Rattle.ba_plan.specs.Sent.{SentLines};
 
 use ba_outside::{Sink, WriteFail};
 
-/// Hands a line to the sink, and then each rest of it that wasn't taken, until all of it is written. An empty line is
-/// never handed over.
+/// Hands a line to the sink, and then each rest of it that wasn't taken, until all of it is
+/// written. An empty line is never handed over.
 ///
 /// # Errors
-/// As the sink answers: what it took before stays written, and it may be written to again.
+/// As the sink answers: the piece that failed is the last one handed over, what was taken before
+/// stays written, and the sink may be written to again.
 pub fn send<S: Sink>(sink: &mut S, line: &[u8]) -> Result<(), WriteFail>
     ensures { SentLines (line.now ∷ []) (S.seen sink.old) (S.seen sink.new) result }
 {

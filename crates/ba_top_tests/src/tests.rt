@@ -1,5 +1,6 @@
 // Runs that no case of files can show: reads and writes that fail, want of memory, huge files, the sure forms.
 mod checks;
+mod gates;
 mod notices;
 mod refused;
 mod shard;

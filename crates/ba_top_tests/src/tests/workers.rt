@@ -21,7 +21,7 @@ const WORDS: [&str; 10] = [
 ];
 
 // Two requests, which two workers serve, or two of sixteen.
-const FILES: [(&str, &str); 4] = [
+pub(super) const FILES: [(&str, &str); 4] = [
     (
         "S",
         "CREATE TABLE Users (UId INT PRIMARY KEY, Name TEXT NOT NULL);",
@@ -50,7 +50,7 @@ const LINES: &str = "{\"begin\":\"r1\",\"line\":1,\"version\":0}
 ";
 
 // The words of a run by so many workers.
-fn words(alloc: Global, workers: &str) -> Result<Vec<String>, AllocError> {
+pub(super) fn words(alloc: Global, workers: &str) -> Result<Vec<String>, AllocError> {
     let mut words = Vec::new(alloc);
     for word in WORDS {
         words.push(String::from_str(alloc, word)?)?;
