@@ -28,10 +28,10 @@ use Rattle.ba_instant.proofs.KeepLemmas.{more_facts, new_after_quiet_step, stays
 use Rattle.ba_instant.proofs.OfferLemmas.{not_behind}
 use Rattle.ba_instant.proofs.OrderLemmas.{pick_total}
 use Rattle.ba_instant.proofs.RoundLemmas.{round_once}
-use Rattle.ba_instant.specs.Dues.{DueList, Ends, HasNew, HaveNewBelow, IsDue, IsSaturated, Searches}
+use Rattle.ba_instant.specs.Dues.{DueList, Ends, EndsAreLeaves, HasNew, HaveNewBelow, IsDue, IsSaturated, Searches}
 use Rattle.ba_instant.specs.Agendas.{AreInTurn, AreOlder, IsAgenda, IsAgendaAt, IsListed, IsNone, IsSilent, MOST_ROUND}
 use Rattle.ba_instant.specs.Loose.{IsQuietBeside}
-use Rattle.ba_instant.specs.Nexts.{AreQuietBeside, IsQuietRound, AreWaiting, ComesLater, IsFirstBelow, IsKept, IsLeafOf, IsLeastSaturated, IsLeft, IsPickedBelow, IsQuietAt, IsTaken, Passes, SaturatedAt, Waits, first_step}
+use Rattle.ba_instant.specs.Nexts.{AreQuietBeside, IsQuietRound, AreWaiting, ComesLater, IsFirstBelow, IsCarriedOn, IsLeafOf, IsLeastSaturated, IsAgendaAfter, IsPickedBelow, IsQuietAt, IsTaken, Passes, SaturatedAt, Waits, first_step}
 use Rattle.ba_instant.specs.Offers.{IsDueIfAny, IsDueOn, IsRoundAt, IsTelling, first_by}
 use Rattle.ba_instant.specs.QuietSteps.{AddsToOneAt, TakesQuietly}
 use Rattle.ba_instant.specs.Order.{atom_cmp, numbers_cmp, pick_cmp, step_atom, step_cmp, step_rank}
@@ -284,7 +284,7 @@ module _ (pick : Pick) (c : Course) (of : Due) (it : IsTaken pick c of) where
           stays_silent c.problem c.steps step c.slots new.slots due.branch b due.round fits taken_quietly
           (subst (λ at. AddsToOneAt at step) (open_is c.slots (branch_of step) due.branch due.open_) adds) (was.silent told)
 
-    kept_after : (new : Course) (left : Agenda) (b : Branch) → Takes c.problem c.slots step new.slots → IsOpen new.slots (branch_of step) b → IsKept c of left →
+    kept_after : (new : Course) (left : Agenda) (b : Branch) → Takes c.problem c.slots step new.slots → IsOpen new.slots (branch_of step) b → IsCarriedOn c of left →
         IsAgenda pick c.problem (branch_of step) b left
     kept_after new left b takes to h =
         let before = it.agenda.of due.branch due.open_ in
@@ -300,13 +300,13 @@ module _ (pick : Pick) (c : Course) (of : Due) (it : IsTaken pick c of) where
           silent = λ told. let both = h.silent told in silent_after new b takes to h.quiet both.1 both.0;
         }
 
-    agenda_after : (new : Course) (left : Agenda) (b : Branch) → Takes c.problem c.slots step new.slots → IsOpen new.slots (branch_of step) b → IsLeft c of left →
+    agenda_after : (new : Course) (left : Agenda) (b : Branch) → Takes c.problem c.slots step new.slots → IsOpen new.slots (branch_of step) b → IsAgendaAfter c of left →
         IsAgenda pick c.problem (branch_of step) b left
     agenda_after new left b takes to (inl none) = none_is_agenda pick c.problem (branch_of step) b left none
     agenda_after new left b takes to (inr kept) = kept_after new left b takes to kept
 
     -- all other branches are as before
-    pub waiting_after : (new : Course) (waiting : Waiting) (left : Agenda) → waiting.below ≡ length c.slots → waiting.but ≡ branch_of step → waiting.agenda ≡ left → IsNone waiting.next → IsLeft c of left →
+    pub waiting_after : (new : Course) (waiting : Waiting) (left : Agenda) → waiting.below ≡ length c.slots → waiting.but ≡ branch_of step → waiting.agenda ≡ left → IsNone waiting.next → IsAgendaAfter c of left →
         Takes c.problem c.slots step new.slots → new.problem ≡ c.problem → AreWaiting pick new waiting
     waiting_after new waiting left below_is but_is agenda_is next_is h takes problem_is = record {
       next = record { of = λ b is. none_is_agenda pick new.problem waiting.below b waiting.next next_is };
@@ -358,11 +358,12 @@ module _ (pick : Pick) (budget : ℕ) (c : Course) (searches : Searches pick c.p
   ends_saturated number (settled.Proved proof) h few leaf = absurd leaf
   ends_saturated number (settled.Spent taken) h few leaf = absurd leaf
   ends_saturated number (settled.Saturated it) h few leaf =
-      let same : h.branch ≡ it.branch = one_open c.slots number h.branch it.branch h.saturated.open_ (open_back c.slots number it.branch leaf.1) in
+      let same : h.branch ≡ it.branch = one_open c.slots number h.branch it.branch h.saturated.open_ (open_back c.slots number it.branch leaf.branch_is) in
       record {
+        problem_is = leaf.problem_is;
         slots = c.slots;
-        searches = subst (λ taken. Searches pick c.problem taken c.slots) (sym leaf.0) searches;
-        few = subst (λ taken. length taken ≤ budget) (sym leaf.0) few;
+        searches = subst (λ taken. Searches pick c.problem taken c.slots) (sym leaf.steps_are) searches;
+        few = subst (λ taken. length taken ≤ budget) (sym leaf.steps_are) few;
         number = number;
         saturated = subst (IsSaturated c.problem c.slots number) same h.saturated;
         least = h.least;
@@ -460,3 +461,13 @@ open_still old new number same h =
 pub due_list : (pick : Pick) (p : Problem) (taken : List Step) (slots : Slots) → Searches pick p taken slots → DueList pick p taken slots
 due_list pick p taken slots (Searches.start h) = DueList.start h
 due_list pick p taken slots (Searches.next {taken = before} {old = old} h each picked takes) = DueList.next (due_list pick p before old h) picked takes
+
+-- ---- leaves
+
+pub ends_are_leaves : EndsAreLeaves
+ends_are_leaves pick p budget leaf h = record {
+  slots = h.slots;
+  runs = subst (λ q. Runs q leaf.steps h.slots) (sym h.problem_is) (runs_of pick p leaf.steps h.slots h.searches);
+  number = h.number;
+  saturated = subst (λ q. IsSaturated q h.slots h.number leaf.branch) (sym h.problem_is) h.saturated;
+}

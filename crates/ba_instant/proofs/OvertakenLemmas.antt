@@ -16,11 +16,11 @@ use Rattle.ba_kernel.specs.declared.step.Step.TheVariants as steps
 use Rattle.ba_instant.proofs.LateLemmas.{improves_behind}
 use Rattle.ba_instant.proofs.MapLemmas.{From}
 use Rattle.ba_instant.proofs.OrderLemmas.{pick_total}
-use Rattle.ba_instant.specs.Looks.{IsBehind, IsOvertaken}
+use Rattle.ba_instant.specs.Scans.{IsBehind, IsOvertaken}
 use Rattle.ba_instant.specs.Offers.{Improves, Leads, Reaches, is_single}
 use Rattle.ba_instant.specs.Order.{pick_cmp, step_cmp}
 use Rattle.ba_instant.specs.declared.batch.Batch.{Batch}
-use Rattle.ba_instant.specs.declared.found.Found.{Found}
+use Rattle.ba_instant.specs.declared.scan.NewStep.{NewStep}
 use Rattle.ba_instant.specs.declared.mapped.Form.{Form}
 use Rattle.ba_instant.specs.declared.mapped.Form.TheVariants.{OfRule, OfView, OfGoal}
 use Rattle.ba_instant.specs.declared.order.Pick.{Pick}
@@ -53,7 +53,7 @@ module _ (n part : ℕ) (chosen rest : List ℕ) where
   leads_longer None h = absurd h
   leads_longer (Some best) h = upto (pick_total First) best (steps.Goal n part chosen) (steps.Goal n part (chosen ++ rest)) h longer_behind
 
-  behind_reaches : (best : Option Batch) (it : Found) → IsBehind First best (steps.Goal n part chosen) → it.step ≡ steps.Goal n part (chosen ++ rest) → Reaches First best it
+  behind_reaches : (best : Option Batch) (it : NewStep) → IsBehind First best (steps.Goal n part chosen) → it.step ≡ steps.Goal n part (chosen ++ rest) → Reaches First best it
   behind_reaches None it h is = absurd h
   behind_reaches (Some best) it (at, leads) is =
       let least : best.round ≤ it.round = omega (arith, at) in

@@ -24,14 +24,16 @@ IsHeadOf k rows (x ∷ head) [] = ⊥
 IsHeadOf k rows (x ∷ head) (y ∷ row) = IsPlaceOf k rows x y × IsHeadOf k rows head row
 
 -- the rows of terms fit the part's tables, and its atoms and head are known of them
-pub record GivesBy (s : Schema) (b : Branch) (part : Part) (rows : List (List Term)) (row : List Operand) : Type 0 where
+pub record GivesBy (s : Schema) (b : Branch) (part : Part) (rows : List (List Term))
+    (row : List Operand) : Type 0 where
   pub rows_for : AllZip (IsRowFor s b.known) part.from rows
   pub shown : All (IsShown b.known rows) part.conds
   pub plain : All (Under (IsPlain b.known) rows) part.conds
   pub head : IsHeadOf b.known rows part.head row
 
 -- some rows of terms give what the operands stand for
-pub record GivesSome (s : Schema) (b : Branch) (part : Part) (operands : List Operand) : Type 0 where
+pub record GivesSome (s : Schema) (b : Branch) (part : Part) (operands : List Operand)
+    : Type 0 where
   pub row : List Term
   pub row_is : map (term_of []) operands ≡ map Some row
   pub rows : List (List Term)
