@@ -29,7 +29,7 @@ use Rattle.ba_instant.proofs.RoundLemmas.{is_new, not_new, round_at_once}
 use Rattle.ba_instant.specs.Agendas.{AreInTurn, AreOlder, EndsOld, IsAgenda, IsAgendaAt, IsAgendaOf, IsBlank, IsFirstOf, IsInTurn, IsListed, IsNewHere, IsNone, IsPast, IsQuietAgenda, IsSilent, IsTrimmed, IsWithoutLast, MOST_ROUND}
 use Rattle.ba_instant.specs.Dues.{IsDue}
 use Rattle.ba_instant.specs.Loose.{IsQuietBeside}
-use Rattle.ba_instant.specs.Offers.{Improves, IsByMapping, IsClosing, IsDueIfAny, IsDueOn, IsNewOf, IsHeld, IsNewIn, IsRoundIn, IsTelling, IsWhole, Leads, NoneCloses, Offers, Reaches, is_single}
+use Rattle.ba_instant.specs.Offers.{Improves, IsByMapping, IsClosing, IsDueIfAny, IsDueOn, IsNewOf, IsHeld, IsNewIn, IsRoundIn, IsTelling, IsWholeBatch, HasEarlier, NoneCloses, Offers, Reaches, is_single}
 use Rattle.ba_instant.specs.Order.{pick_cmp, step_cmp}
 use Rattle.ba_instant.specs.Windows.{IsQuietUpto}
 use Rattle.ba_instant.specs.declared.agenda.Agenda.{Agenda}
@@ -375,12 +375,12 @@ module _ (c : Course) (n : ℕ) (b : Branch) (open_ : IsOpen c.slots n b) (pick 
   -- ---- of a batch
 
   module _ (batch : Batch) (agenda : Agenda) (of : IsAgendaOf pick batch agenda) where
-    led_listed : (single : Option Step) → batch.single ≡ single → IsWhole batch → (step : Step) → IsTrue (is_single step) → Leads pick single step → IsListed pick agenda.steps.items step
+    led_listed : (single : Option Step) → batch.single ≡ single → IsWholeBatch batch → (step : Step) → IsTrue (is_single step) → HasEarlier pick single step → IsListed pick agenda.steps.items step
     led_listed None is whole step one led = absurd led
     led_listed (Some first) is whole step one led =
         inr (record { single = one; other = first; there = of.has first (inr is); other_single = whole.single first is; before = not_greater (pick_cmp pick first step) led })
 
-    pub held_listed : IsWhole batch → (step : Step) → IsHeld pick batch step → IsListed pick agenda.steps.items step
+    pub held_listed : IsWholeBatch batch → (step : Step) → IsHeld pick batch step → IsListed pick agenda.steps.items step
     held_listed whole step (inl in_) = inl (of.has step (inl in_))
     held_listed whole step (inr led) = led_listed batch.single refl whole step led.0 led.1
 
@@ -388,7 +388,7 @@ module _ (c : Course) (n : ℕ) (b : Branch) (open_ : IsOpen c.slots n b) (pick 
       from_batch : (step : Step) → Contains agenda.steps.items step → IsNewOf c P (record { round = batch.round; step = step })
       from_batch step in_ = elim (h.from (record { round = batch.round; step = step }) (refl, of.from step in_)) [ inl none ↦ absurd none | inr is ↦ is ]
 
-      whole : IsWhole batch
+      whole : IsWholeBatch batch
       whole = h.filled tt
 
       rest_of : ((other : Step) (round : ℕ) → branch_of other ≡ n → IsNewIn c other → IsRoundIn c other round → (batch.round < round) ⊎ P other) → (other : Step) (round : ℕ) →

@@ -31,7 +31,7 @@ use Rattle.ba_instant.proofs.RoundLemmas.{round_once}
 use Rattle.ba_instant.specs.Dues.{DueList, Ends, EndsAreLeaves, HasNew, HaveNewBelow, IsDue, IsSaturated, Searches}
 use Rattle.ba_instant.specs.Agendas.{AreInTurn, AreOlder, IsAgenda, IsAgendaAt, IsListed, IsNone, IsSilent, MOST_ROUND}
 use Rattle.ba_instant.specs.Loose.{IsQuietBeside}
-use Rattle.ba_instant.specs.Nexts.{AreQuietBeside, IsQuietRound, AreWaiting, ComesLater, IsFirstBelow, IsCarriedOn, IsLeafOf, IsLeastSaturated, IsAgendaAfter, IsPickedBelow, IsQuietAt, IsTaken, Passes, SaturatedAt, Waits, first_step}
+use Rattle.ba_instant.specs.Nexts.{AreQuietBeside, IsQuietRound, AreWaiting, ComesLater, IsFirstBelow, IsCarriedOn, IsLeafOf, IsLeastSaturated, IsAgendaAfter, IsPickedBelow, IsQuietAt, IsTaken, PassesBranch, SaturatedAt, Waits, first_step}
 use Rattle.ba_instant.specs.Offers.{IsDueIfAny, IsDueOn, IsRoundAt, IsTelling, first_by}
 use Rattle.ba_instant.specs.QuietSteps.{AddsToOneAt, TakesQuietly}
 use Rattle.ba_instant.specs.Order.{atom_cmp, numbers_cmp, pick_cmp, step_atom, step_cmp, step_rank}
@@ -66,7 +66,7 @@ branch_first one other less e =
 
 module _ (pick : Pick) (c : Course) (n : ℕ) where
   -- the branch isn't open
-  pub passes_closed : (first : Option Due) → open_at c.slots n ≡ None → Passes pick c n first first
+  pub passes_closed : (first : Option Due) → open_at c.slots n ≡ None → PassesBranch pick c n first first
   passes_closed first none = record { has = λ b h. absurd (not_open c.slots n b none h); first = more first }
     where
       more : (first : Option Due) → IsFirstBelow pick c n first → IsFirstBelow pick c (n + 1) first
@@ -86,7 +86,7 @@ module _ (pick : Pick) (c : Course) (n : ℕ) where
       }
 
   -- the branch has a new step, and comes after that of the step that was found
-  pub passes_later : (first : Option Due) → ComesLater pick first → ((b : Branch) → IsOpen c.slots n b → HasNew c.problem n b) → Passes pick c n first first
+  pub passes_later : (first : Option Due) → ComesLater pick first → ((b : Branch) → IsOpen c.slots n b → HasNew c.problem n b) → PassesBranch pick c n first first
   passes_later first later has = record { has = has; first = more pick first later }
     where
       more : (pick : Pick) (first : Option Due) → ComesLater pick first → IsFirstBelow pick c n first → IsFirstBelow pick c (n + 1) first
@@ -104,7 +104,7 @@ module _ (pick : Pick) (c : Course) (n : ℕ) where
       more Last (Some it) later h = absurd later
       more Last None later h = absurd later
 
-  pub passes_waiting : (waiting : Waiting) (first : Option Due) → ComesLater pick first → Waits waiting n → AreWaiting pick c waiting → Passes pick c n first first
+  pub passes_waiting : (waiting : Waiting) (first : Option Due) → ComesLater pick first → Waits waiting n → AreWaiting pick c waiting → PassesBranch pick c n first first
   passes_waiting waiting first later waits are = passes_later first later (λ b is. are.waits n b waits.0 waits.1 is)
 
   -- it has a due step, and an agenda
@@ -159,7 +159,7 @@ module _ (pick : Pick) (c : Course) (n : ℕ) where
     }
     picked_more (Some best) h = kept best (is_gt (pick_cmp pick best.found.step of.found.step)) refl h
 
-    pub passes_due : (old new : Option Due) → new ≡ first_step pick old of → Passes pick c n old new
+    pub passes_due : (old new : Option Due) → new ≡ first_step pick old of → PassesBranch pick c n old new
     passes_due old new is = record { has = has_new; first = λ h. subst (IsFirstBelow pick c (n + 1)) (sym is) (picked_more old h) }
 
   pub saturated_at : (b : Branch) → IsOpen c.slots n b → IsDueIfAny c pick n None → SaturatedAt c n
@@ -167,7 +167,7 @@ module _ (pick : Pick) (c : Course) (n : ℕ) where
 
   -- ---- the branches so far
 
-  pub news_more : (old new : Option Due) → Passes pick c n old new → HaveNewBelow c.problem c.slots n → HaveNewBelow c.problem c.slots (n + 1)
+  pub news_more : (old new : Option Due) → PassesBranch pick c n old new → HaveNewBelow c.problem c.slots n → HaveNewBelow c.problem c.slots (n + 1)
   news_more old new h before number b below is = elim (up_to_bound number n below) [
     | inl less ↦ before number b less is
     | inr same ↦ subst (λ m. HasNew c.problem m b) (sym same) (h.has b (subst (λ m. IsOpen c.slots m b) same is))

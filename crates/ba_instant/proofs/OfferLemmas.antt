@@ -16,7 +16,7 @@ use Rattle.ba_facts.proofs.PlaceLemmas.{upto as up_to_bound}
 use Rattle.ba_instant.proofs.OrderLemmas.{pick_total}
 use Rattle.ba_instant.proofs.RoundLemmas.{is_new, not_new, round_at_once}
 use Rattle.ba_instant.specs.Order.{pick_cmp}
-use Rattle.ba_instant.specs.Offers.{Improves, IsNewOf, IsHeld, IsNewIn, IsOffered, IsRoundIn, IsWhole, Leads, OfAny, Offers, Reaches, Upto, batch_of, empty_batch, first_by, first_single, is_single, with_found, with_found_by, with_step, with_step_by}
+use Rattle.ba_instant.specs.Offers.{Improves, IsNewOf, IsHeld, IsNewIn, IsOffered, IsRoundIn, IsWholeBatch, HasEarlier, OfAny, Offers, Reaches, Upto, batch_of, empty_batch, first_by, first_single, is_single, with_found, with_found_by, with_step, with_step_by}
 use Rattle.ba_instant.specs.declared.batch.Batch.{Batch}
 use Rattle.ba_instant.specs.declared.scan.NewStep.{NewStep}
 use Rattle.ba_instant.specs.declared.order.Pick.{Pick}
@@ -36,22 +36,22 @@ module _ (pick : Pick) where
   not_after_itself step = ap is_gt (tied_itself (pick_total pick) step)
 
   module _ (step : Step) where
-    leads_by : (best : Step) (b : Bool) → is_gt (pick_cmp pick best step) ≡ b → Leads pick (first_by b best step) step
+    leads_by : (best : Step) (b : Bool) → is_gt (pick_cmp pick best step) ≡ b → HasEarlier pick (first_by b best step) step
     leads_by best false e = e
     leads_by best true e = not_after_itself step
 
-    leads_here : (single : Option Step) → Leads pick (first_single pick single step) step
+    leads_here : (single : Option Step) → HasEarlier pick (first_single pick single step) step
     leads_here None = not_after_itself step
     leads_here (Some best) = leads_by best (is_gt (pick_cmp pick best step)) refl
 
-    leads_on_by : (best other : Step) (b : Bool) → is_gt (pick_cmp pick best step) ≡ b → is_gt (pick_cmp pick best other) ≡ false → Leads pick (first_by b best step) other
+    leads_on_by : (best other : Step) (b : Bool) → is_gt (pick_cmp pick best step) ≡ b → is_gt (pick_cmp pick best other) ≡ false → HasEarlier pick (first_by b best step) other
     leads_on_by best other false e h = h
     leads_on_by best other true e h =
         let less : is_gt (pick_cmp pick step best) ≡ false =
         ap is_gt ((pick_total pick).antisymm step best) ∙ not_behind (pick_cmp pick best step) e in
         upto (pick_total pick) step best other less h
 
-    leads_on : (single : Option Step) (other : Step) → Leads pick single other → Leads pick (first_single pick single step) other
+    leads_on : (single : Option Step) (other : Step) → HasEarlier pick single other → HasEarlier pick (first_single pick single step) other
     leads_on None other h = absurd h
     leads_on (Some best) other h = leads_on_by best other (is_gt (pick_cmp pick best step)) refl h
 
@@ -106,7 +106,7 @@ module _ (pick : Pick) where
       single_of_by false e h it is = h it is
       single_of_by true e h it is = elim (single_from batch.single it is) [ inl old ↦ h it old | inr same ↦ subst (λ s. IsTrue (is_single s)) same e ]
 
-      pub whole_with : ((it : Step) → batch.single ≡ Some it → IsTrue (is_single it)) → IsWhole (with_step pick batch step)
+      pub whole_with : ((it : Step) → batch.single ≡ Some it → IsTrue (is_single it)) → IsWholeBatch (with_step pick batch step)
       whole_with h = let some = some_by (is_single step) in record { step = some.0; there = some.1; single = single_of_by (is_single step) refl h }
 
       round_by : (b : Bool) → (with_step_by b pick batch step).round ≡ batch.round
@@ -123,7 +123,7 @@ module _ (pick : Pick) where
     | inr same ↦ same
   ]
 
-  pub whole_one : (it : NewStep) → IsWhole (batch_of pick it)
+  pub whole_one : (it : NewStep) → IsWholeBatch (batch_of pick it)
   whole_one it = whole_with it.step (empty_batch it.round) (λ other is. absurd (let wrong : None ≡ Some other = is in cc))
 
 module _ (c : Course) (pick : Pick) where

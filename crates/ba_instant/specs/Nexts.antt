@@ -93,7 +93,7 @@ IsFirstBelow pick c bound (Some it) = IsPickedBelow pick c bound it
 
 -- the branch of the number is closed or has a new step, and of the due steps it is the one that is
 -- picked
-pub record Passes (pick : Pick) (c : Course) (number : ℕ) (old new : Option Due) : Type 0 where
+pub record PassesBranch (pick : Pick) (c : Course) (number : ℕ) (old new : Option Due) : Type 0 where
   pub has : (branch : Branch) → IsOpen c.slots number branch → HasNew c.problem number branch
   pub first : IsFirstBelow pick c number old → IsFirstBelow pick c (number + 1) new
 
@@ -104,7 +104,7 @@ pub record SaturatedAt (c : Course) (number : ℕ) : Type 0 where
 
 abbrev pub IsLooked : Pick → Course → ℕ → Bool → Option Due → Option Due → Type 0
 IsLooked pick c number true old new = SaturatedAt c number
-IsLooked pick c number false old new = Passes pick c number old new
+IsLooked pick c number false old new = PassesBranch pick c number old new
 
 -- ---- branches that wait
 

@@ -63,14 +63,14 @@ is_single (steps.Absurd branch) = true
 is_single (steps.Goal branch part facts) = true
 
 -- there is one, and this one isn't picked before it
-abbrev pub Leads : Pick → Option Step → Step → Type 0
-Leads pick None step = ⊥
-Leads pick (Some first) step = is_gt (pick_cmp pick first step) ≡ false
+abbrev pub HasEarlier : Pick → Option Step → Step → Type 0
+HasEarlier pick None step = ⊥
+HasEarlier pick (Some first) step = is_gt (pick_cmp pick first step) ≡ false
 
 -- it is in the batch; or it is a single one, and the batch has one that isn't picked after it
 abbrev pub IsHeld : Pick → Batch → Step → Type 0
 IsHeld pick batch step =
-    Contains batch.steps step ⊎ (IsTrue (is_single step) × Leads pick batch.single step)
+    Contains batch.steps step ⊎ (IsTrue (is_single step) × HasEarlier pick batch.single step)
 
 -- there is a batch, of a lesser round or of the same with the step
 abbrev pub Reaches : Pick → Option Batch → NewStep → Type 0
@@ -87,14 +87,14 @@ IsOffered None it = ⊥
 IsOffered (Some batch) it = (batch.round ≡ it.round) × Offers batch it.step
 
 -- it isn't empty, and its single step is one
-pub record IsWhole (batch : Batch) : Type 0 where
+pub record IsWholeBatch (batch : Batch) : Type 0 where
   pub step : Step
   pub there : Offers batch step
   pub single : (it : Step) → batch.single ≡ Some it → IsTrue (is_single it)
 
 abbrev pub IsWholeIfAny : Option Batch → Type 0
 IsWholeIfAny None = Unit {0}
-IsWholeIfAny (Some batch) = IsWhole batch
+IsWholeIfAny (Some batch) = IsWholeBatch batch
 
 -- a new step of the set, with its round
 pub record IsNewOf (c : Course) (P : Step → Type 0) (it : NewStep) : Type 0 where

@@ -86,8 +86,8 @@ abbrev pub IsEquation : Atom → Type 0
 IsEquation atom = atom.op ≡ Eq
 
 -- the atom is an equation whose sides are apart in the row at the place
-abbrev pub FailsAt : Known → List Move → ℕ → List Term → Atom → Type 0
-FailsAt k moves place row atom =
+abbrev pub FailsOnRow : Known → List Move → ℕ → List Term → Atom → Type 0
+FailsOnRow k moves place row atom =
     IsEquation atom × AreApart k moves (term_at place row atom.left) (term_at place row atom.right)
 
 -- a column of a head there, and that of a row, are apart
@@ -98,7 +98,7 @@ GivesAnother k moves place row (operand, t) = AreApart k moves (term_at place ro
 -- one is
 abbrev pub KeepsOut : Known → List Move → List Term → Part → ℕ → List Term → Type 0
 KeepsOut k moves asked part place row =
-    Any (FailsAt k moves place row) part.conds ⊎
+    Any (FailsOnRow k moves place row) part.conds ⊎
     Any (GivesAnother k moves place row) (zip part.head asked)
 
 abbrev pub UnmovedSides : List Move → ℕ → List Term → Atom → Type 0

@@ -15,7 +15,7 @@ use Rattle.ba_kernel.specs.Tests.{Course, KeyPasses}
 use Rattle.ba_kernel.specs.declared.problem.Problem.{Problem}
 use Rattle.ba_kernel.specs.declared.step.Step.{Step}
 use Rattle.ba_kernel.specs.declared.step.Step.TheVariants as steps
-use Rattle.ba_instant.specs.Offers.{Improves, IsKeyOfPair, IsKeyStep, Leads, OfAny, fact_round}
+use Rattle.ba_instant.specs.Offers.{Improves, IsKeyOfPair, IsKeyStep, HasEarlier, OfAny, fact_round}
 use Rattle.ba_instant.specs.Windows.{IsQuietUpto}
 use Rattle.ba_instant.specs.declared.batch.Batch.{Batch}
 use Rattle.ba_instant.specs.declared.mapped.Form.{Form}
@@ -73,7 +73,7 @@ IsTimelyOf b (OfGoal part) fact best = Unit {0}
 -- one of round 0, which closes its branch, was found that isn't picked after the step
 abbrev pub IsBehind : Pick → Option Batch → Step → Type 0
 IsBehind pick None step = ⊥
-IsBehind pick (Some best) step = (best.round ≡ 0) × Leads pick best.single step
+IsBehind pick (Some best) step = (best.round ≡ 0) × HasEarlier pick best.single step
 
 -- the first of the steps that reach the goal is looked for, and one was found that isn't picked
 -- after that on the chosen facts, nor so after one on more

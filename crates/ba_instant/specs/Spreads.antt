@@ -73,9 +73,9 @@ IsLost b part wanted row chosen =
 
 -- the fact that was chosen last is none of the table on the side, leads to nothing, or is alike to
 -- one that was tried
-abbrev pub IsPassed : Branch → Side → Part → Wanted → Option (List Term) → ℕ → List ℕ → List ℕ → ℕ →
+abbrev pub IsPassedOver : Branch → Side → Part → Wanted → Option (List Term) → ℕ → List ℕ → List ℕ → ℕ →
     Type 0
-IsPassed b side part wanted row table chosen tried fact =
+IsPassedOver b side part wanted row table chosen tried fact =
     (¬ (IsFactOf b side table fact) ⊎ IsLost b part wanted row chosen) ⊎
     Any (λ other. AreAlike b other fact) tried
 
@@ -102,7 +102,7 @@ LeadsNowhere it chosen =
 
 abbrev pub PassesBy : Spread → ℕ → List ℕ → List ℕ → ℕ → Type 0
 PassesBy it table chosen tried fact =
-    IsPassed it.scan.now.branch.now it.side it.part.now Live (option_copied it.row) table chosen
+    IsPassedOver it.scan.now.branch.now it.side it.part.now Live (option_copied it.row) table chosen
     tried fact
 
 -- ---- an atom over facts that are like the chosen ones
@@ -146,14 +146,14 @@ IsAt place (Val v) = ⊥
 IsAt place (Param n) = ⊥
 IsAt place (Var n) = ⊥
 
-abbrev pub Names : ℕ → Atom → Type 0
-Names place cond = IsAt place cond.left ⊎ IsAt place cond.right
+abbrev pub NamesPlace : ℕ → Atom → Type 0
+NamesPlace place cond = IsAt place cond.left ⊎ IsAt place cond.right
 
 -- like the fact; and each that is like it is one of these, or any of these will do in its place
 pub record AreChoices (b : Branch) (cond : Atom) (place fact : ℕ) (choices : List ℕ) : Type 0 where
   pub sound : All (IsLike b fact) choices
   pub complete : (n : ℕ) → IsLike b fact n →
-      Any (λ choice. (choice ≡ n) ⊎ ¬ (Names place cond)) choices
+      Any (λ choice. (choice ≡ n) ⊎ ¬ (NamesPlace place cond)) choices
 
 -- ---- the goal
 
@@ -188,4 +188,4 @@ IsLostBy it chosen = IsLost it.branch.now it.part.now Shown (Some it.row.now) ch
 
 abbrev pub IsPassedBy : Reach → ℕ → List ℕ → List ℕ → ℕ → Type 0
 IsPassedBy it table chosen tried fact =
-    IsPassed it.branch.now Two it.part.now Shown (Some it.row.now) table chosen tried fact
+    IsPassedOver it.branch.now Two it.part.now Shown (Some it.row.now) table chosen tried fact

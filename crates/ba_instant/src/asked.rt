@@ -3,7 +3,7 @@ ghost use Rattle.std.specs.Prelude.{◌≡◌, [], All, Any, IsTrue, Some, slice
 ghost use Rattle.std.specs.List.{zip};
 ghost use Rattle.std.specs.Option.{option_map};
 ghost use Rattle.ba_facts.specs.Known.{seen};
-ghost use Rattle.ba_instant.specs.QuietKeys.{AreApart, FailsAt, GivesAnother, GoalLeaves, IsEquation, IsUnasked, IsUnmovedIf, KeepsOut, LeavesFact, LeavesRow, ReadsUnmoved, UnmovedSides, term_at};
+ghost use Rattle.ba_instant.specs.QuietKeys.{AreApart, FailsOnRow, GivesAnother, GoalLeaves, IsEquation, IsUnasked, IsUnmovedIf, KeepsOut, LeavesFact, LeavesRow, ReadsUnmoved, UnmovedSides, term_at};
 
 use crate::moves::{Move, cell, is_unmoved_if, stand_in};
 use ba_facts::{Branch, Fact, Knowledge, Term, TermRef};
@@ -145,8 +145,8 @@ impl<'a> Asking<'a> {
     }
 
     fn fails_an_atom(&self, place: usize, row: &[Term]) -> bool
-        ensures { IsTrue result → Any (FailsAt self.now.known.now self.now.moves.now place row.now)
-            self.now.part.now.conds }
+        ensures { IsTrue result → Any (FailsOnRow self.now.known.now self.now.moves.now place
+            row.now) self.now.part.now.conds }
     {
         let conds = self.part.conds.as_slice();
         conds.iter().any(|atom| self.fails(atom, place, row))
@@ -154,7 +154,7 @@ impl<'a> Asking<'a> {
 
     fn fails(&self, atom: &Atom, place: usize, row: &[Term]) -> bool
         ensures { IsTrue result
-            → FailsAt self.now.known.now self.now.moves.now place row.now atom.now }
+            → FailsOnRow self.now.known.now self.now.moves.now place row.now atom.now }
     {
         is_equation(atom)
             && self.are_apart(

@@ -17,8 +17,8 @@ use ba_kernel::{Problem, Proved, Search, Step};
 use ba_model::{Duplicate, Failure, List, Owned};
 use std::alloc::{AllocError, Global};
 
-/// A problem, the steps that were taken from its start, and an open branch that they leave, on which
-/// no step is new.
+/// A problem, the steps that were taken from its start, and an open branch that they leave, on
+/// which no step is new.
 #[derive(Drop)]
 pub struct Leaf {
     pub problem: Owned<Problem>,
@@ -52,8 +52,8 @@ pub fn settle(alloc: Global, problem: Problem, budget: u32) -> Result<Settled, A
     settle_in(alloc, problem, budget, Pick::First)
 }
 
-/// The same in an order of its own: of the steps that are due each is the one that comes first by the
-/// pick.
+/// The same in an order of its own: of the steps that are due each is the one that comes first by
+/// the pick.
 pub fn settle_in(
     alloc: Global,
     problem: Problem,

@@ -4,7 +4,7 @@ ghost use Rattle.std.specs.List.{AllZip};
 ghost use Rattle.ba_model.specs.declared.query.Operand.TheVariants.{Col};
 ghost use Rattle.ba_facts.specs.Known.{seen};
 ghost use Rattle.ba_facts.specs.Matches.{IsShown, Under, term_of};
-ghost use Rattle.ba_instant.specs.Givens.{GivesBy, GivesSome, IsHeadOf, IsPlaceOf};
+ghost use Rattle.ba_instant.specs.Givens.{GivesBy, GivesSome, IsHeadOf, IsHeadPlace};
 ghost use Rattle.ba_instant.specs.QuietSteps.{IsFilled, IsPlain, IsQuietEntry, IsRowFor};
 
 use crate::choices::chosen_rows;
@@ -188,7 +188,7 @@ impl<'a> Rows<'a> {
 
     fn is_place(&self, operand: &'a Operand, value: &'a Operand) -> bool
         ensures { IsTrue result
-            → IsPlaceOf self.now.branch.now.known self.now.rows.now operand.now value.now }
+            → IsHeadPlace self.now.branch.now.known self.now.rows.now operand.now value.now }
     {
         match (self.term_of(operand), self.branch.term_of(&[], value)) {
             (Some(one), Some(other)) => self.branch.known.one_class(one, other),

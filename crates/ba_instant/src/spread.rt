@@ -8,7 +8,7 @@ ghost use Rattle.ba_facts.specs.Matches.{AreTheSame, HeadIs, IsFactOf, IsLive, U
 ghost use Rattle.ba_facts.specs.Searching.{FailsAt, IsNoFront, IsOther};
 ghost use Rattle.ba_facts.specs.declared.matches.search.Wanted.TheVariants.{Live};
 ghost use Rattle.ba_instant.specs.Scans.{ImprovesBy, IsScan};
-ghost use Rattle.ba_instant.specs.Spreads.{AreChoices, IsAt, IsLikeSplit, IsLikeSplits, IsLiveOn, IsOpenOf, IsOver, IsSplitFrom, IsSplitOf, LeadsNowhere, Names, PassesBy};
+ghost use Rattle.ba_instant.specs.Spreads.{AreChoices, IsAt, IsLikeSplit, IsLikeSplits, IsLiveOn, IsOpenOf, IsOver, IsSplitFrom, IsSplitOf, LeadsNowhere, NamesPlace, PassesBy};
 
 use crate::alike::{has_alike, likes_of};
 use crate::batch::Batch;
@@ -252,7 +252,7 @@ fn choices(
 
 /// Whether a side of the atom is a column of the place.
 fn names(place: usize, cond: &Atom) -> bool
-    ensures { IsTrue result ↔ Names place cond.now }
+    ensures { IsTrue result ↔ NamesPlace place cond.now }
 {
     is_at(place, &cond.left) || is_at(place, &cond.right)
 }
