@@ -3,6 +3,7 @@ pub mod ImageLemmas
 pub mod LeafLemmas
 pub mod LoopLemmas
 pub mod NumberLemmas
+pub mod OneImage
 pub mod RefuteLemmas
 pub mod RisingLemmas
 pub mod RowLemmas

@@ -22,6 +22,7 @@ use Rattle.ba_classes.specs.Image.{IsGreatest, IsLeast, IsValueBetween}
 use Rattle.ba_facts.specs.Fits.{Instance, value_of_term}
 use Rattle.ba_facts.specs.Knowing.{IsLeastOf}
 use Rattle.ba_facts.specs.Known.{Known, OneClass, ShownGap, ShownNotNull}
+use Rattle.ba_facts.specs.Shown.{Absurd}
 use Rattle.ba_facts.specs.declared.branch.Branch.{Branch}
 use Rattle.ba_facts.specs.declared.term.Fact.{Fact}
 use Rattle.ba_facts.specs.declared.term.Lesson.{Lesson}
@@ -264,6 +265,12 @@ pub record IsImage (p : Problem) (c : Context) (b : Branch) (it : Counterexample
   pub one : IsSideOf p c values b.facts One it.one
   pub two : IsSideOf p c values b.facts Two it.two
   pub row : IsRowAt c values b.goal it.row
+
+-- a branch that isn't absurd has one image at most under a context
+abbrev pub ImagesAreOne : Type 0
+ImagesAreOne =
+    (p : Problem) (c : Context) (b : Branch) (it other : Counterexample) → ¬ (Absurd b.known) →
+    IsImage p c b it → IsImage p c b other → it ≡ other
 
 -- ---- what is asked of the branch
 
