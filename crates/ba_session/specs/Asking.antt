@@ -155,8 +155,8 @@ pub record IsProved (policy : Policy) (asker : Request) (budget : ℕ) (query : 
   pub none : NoneMatches policy asker query found
   pub proof : IsProof policy asker budget query steps
   pub rest : List ShelfCall
-  pub kept_is : IsKept (record { problem = question policy asker query; steps = steps }) keeping
-      rest
+  pub kept_is :
+      IsKept (record { problem = question policy asker query; steps = steps }) keeping rest
   pub made_is : made ≡ on_shelf query (look_at query found ∷ rest)
 
 -- why the question is answered, and the calls on shelves that this takes: a cover, which takes

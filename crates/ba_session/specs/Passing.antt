@@ -106,8 +106,8 @@ pub record AreOpening (p : Passes) : Type 0 where
 
 -- of the old passes once the others were joined into them
 pub record AreJoined (old other new : Passes) : Type 0 where
-  pub versions : known_by new.versions ≡ after_join (known_by old.versions)
-      (known_by other.versions)
+  pub versions : known_by new.versions ≡
+      after_join (known_by old.versions) (known_by other.versions)
   pub sums : SumsToAllowance (known_by new.versions)
   pub shelves : cache.AreJoined old.cache other.cache new.cache
 
@@ -115,22 +115,22 @@ pub record AreJoined (old other new : Passes) : Type 0 where
 
 -- all calls were made, or what is left of the allowances has come back
 pub record AreWhole (service : Service) (p : Passes) : Type 0 where
-  pub versions : (known_by p.versions).left + length (known_by p.versions).seen ≡ allowance_of
-      service.versions
+  pub versions : (known_by p.versions).left + length (known_by p.versions).seen ≡
+      allowance_of service.versions
   pub shelves : cache.OnEach cache.IsWhole p.cache
 
 -- What becomes of a history whose last pass knew this, begun at the opening tables: it is legal,
 -- has the calls of the numbers that were joined into this pass, and all calls where these are all
 -- that were split off.
 pub record AreClosed (service : Service) (p : Passes) (closed : Closed) : Type 0 where
-  pub opening : versions.opening_of closed.versions ≡ versions.opening_of
-      (start_of service.versions)
+  pub opening : versions.opening_of closed.versions ≡
+      versions.opening_of (start_of service.versions)
   pub history : versions.calls_of closed.versions ≡ map entry_of (known_by p.versions).seen
   pub numbers : closed.numbers.items ≡ map number_of (known_by p.versions).seen
   pub legal : ∥ Legal (versions.opening_of closed.versions) (versions.calls_of closed.versions)
       (versions.versions_of closed.versions) ∥₁
-  pub own : calls_by (known_by p.versions).number
-      (known_by p.versions).seen ≡ (known_by p.versions).made
+  pub own : calls_by (known_by p.versions).number (known_by p.versions).seen ≡
+      (known_by p.versions).made
   pub joined : HasCalls (known_by p.versions).seen (known_by p.versions).joined
   pub distinct : AreDistinct (numbers_of (known_by p.versions))
   pub whole : HasAllCalls (known_by p.versions)
