@@ -22,6 +22,7 @@ use Rattle.ba_facts.specs.Known.{Known, OneClass}
 use Rattle.ba_facts.specs.Shown.{Absurd, literals}
 use Rattle.ba_facts.specs.declared.branch.Branch.{Branch}
 use Rattle.ba_facts.specs.declared.term.Fact.{Fact}
+use Rattle.ba_facts.specs.declared.term.Sort.{Sort}
 use Rattle.ba_facts.specs.declared.term.Side.{Side}
 use Rattle.ba_facts.specs.declared.term.Side.TheVariants.{One, Two}
 use Rattle.ba_facts.specs.declared.term.Term.{Term}
@@ -31,7 +32,6 @@ use Rattle.ba_model.proofs.UniqueLemmas.{same_sorted, sorted_tail}
 use Rattle.ba_model.specs.Order.{row_cmp}
 use Rattle.ba_model.specs.OrderLaws.{row_equal, row_total}
 use Rattle.ba_model.specs.declared.policy.Context.{Context}
-use Rattle.ba_model.specs.declared.schema.Kind.{Kind}
 use Rattle.ba_model.specs.declared.schema.Kind.TheVariants.{Int as IntKind, Text as TextKind}
 use Rattle.ba_model.specs.declared.value.Value.{Value}
 use Rattle.ba_model.specs.declared.value.Value.TheVariants.{Null, Int, Text}
@@ -150,20 +150,18 @@ text_is_whole k n h g =
     let a = h.has_kind in
     let b = g.has_kind in
     let same : Some a.sort ≡ Some b.sort = sym a.sort_is ∙ b.sort_is in
-    let kinds : TextKind ≡ IntKind = sym a.kind_is ∙ ap (λ o. kind_in o TextKind) same ∙ b.kind_is in
+    let sorts : a.sort ≡ b.sort = cc in
+    let kinds : TextKind ≡ IntKind = sym a.kind_is ∙ ap (λ (s : Sort). s.kind) sorts ∙ b.kind_is in
     cc
-  where
-    kind_in : Option Rattle.ba_facts.specs.declared.term.Sort.Sort → Kind → Kind
-    kind_in None d = d
-    kind_in (Some s) d = s.kind
 
 -- no number of the first of strictly rising ones comes again
 none_again : (n : ℕ) (nodes : List ℕ) (numbers : List ℤ) (z : ℤ) → Contains (zip nodes numbers) (n, z) → Contains nodes n
-none_again n [] numbers z h = absurd (Contains-nil (n, z) h)
+none_again n [] [] z h = absurd (Contains-nil (n, z) h)
+none_again n [] (w ∷ numbers) z h = absurd (Contains-nil (n, z) h)
 none_again n (m ∷ nodes) [] z h = absurd (Contains-nil (n, z) h)
 none_again n (m ∷ nodes) (w ∷ numbers) z h =
     ⊎_elim
-    (λ (e : (m, w) ≡ (n, z)). subst (Contains (m ∷ nodes)) (ap (λ p. p.0) e) (Contains-head m nodes))
+    (λ (e : (m, w) ≡ (n, z)). subst (Contains (m ∷ nodes)) (ap (λ (p : ℕ × ℤ). p.0) e) (Contains-head m nodes))
     (λ (later : Contains (zip nodes numbers) (n, z)). Contains-later m nodes n (none_again n nodes numbers z later))
     (Contains-cases (m, w) (zip nodes numbers) (n, z) h)
 
@@ -174,18 +172,19 @@ first_once n nodes rising there =
     cc
 
 zip_one : (n : ℕ) (nodes : List ℕ) (numbers : List ℤ) (x y : ℤ) → IsStrictlySortedBy nat_cmp nodes → Contains (zip nodes numbers) (n, x) → Contains (zip nodes numbers) (n, y) → x ≡ y
-zip_one n [] numbers x y rising h g = absurd (Contains-nil (n, x) h)
+zip_one n [] [] x y rising h g = absurd (Contains-nil (n, x) h)
+zip_one n [] (w ∷ numbers) x y rising h g = absurd (Contains-nil (n, x) h)
 zip_one n (m ∷ nodes) [] x y rising h g = absurd (Contains-nil (n, x) h)
 zip_one n (m ∷ nodes) (w ∷ numbers) x y rising h g =
     ⊎_elim
     (λ (e : (m, w) ≡ (n, x)). ⊎_elim
-    (λ (d : (m, w) ≡ (n, y)). sym (ap (λ p. p.1) e) ∙ ap (λ p. p.1) d)
+    (λ (d : (m, w) ≡ (n, y)). sym (ap (λ (p : ℕ × ℤ). p.1) e) ∙ ap (λ (p : ℕ × ℤ). p.1) d)
     (λ (later : Contains (zip nodes numbers) (n, y)).
-    absurd (first_once m nodes rising (subst (Contains nodes) (sym (ap (λ p. p.0) e)) (none_again n nodes numbers y later))))
+    absurd (first_once m nodes rising (subst (Contains nodes) (sym (ap (λ (p : ℕ × ℤ). p.0) e)) (none_again n nodes numbers y later))))
     (Contains-cases (m, w) (zip nodes numbers) (n, y) g))
     (λ (later : Contains (zip nodes numbers) (n, x)). ⊎_elim
     (λ (d : (m, w) ≡ (n, y)).
-    absurd (first_once m nodes rising (subst (Contains nodes) (sym (ap (λ p. p.0) d)) (none_again n nodes numbers x later))))
+    absurd (first_once m nodes rising (subst (Contains nodes) (sym (ap (λ (p : ℕ × ℤ). p.0) d)) (none_again n nodes numbers x later))))
     (λ (other : Contains (zip nodes numbers) (n, y)). zip_one n nodes numbers x y (sorted_tail nat_cmp m nodes rising) later other)
     (Contains-cases (m, w) (zip nodes numbers) (n, y) g))
     (Contains-cases (m, w) (zip nodes numbers) (n, x) h)

@@ -1,6 +1,7 @@
 //! The rows of a database in strictly rising order.
-ghost use Rattle.std.specs.Prelude.{All, IfOk, IsTrue};
+ghost use Rattle.std.specs.Prelude.{◌≡◌, ◌↔◌, IfOk, IsTrue};
 ghost use Rattle.std.specs.List.Sorted.{IsStrictlySortedBy};
+ghost use Rattle.std.specs.declared.cmp.Ordering.TheVariants.{Less};
 ghost use Rattle.ba_eval.specs.Search.{IsRisingListOf};
 ghost use Rattle.ba_model.specs.Order.{row_cmp};
 ghost use Rattle.ba_refute.specs.Counterexamples.{AreRising, IsInOrder};
@@ -9,12 +10,23 @@ use ba_model::{Duplicate, List, Row, RowSet};
 use std::alloc::{AllocError, Global};
 use std::cmp::Ordering;
 
+/// Whether the row comes before the other.
+fn is_less(row: &Row, other: &Row) -> bool
+    ensures { IsTrue result ↔ (row_cmp row.now other.now ≡ Less) }
+{
+    match row.cmp(other) {
+        Ordering::Less => true,
+        Ordering::Equal => false,
+        Ordering::Greater => false,
+    }
+}
+
 /// Whether each row is less than the next.
 fn is_rising(rows: &[Row]) -> bool
     ensures { IsTrue result → IsStrictlySortedBy row_cmp rows.now }
 {
     for i in 1..rows.len() {
-        if rows[i - 1].cmp(&rows[i]) != Ordering::Less {
+        if !is_less(&rows[i - 1], &rows[i]) {
             return false;
         }
     }
