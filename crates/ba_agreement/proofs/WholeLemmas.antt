@@ -42,7 +42,7 @@ use Rattle.ba_model.specs.declared.policy.Context.{Context}
 use Rattle.ba_model.specs.declared.policy.Policy.{Policy}
 use Rattle.ba_model.specs.declared.query.Query.{Query}
 use Rattle.ba_model.specs.declared.value.Value.{Value}
-use Rattle.ba_session.specs.Asking.{IsAsker, IsBegun, IsChecked, IsGround, Replies, question}
+use Rattle.ba_session.specs.Asking.{IsRequestOf, IsBegun, IsChecked, IsGround, Replies, question}
 use Rattle.ba_session.specs.Passing.{ShelfCalls}
 use Rattle.ba_session.specs.declared.reply.By.{By}
 use Rattle.ba_session.specs.declared.reply.By.TheVariants as by
@@ -76,12 +76,12 @@ of_last P (x ∷ xs) y all = of_last P xs y (All-tail P x (xs ++ y ∷ []) all)
 
 module _ (laws : Laws) (number : ℕ → ℕ → ℕ) (policy : Policy) (checked : IsChecked policy) where
   -- a query that was answered was checked
-  asked_query : (asker : Request) (query : Query) (rows : List (List Value)) (basis : By) → IsAsker policy (after asker (Answer query rows basis)) →
+  asked_query : (asker : Request) (query : Query) (rows : List (List Value)) (basis : By) → IsRequestOf policy (after asker (Answer query rows basis)) →
       IsQuery policy.schema (kinds_of policy.params) [] query
   asked_query asker query rows basis later =
       of_last (λ (entry : TraceEntry). IsQuery policy.schema (kinds_of policy.params) [] entry.query) asker.trace (record { query = query; rows = rows }) later.queries
 
-  strong_by : (t : State) (asker : Request) (budget : ℕ) (query : Query) (made : ShelfCalls) (basis : By) → AreSound t → HasFound number t made → IsAsker policy asker →
+  strong_by : (t : State) (asker : Request) (budget : ℕ) (query : Query) (made : ShelfCalls) (basis : By) → AreSound t → HasFound number t made → IsRequestOf policy asker →
       IsQuery policy.schema (kinds_of policy.params) [] query → IsGround policy asker budget query basis made → Strong policy asker.context asker.trace query
   strong_by t asker budget query made (by.Cover cover) sound found may asks ground =
       laws.covered policy asker.context asker.trace query checked.fits may.context (laws.covers policy asker.context query cover ground.0)
@@ -98,7 +98,7 @@ module _ (laws : Laws) (number : ℕ → ℕ → ℕ) (policy : Policy) (checked
 
   -- its answer is compliant on a machine that has the request
   compliant : (t : State) (k : ℕ) (asker : Request) (budget : ℕ) (query : Query) (rows : List (List Value)) (made : ShelfCalls) (basis : By) → HasRequest policy t k asker → AreSound t →
-      HasFound number t made → IsAsker policy asker → IsAsker policy (after asker (Answer query rows basis)) → IsGround policy asker budget query basis made →
+      HasFound number t made → IsRequestOf policy asker → IsRequestOf policy (after asker (Answer query rows basis)) → IsGround policy asker budget query basis made →
       IsAnswer query asker.context asker.tables.rows rows → IsCompliant t k query rows
   compliant t k asker budget query rows made basis has sound found may later ground answer =
       let strong = strong_by t asker budget query made basis sound found may (asked_query asker query rows basis later) ground in
@@ -204,7 +204,7 @@ module _ (policy : Policy) (s : State) (k : ℕ) where
         ∙ ap (λ (z : State). record z { requests = new.requests }) it.rest
         ∙ ap (λ requests. record s { requests = requests; log = s.log ++ logged k asker.trace }) requests_same
 
-first_may : (policy : Policy) (asker last : Request) (questions : List Question) → AreTold policy asker questions last → IsAsker policy asker
+first_may : (policy : Policy) (asker last : Request) (questions : List Question) → AreTold policy asker questions last → IsRequestOf policy asker
 first_may policy asker last [] told = told.0
 first_may policy asker last (it ∷ others) told = told.0
 
@@ -219,8 +219,8 @@ record Reaches (policy : Policy) (s : State) (k : ℕ) (asker : Request) (es : L
 
 module _ (laws : Laws) (number : ℕ → ℕ → ℕ) (policy : Policy) (checked : IsChecked policy) (s : State) (k : ℕ) (sound : AreSound s) where
   module _ (asker : Request) (es : List Event) (rs : List CoreReply) (so_far : Reaches policy s k asker es rs) (budget : ℕ) (text : List ℕ) (made : ShelfCalls) (found : HasFound number s made)
-      (may : IsAsker policy asker) where
-    answer_on : (query : Query) (rows : List (List Value)) (basis : By) → Replies policy asker budget text made (Answer query rows basis) → IsAsker policy (after asker (Answer query rows basis)) →
+      (may : IsRequestOf policy asker) where
+    answer_on : (query : Query) (rows : List (List Value)) (basis : By) → Replies policy asker budget text made (Answer query rows basis) → IsRequestOf policy (after asker (Answer query rows basis)) →
         AgreesOn number policy so_far.at k asker (Answer query rows basis) →
         Reaches policy s k (after asker (Answer query rows basis)) (es ++ event_in number policy k asker (Answer query rows basis)) (rs ++ told_in (Answer query rows basis))
     answer_on query rows basis h later told =
@@ -246,7 +246,7 @@ module _ (laws : Laws) (number : ℕ → ℕ → ℕ) (policy : Policy) (checked
       between = between_same policy s k asker so_far.at so_far.between;
     }
 
-    reply_on : (reply : Reply) → Replies policy asker budget text made reply → IsAsker policy (after asker reply) → AgreesOn number policy so_far.at k asker reply →
+    reply_on : (reply : Reply) → Replies policy asker budget text made reply → IsRequestOf policy (after asker reply) → AgreesOn number policy so_far.at k asker reply →
         Reaches policy s k (after asker reply) (es ++ event_in number policy k asker reply) (rs ++ told_in reply)
     reply_on (Answer query rows basis) h later agrees = answer_on query rows basis h later agrees
     reply_on (Blocked query why) h later agrees =

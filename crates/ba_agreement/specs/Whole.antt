@@ -15,7 +15,7 @@ use Rattle.ba_core.specs.declared.opened.Answered.{Answered}
 use Rattle.ba_kernel.specs.Problems.{StrongAll}
 use Rattle.ba_model.specs.declared.policy.Context.{Context}
 use Rattle.ba_model.specs.declared.policy.Policy.{Policy}
-use Rattle.ba_session.specs.Asking.{IsAsker, IsBegun, IsChecked, Replies}
+use Rattle.ba_session.specs.Asking.{IsRequestOf, IsBegun, IsChecked, Replies}
 use Rattle.ba_session.specs.Passing.{ShelfCalls}
 use Rattle.ba_session.specs.declared.reply.Reply.{Reply}
 use Rattle.ba_session.specs.declared.reply.Reply.TheVariants.{Answer, Blocked, Unread, NoMemory}
@@ -32,9 +32,9 @@ pub record Question : Type 0 where
 
 -- The questions are asked in turn: each time the request may ask, and the reply is that of the request as it stands. This is the request after them, which may ask.
 abbrev pub AreTold : Policy → Request → List Question → Request → Type 0
-AreTold policy asker [] last = IsAsker policy asker × (last ≡ asker)
+AreTold policy asker [] last = IsRequestOf policy asker × (last ≡ asker)
 AreTold policy asker (it ∷ others) last =
-    IsAsker policy asker × Replies policy asker it.budget it.text it.made it.reply × AreTold policy (after asker it.reply) others last
+    IsRequestOf policy asker × Replies policy asker it.budget it.text it.made it.reply × AreTold policy (after asker it.reply) others last
 
 -- ---- the machine's part
 

@@ -12,7 +12,7 @@ use Rattle.std.specs.Prelude.{All, slice_get, ◌⊎◌}
 use Rattle.ba_comply.specs.Comply.{Records}
 use Rattle.ba_comply.specs.declared.trace.TraceEntry.{TraceEntry}
 use Rattle.ba_core.specs.Runs.{IsCompliant}
-use Rattle.ba_core.specs.State.{IsAsker, IsState, IsVersion}
+use Rattle.ba_core.specs.State.{IsOpenRequest, IsState, IsVersion}
 use Rattle.ba_core.specs.declared.opened.Answered.{Answered}
 use Rattle.ba_core.specs.declared.opened.Opened.{Opened}
 use Rattle.ba_facts.proofs.Elements.{get_append_old}
@@ -35,7 +35,7 @@ is_version policy tables same conforms = record {
 }
 
 -- the requests' versions stay where they are
-asker_after : (policy : Policy) (versions more : List TableSet) (asker : Opened) → IsAsker policy versions asker → IsAsker policy (versions ++ more) asker
+asker_after : (policy : Policy) (versions more : List TableSet) (asker : Opened) → IsOpenRequest policy versions asker → IsOpenRequest policy (versions ++ more) asker
 asker_after policy versions more asker h = record {
   context = h.context;
   tables = h.tables;
@@ -73,8 +73,8 @@ module _ (policy : Policy) (versions : List TableSet) (templates : List Proof) (
     (h : IsState (record { policy = policy; versions = versions; templates = templates; requests = before; log = log }))
     (here : lookup (is_at (nat_cmp k)) after ≡ it)
     (others : (j : ℕ) → j ≢ k → lookup (is_at (nat_cmp j)) after ≡ lookup (is_at (nat_cmp j)) before)
-    (fits : (asker : Opened) → it ≡ Some asker → IsAsker policy versions asker) where
-  asker_at : (j : ℕ) (asker : Opened) → lookup (is_at (nat_cmp j)) after ≡ Some asker → ((eqb j k ≡ true) × (j ≡ k)) ⊎ ((eqb j k ≡ false) × (j ≢ k)) → IsAsker policy versions asker
+    (fits : (asker : Opened) → it ≡ Some asker → IsOpenRequest policy versions asker) where
+  asker_at : (j : ℕ) (asker : Opened) → lookup (is_at (nat_cmp j)) after ≡ Some asker → ((eqb j k ≡ true) × (j ≡ k)) ⊎ ((eqb j k ≡ false) × (j ≢ k)) → IsOpenRequest policy versions asker
   asker_at j asker is (inl same) = fits asker (sym here ∙ ap (λ n. lookup (is_at (nat_cmp n)) after) (sym same.1) ∙ is)
   asker_at j asker is (inr apart) = h.requests j asker (sym (others j apart.1) ∙ is)
 
@@ -87,7 +87,7 @@ module _ (policy : Policy) (versions : List TableSet) (templates : List Proof) (
 
 -- a request that begins
 asker_at_start : (policy : Policy) (versions : List TableSet) (context : Context) (version : ℕ) (tables : TableSet) → ContextFits (kinds_of policy.params) context
-    → slice_get versions version ≡ Some tables → IsAsker policy versions (record { context = context; version = version; trace = [] })
+    → slice_get versions version ≡ Some tables → IsOpenRequest policy versions (record { context = context; version = version; trace = [] })
 asker_at_start policy versions context version tables fits is = record {
   context = fits;
   tables = tables;
@@ -96,15 +96,15 @@ asker_at_start policy versions context version tables fits is = record {
 }
 
 pub asker_begun : (policy : Policy) (versions : List TableSet) (context : Context) (version : ℕ) → ContextFits (kinds_of policy.params) context → version < length versions
-    → IsAsker policy versions (record { context = context; version = version; trace = [] })
+    → IsOpenRequest policy versions (record { context = context; version = version; trace = [] })
 asker_begun policy versions context version fits there =
     let (is, cases) = slice_get_cases versions version in
     elim cases [ inl found ↦ asker_at_start policy versions context version found.0 fits found.2 | inr past ↦ absurd (≤_absurd version (length versions) there past.0) ]
 
 -- a request that was told an answer
-pub asker_told : (policy : Policy) (versions : List TableSet) (asker : Opened) (tables : TableSet) (query : Query) (rows : List (List Value)) → IsAsker policy versions asker
+pub asker_told : (policy : Policy) (versions : List TableSet) (asker : Opened) (tables : TableSet) (query : Query) (rows : List (List Value)) → IsOpenRequest policy versions asker
     → slice_get versions asker.version ≡ Some tables → Records asker.trace asker.context tables.rows → IsAnswer query asker.context tables.rows rows
-    → IsAsker policy versions (record asker { trace = asker.trace ++ record { query = query; rows = rows } ∷ [] })
+    → IsOpenRequest policy versions (record asker { trace = asker.trace ++ record { query = query; rows = rows } ∷ [] })
 asker_told policy versions asker tables query rows h pinned recorded answer = record {
   context = h.context;
   tables = tables;
@@ -118,8 +118,8 @@ some_is : {X : Type 0} (x y : X) → Some x ≡ Some y → x ≡ y
 some_is x y e = cc
 
 -- the only request that may be there
-pub only : (policy : Policy) (versions : List TableSet) (it : Opened) → IsAsker policy versions it → (asker : Opened) → Some it ≡ Some asker → IsAsker policy versions asker
-only policy versions it h asker is = subst (IsAsker policy versions) (some_is it asker is) h
+pub only : (policy : Policy) (versions : List TableSet) (it : Opened) → IsOpenRequest policy versions it → (asker : Opened) → Some it ≡ Some asker → IsOpenRequest policy versions asker
+only policy versions it h asker is = subst (IsOpenRequest policy versions) (some_is it asker is) h
 
 -- an answer that was recorded, or for which there was no memory
 pub kept : (policy : Policy) (versions : List TableSet) (templates : List Proof) (before after : List (ℕ × Opened)) (log more : List Answered) (k : ℕ) (query : Query) (rows : List (List Value))

@@ -45,7 +45,7 @@ pub record IsVersion (policy : Policy) (tables : TableSet) : Type 0 where
   pub conforms : Conforms policy.schema tables.rows
 
 -- the request's context is one for the policy, its version is there, and its trace has its queries' answers in this version
-pub record IsAsker (policy : Policy) (versions : List TableSet) (asker : Opened) : Type 0 where
+pub record IsOpenRequest (policy : Policy) (versions : List TableSet) (asker : Opened) : Type 0 where
   pub context : ContextFits (kinds_of policy.params) asker.context
   pub tables : TableSet
   pub pinned : slice_get versions asker.version ≡ Some tables
@@ -55,4 +55,4 @@ pub record IsAsker (policy : Policy) (versions : List TableSet) (asker : Opened)
 pub record IsState (s : State) : Type 0 where
   pub policy : PolicyFits s.policy
   pub versions : All (IsVersion s.policy) s.versions
-  pub requests : (k : ℕ) (asker : Opened) → opened_at s k ≡ Some asker → IsAsker s.policy s.versions asker
+  pub requests : (k : ℕ) (asker : Opened) → opened_at s k ≡ Some asker → IsOpenRequest s.policy s.versions asker

@@ -3,7 +3,7 @@ ghost use Rattle.std.specs.Prelude.{◌≡◌, ◌↔◌, IfErr, IfOk, IfSome, I
 ghost use Rattle.std.specs.Option.{option_copied};
 ghost use Rattle.ba_core.specs.Grounds.{Decides, IsAnswerIn, IsRefusal, Keeps};
 ghost use Rattle.ba_core.specs.Runs.{EventFits, IsStep, TellsCompliantly};
-ghost use Rattle.ba_core.specs.State.{IsAsker, IsFirst, IsVersion, opened_at};
+ghost use Rattle.ba_core.specs.State.{IsOpenRequest, IsFirst, IsVersion, opened_at};
 ghost use Rattle.ba_core.specs.Steps.{RefusesAsk, Steps};
 ghost use Rattle.ba_core.specs.declared.event.CoreReply.{CoreReply};
 ghost use Rattle.ba_core.specs.declared.event.Event.{Event};
@@ -100,7 +100,7 @@ impl Core {
     /// The open request of the number, if there is one.
     pub fn request(&self, k: u32) -> Option<&Opened>
         ensures is { option_copied result ≡ opened_at self.now k }
-        ensures asker { IfSome result (λ it. IsAsker self.now.policy self.now.versions it.now) }
+        ensures asker { IfSome result (λ it. IsOpenRequest self.now.policy self.now.versions it.now) }
     {
         self.requests.get(&k)
     }
@@ -280,7 +280,7 @@ impl Core {
 
     /// The query's rows in the tables of the request's version.
     fn rows_of(&self, asker: &Opened, query: &Query) -> Result<Shared<List<Row>>, AllocError>
-        requires { IsAsker self.now.policy self.now.versions asker.now }
+        requires { IsOpenRequest self.now.policy self.now.versions asker.now }
         ensures { IfOk result (IsAnswerIn self.now asker.now query.now) }
     {
         let tables = self.tables_of(asker);
@@ -290,7 +290,7 @@ impl Core {
 
     /// The tables of the request's version.
     fn tables_of(&self, asker: &Opened) -> &Tables
-        requires { IsAsker self.now.policy self.now.versions asker.now }
+        requires { IsOpenRequest self.now.policy self.now.versions asker.now }
         ensures pinned { slice_get self.now.versions asker.now.version ≡ Some result.now }
         ensures version { IsVersion self.now.policy result.now }
     {

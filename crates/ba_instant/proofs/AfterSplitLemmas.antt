@@ -23,7 +23,7 @@ use Rattle.ba_instant.specs.Loose as loose
 use Rattle.ba_instant.specs.Nexts.{SplitsLoosely}
 use Rattle.ba_instant.specs.Offers.{IsTelling}
 use Rattle.ba_instant.specs.Windows.{IsQuietUpto}
-use Rattle.ba_instant.specs.declared.found.Found.{Found}
+use Rattle.ba_instant.specs.declared.scan.NewStep.{NewStep}
 
 beside_tells : (n : ℕ) (step : Step) → IsBeside n step → IsTelling n step
 beside_tells n step (inl h) = inl (inl (inl h))
@@ -65,7 +65,7 @@ second_case slots n one two c e =
     let here : slice_get (front ++ Some two ∷ []) (length slots) ≡ Some (Some two) = subst (λ m. slice_get (front ++ Some two ∷ []) m ≡ Some (Some two)) same (at_end front (Some two)) in
     same_Some c two (same_Some (Some c) (Some two) (sym e ∙ here))
 
-module _ (c new : Course) (of : Found) (round : ℕ) (due : IsDue c.problem c.slots of.step) (due_round : of.round ≡ due.round) (takes : Takes c.problem c.slots of.step new.slots)
+module _ (c new : Course) (of : NewStep) (round : ℕ) (due : IsDue c.problem c.slots of.step) (due_round : of.round ≡ due.round) (takes : Takes c.problem c.slots of.step new.slots)
     (h : SplitsLoosely c of round) where
   abbrev n : ℕ
   n = branch_of of.step

@@ -29,12 +29,12 @@ use Rattle.ba_instant.proofs.RoundLemmas.{is_new, not_new, round_at_once}
 use Rattle.ba_instant.specs.Agendas.{AreInTurn, AreOlder, EndsOld, IsAgenda, IsAgendaAt, IsAgendaOf, IsBlank, IsFirstOf, IsInTurn, IsListed, IsNewHere, IsNone, IsPast, IsQuietAgenda, IsSilent, IsTrimmed, IsWithoutLast, MOST_ROUND}
 use Rattle.ba_instant.specs.Dues.{IsDue}
 use Rattle.ba_instant.specs.Loose.{IsQuietBeside}
-use Rattle.ba_instant.specs.Offers.{Improves, IsByMapping, IsClosing, IsDueIfAny, IsDueOn, IsFound, IsHeld, IsNewIn, IsRoundIn, IsTelling, IsWhole, Leads, NoneCloses, Offers, Reaches, is_single}
+use Rattle.ba_instant.specs.Offers.{Improves, IsByMapping, IsClosing, IsDueIfAny, IsDueOn, IsNewOf, IsHeld, IsNewIn, IsRoundIn, IsTelling, IsWholeBatch, HasEarlier, NoneCloses, Offers, Reaches, is_single}
 use Rattle.ba_instant.specs.Order.{pick_cmp, step_cmp}
 use Rattle.ba_instant.specs.Windows.{IsQuietUpto}
 use Rattle.ba_instant.specs.declared.agenda.Agenda.{Agenda}
 use Rattle.ba_instant.specs.declared.batch.Batch.{Batch}
-use Rattle.ba_instant.specs.declared.found.Found.{Found}
+use Rattle.ba_instant.specs.declared.scan.NewStep.{NewStep}
 use Rattle.ba_instant.specs.declared.order.Pick.{Pick}
 use Rattle.ba_instant.specs.declared.order.Pick.TheVariants.{First, Last}
 
@@ -163,7 +163,7 @@ none_is_agenda pick p n b agenda (none, blank) = record {
       absurd (let no : ⊥ = omega (arith, late, low, none) in no);
 }
 
-past_late : (pick : Pick) (round : ℕ) (found : Option Batch) (it : Found) → IsPast round found → Reaches pick found it → round < it.round
+past_late : (pick : Pick) (round : ℕ) (found : Option Batch) (it : NewStep) → IsPast round found → Reaches pick found it → round < it.round
 past_late pick round None it past reach = absurd reach
 past_late pick round (Some batch) it past (inl less) = omega (arith, past, less)
 past_late pick round (Some batch) it past (inr same) = let at = same.0 in omega (arith, past, at)
@@ -287,7 +287,7 @@ trimmed_next c old mid new h k = record { keeps = λ pick n b open_ is. k.keeps 
 
 -- ---- a due step
 
-module _ (c : Course) (n : ℕ) (b : Branch) (open_ : IsOpen c.slots n b) (pick : Pick) (xs : List Step) (it : Found) (on : branch_of it.step ≡ n) (here : IsNewHere c it.round it.step)
+module _ (c : Course) (n : ℕ) (b : Branch) (open_ : IsOpen c.slots n b) (pick : Pick) (xs : List Step) (it : NewStep) (on : branch_of it.step ≡ n) (here : IsNewHere c it.round it.step)
     (last : slice_get xs (length xs - 1) ≡ Some it.step) (turn : AreInTurn pick xs)
     (rest : (other : Step) (round : ℕ) → branch_of other ≡ n → IsNewIn c other → IsRoundIn c other round → (it.round < round) ⊎ ((it.round ≡ round) × IsListed pick xs other)) where
   not_before : (other : Step) → IsListed pick xs other → pick_cmp pick it.step other ≢ Greater
@@ -366,7 +366,7 @@ module _ (c : Course) (n : ℕ) (b : Branch) (open_ : IsOpen c.slots n b) (pick 
       ]
     ]
 
-    pub kept_due : (it : Found) → IsFirstOf agenda (Some it) → IsNewHere c agenda.round it.step → IsDueOn c pick n it
+    pub kept_due : (it : NewStep) → IsFirstOf agenda (Some it) → IsNewHere c agenda.round it.step → IsDueOn c pick n it
     kept_due it first here =
         due_on_it c n b open_ pick agenda.steps.items it (is.on it.step (last_in agenda.steps.items it.step first.1)) (subst (λ r. IsNewHere c r it.step) (sym first.0) here) first.1 is.in_turn
         (λ other round on is_new round_is.
@@ -375,20 +375,20 @@ module _ (c : Course) (n : ℕ) (b : Branch) (open_ : IsOpen c.slots n b) (pick 
   -- ---- of a batch
 
   module _ (batch : Batch) (agenda : Agenda) (of : IsAgendaOf pick batch agenda) where
-    led_listed : (single : Option Step) → batch.single ≡ single → IsWhole batch → (step : Step) → IsTrue (is_single step) → Leads pick single step → IsListed pick agenda.steps.items step
+    led_listed : (single : Option Step) → batch.single ≡ single → IsWholeBatch batch → (step : Step) → IsTrue (is_single step) → HasEarlier pick single step → IsListed pick agenda.steps.items step
     led_listed None is whole step one led = absurd led
     led_listed (Some first) is whole step one led =
         inr (record { single = one; other = first; there = of.has first (inr is); other_single = whole.single first is; before = not_greater (pick_cmp pick first step) led })
 
-    pub held_listed : IsWhole batch → (step : Step) → IsHeld pick batch step → IsListed pick agenda.steps.items step
+    pub held_listed : IsWholeBatch batch → (step : Step) → IsHeld pick batch step → IsListed pick agenda.steps.items step
     held_listed whole step (inl in_) = inl (of.has step (inl in_))
     held_listed whole step (inr led) = led_listed batch.single refl whole step led.0 led.1
 
     module _ (P : Step → Type 0) (h : Improves c pick P None (Some batch)) where
-      from_batch : (step : Step) → Contains agenda.steps.items step → IsFound c P (record { round = batch.round; step = step })
+      from_batch : (step : Step) → Contains agenda.steps.items step → IsNewOf c P (record { round = batch.round; step = step })
       from_batch step in_ = elim (h.from (record { round = batch.round; step = step }) (refl, of.from step in_)) [ inl none ↦ absurd none | inr is ↦ is ]
 
-      whole : IsWhole batch
+      whole : IsWholeBatch batch
       whole = h.filled tt
 
       rest_of : ((other : Step) (round : ℕ) → branch_of other ≡ n → IsNewIn c other → IsRoundIn c other round → (batch.round < round) ⊎ P other) → (other : Step) (round : ℕ) →
@@ -405,7 +405,7 @@ module _ (c : Course) (n : ℕ) (b : Branch) (open_ : IsOpen c.slots n b) (pick 
       not_empty none = Contains-nil whole.step (subst (λ xs. Contains xs whole.step) none (of.has whole.step whole.there))
 
       pub batch_due : ((step : Step) → P step → branch_of step ≡ n) → ((other : Step) (round : ℕ) → branch_of other ≡ n → IsNewIn c other → IsRoundIn c other round → (batch.round < round) ⊎ P other) →
-          (first : Option Found) → IsFirstOf agenda first → IsDueIfAny c pick n first
+          (first : Option NewStep) → IsFirstOf agenda first → IsDueIfAny c pick n first
       batch_due on all None first = absurd (not_empty first)
       batch_due on all (Some it) first =
           let found = from_batch it.step (last_in agenda.steps.items it.step first.1) in
@@ -431,11 +431,11 @@ module _ (c : Course) (n : ℕ) (b : Branch) (open_ : IsOpen c.slots n b) (pick 
           ]
     ]
 
-    pub closing_due : Improves c pick (IsClosing n) None (Some batch) → (first : Option Found) → IsFirstOf agenda first → IsDueIfAny c pick n first
+    pub closing_due : Improves c pick (IsClosing n) None (Some batch) → (first : Option NewStep) → IsFirstOf agenda first → IsDueIfAny c pick n first
     closing_due h = batch_due (IsClosing n) h (closing_on c pick n) (closing_first h)
 
     -- that tells the branch something
-    pub telling_due : NoneCloses c n → Improves c pick (IsTelling n) None (Some batch) → (first : Option Found) → IsFirstOf agenda first → IsDueIfAny c pick n first
+    pub telling_due : NoneCloses c n → Improves c pick (IsTelling n) None (Some batch) → (first : Option NewStep) → IsFirstOf agenda first → IsDueIfAny c pick n first
     telling_due closes h =
         batch_due (IsTelling n) h (telling_on c pick n)
         (λ other round on is_new round_is. elim (of_kind c pick n other on) [ inl closing ↦ absurd (closes.none other closing is_new) | inr telling ↦ inr telling ])

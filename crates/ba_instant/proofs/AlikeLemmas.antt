@@ -20,7 +20,7 @@ use Rattle.ba_facts.specs.declared.term.Side.{Side}
 use Rattle.ba_facts.specs.declared.term.Term.{Term}
 use Rattle.ba_facts.proofs.ClassMoves.{live_moves, refuted_moves, same_moves, shown_moves}
 use Rattle.ba_facts.specs.Alike.{AreAlike}
-use Rattle.ba_instant.specs.Spreads.{AreChoices, AreLikes, AreLikesBelow, IsAt, IsLike, IsOpenOf, Names}
+use Rattle.ba_instant.specs.Spreads.{AreChoices, AreLikes, AreLikesBelow, IsAt, IsLike, IsOpenOf, NamesPlace}
 
 -- ---- rows of terms of the same classes
 
@@ -257,7 +257,7 @@ choices_named b cond place fact likes h = record {
   complete = λ n like. let in_ = h.complete n like in (in_.0, n, in_.1, in_.2, inl refl);
 }
 
-pub choices_alone : (b : Branch) (cond : Atom) (place fact : ℕ) (alone : List ℕ) → alone ≡ fact ∷ [] → (Names place cond → ⊥) → AreChoices b cond place fact alone
+pub choices_alone : (b : Branch) (cond : Atom) (place fact : ℕ) (alone : List ℕ) → alone ≡ fact ∷ [] → (NamesPlace place cond → ⊥) → AreChoices b cond place fact alone
 choices_alone b cond place fact alone is apart = subst (AreChoices b cond place fact) (sym is) one
   where
     one : AreChoices b cond place fact (fact ∷ [])

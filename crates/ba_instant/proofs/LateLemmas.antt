@@ -5,15 +5,15 @@ use Rattle.std.proofs.lemmas.Bool.{cases_lt}
 use Rattle.std.specs.Prelude.{◌≢◌, Option, Some, None}
 use Rattle.ba_kernel.specs.Tests.{Course}
 use Rattle.ba_kernel.specs.declared.step.Step.{Step}
-use Rattle.ba_instant.specs.Looks.{IsTimely}
-use Rattle.ba_instant.specs.Offers.{Improves, IsFound, IsHeld, IsNewIn, IsRoundIn, Reaches}
+use Rattle.ba_instant.specs.Scans.{IsTimely}
+use Rattle.ba_instant.specs.Offers.{Improves, IsNewOf, IsHeld, IsNewIn, IsRoundIn, Reaches}
 use Rattle.ba_instant.specs.declared.batch.Batch.{Batch}
-use Rattle.ba_instant.specs.declared.found.Found.{Found}
+use Rattle.ba_instant.specs.declared.scan.NewStep.{NewStep}
 use Rattle.ba_instant.specs.declared.order.Pick.{Pick}
 
 -- ---- what isn't timely
 
-pub untimely_reaches : (pick : Pick) (round : ℕ) (best : Option Batch) (it : Found) → (IsTimely round best → ⊥) → 1 + round ≤ it.round → Reaches pick best it
+pub untimely_reaches : (pick : Pick) (round : ℕ) (best : Option Batch) (it : NewStep) → (IsTimely round best → ⊥) → 1 + round ≤ it.round → Reaches pick best it
 untimely_reaches pick round None it untimely more = absurd (untimely tt)
 untimely_reaches pick round (Some best) it untimely more = elim (cases_lt round best.round) [
   | inl timely ↦ absurd (untimely timely)
@@ -26,7 +26,7 @@ untimely_some round (Some best) untimely = λ e. cc
 
 module _ (c : Course) (pick : Pick) where
   -- what was found reaches each of the set
-  pub improves_behind : (P : Step → Type 0) (best : Option Batch) → ((it : Found) → IsFound c P it → Reaches pick best it) → ((step : Step) → P step → IsNewIn c step → best ≢ None) →
+  pub improves_behind : (P : Step → Type 0) (best : Option Batch) → ((it : NewStep) → IsNewOf c P it → Reaches pick best it) → ((step : Step) → P step → IsNewIn c step → best ≢ None) →
       Improves c pick P best best
   improves_behind P best behind some = record {
     from = λ it h. inl h;
@@ -38,13 +38,13 @@ module _ (c : Course) (pick : Pick) where
   }
 
   -- each step of the set is of a later round
-  pub improves_untimely : (P : Step → Type 0) (round : ℕ) (best : Option Batch) → (IsTimely round best → ⊥) → ((it : Found) → IsFound c P it → 1 + round ≤ it.round) → Improves c pick P best best
+  pub improves_untimely : (P : Step → Type 0) (round : ℕ) (best : Option Batch) → (IsTimely round best → ⊥) → ((it : NewStep) → IsNewOf c P it → 1 + round ≤ it.round) → Improves c pick P best best
   improves_untimely P round best untimely later =
       improves_behind P best (λ it h. untimely_reaches pick round best it untimely (later it h)) (λ step p new. untimely_some round best untimely)
 
   -- ---- a step of a round that is at least so much
 
-  reaches_on : (best : Option Batch) (step : Step) (least : ℕ) (it : Found) → Reaches pick best (record { round = least; step = step }) → it.step ≡ step → least ≤ it.round →
+  reaches_on : (best : Option Batch) (step : Step) (least : ℕ) (it : NewStep) → Reaches pick best (record { round = least; step = step }) → it.step ≡ step → least ≤ it.round →
       Reaches pick best it
   reaches_on None step least it h is more = absurd h
   reaches_on (Some best) step least it (inl later) is more = inl (let e : best.round < it.round = omega (arith, later, more) in e)
@@ -53,7 +53,7 @@ module _ (c : Course) (pick : Pick) where
     | inr less ↦ inl (let e : best.round < it.round = omega (arith, level, less) in e)
   ]
 
-  reached_some : (best : Option Batch) (it : Found) → Reaches pick best it → best ≢ None
+  reached_some : (best : Option Batch) (it : NewStep) → Reaches pick best it → best ≢ None
   reached_some None it h = absurd h
   reached_some (Some best) it h = λ e. cc
 

@@ -6,7 +6,7 @@ mod MapLemmas
 mod SplitLemmas
 mod DueLemmas
 mod LateLemmas
-mod LookLemmas
+mod ScanLemmas
 mod PairLemmas
 mod PartnerLemmas
 mod TakeLemmas

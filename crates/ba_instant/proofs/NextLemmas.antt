@@ -28,10 +28,10 @@ use Rattle.ba_instant.proofs.KeepLemmas.{more_facts, new_after_quiet_step, stays
 use Rattle.ba_instant.proofs.OfferLemmas.{not_behind}
 use Rattle.ba_instant.proofs.OrderLemmas.{pick_total}
 use Rattle.ba_instant.proofs.RoundLemmas.{round_once}
-use Rattle.ba_instant.specs.Dues.{DueList, Ends, HasNew, HaveNewBelow, IsDue, IsSaturated, Searches}
+use Rattle.ba_instant.specs.Dues.{DueList, Ends, EndsAreLeaves, HasNew, HaveNewBelow, IsDue, IsSaturated, Searches}
 use Rattle.ba_instant.specs.Agendas.{AreInTurn, AreOlder, IsAgenda, IsAgendaAt, IsListed, IsNone, IsSilent, MOST_ROUND}
 use Rattle.ba_instant.specs.Loose.{IsQuietBeside}
-use Rattle.ba_instant.specs.Nexts.{AreQuietBeside, IsQuietRound, AreWaiting, ComesLater, IsFirstBelow, IsKept, IsLeafOf, IsLeastSaturated, IsLeft, IsPickedBelow, IsQuietAt, IsTaken, Passes, SaturatedAt, Waits, first_step}
+use Rattle.ba_instant.specs.Nexts.{AreQuietBeside, IsQuietRound, AreWaiting, ComesLater, IsFirstBelow, IsCarriedOn, IsLeafOf, IsLeastSaturated, IsAgendaAfter, IsPickedBelow, IsQuietAt, IsTaken, PassesBranch, SaturatedAt, Waits, first_step}
 use Rattle.ba_instant.specs.Offers.{IsDueIfAny, IsDueOn, IsRoundAt, IsTelling, first_by}
 use Rattle.ba_instant.specs.QuietSteps.{AddsToOneAt, TakesQuietly}
 use Rattle.ba_instant.specs.Order.{atom_cmp, numbers_cmp, pick_cmp, step_atom, step_cmp, step_rank}
@@ -66,7 +66,7 @@ branch_first one other less e =
 
 module _ (pick : Pick) (c : Course) (n : ℕ) where
   -- the branch isn't open
-  pub passes_closed : (first : Option Due) → open_at c.slots n ≡ None → Passes pick c n first first
+  pub passes_closed : (first : Option Due) → open_at c.slots n ≡ None → PassesBranch pick c n first first
   passes_closed first none = record { has = λ b h. absurd (not_open c.slots n b none h); first = more first }
     where
       more : (first : Option Due) → IsFirstBelow pick c n first → IsFirstBelow pick c (n + 1) first
@@ -86,7 +86,7 @@ module _ (pick : Pick) (c : Course) (n : ℕ) where
       }
 
   -- the branch has a new step, and comes after that of the step that was found
-  pub passes_later : (first : Option Due) → ComesLater pick first → ((b : Branch) → IsOpen c.slots n b → HasNew c.problem n b) → Passes pick c n first first
+  pub passes_later : (first : Option Due) → ComesLater pick first → ((b : Branch) → IsOpen c.slots n b → HasNew c.problem n b) → PassesBranch pick c n first first
   passes_later first later has = record { has = has; first = more pick first later }
     where
       more : (pick : Pick) (first : Option Due) → ComesLater pick first → IsFirstBelow pick c n first → IsFirstBelow pick c (n + 1) first
@@ -104,7 +104,7 @@ module _ (pick : Pick) (c : Course) (n : ℕ) where
       more Last (Some it) later h = absurd later
       more Last None later h = absurd later
 
-  pub passes_waiting : (waiting : Waiting) (first : Option Due) → ComesLater pick first → Waits waiting n → AreWaiting pick c waiting → Passes pick c n first first
+  pub passes_waiting : (waiting : Waiting) (first : Option Due) → ComesLater pick first → Waits waiting n → AreWaiting pick c waiting → PassesBranch pick c n first first
   passes_waiting waiting first later waits are = passes_later first later (λ b is. are.waits n b waits.0 waits.1 is)
 
   -- it has a due step, and an agenda
@@ -159,7 +159,7 @@ module _ (pick : Pick) (c : Course) (n : ℕ) where
     }
     picked_more (Some best) h = kept best (is_gt (pick_cmp pick best.found.step of.found.step)) refl h
 
-    pub passes_due : (old new : Option Due) → new ≡ first_step pick old of → Passes pick c n old new
+    pub passes_due : (old new : Option Due) → new ≡ first_step pick old of → PassesBranch pick c n old new
     passes_due old new is = record { has = has_new; first = λ h. subst (IsFirstBelow pick c (n + 1)) (sym is) (picked_more old h) }
 
   pub saturated_at : (b : Branch) → IsOpen c.slots n b → IsDueIfAny c pick n None → SaturatedAt c n
@@ -167,7 +167,7 @@ module _ (pick : Pick) (c : Course) (n : ℕ) where
 
   -- ---- the branches so far
 
-  pub news_more : (old new : Option Due) → Passes pick c n old new → HaveNewBelow c.problem c.slots n → HaveNewBelow c.problem c.slots (n + 1)
+  pub news_more : (old new : Option Due) → PassesBranch pick c n old new → HaveNewBelow c.problem c.slots n → HaveNewBelow c.problem c.slots (n + 1)
   news_more old new h before number b below is = elim (up_to_bound number n below) [
     | inl less ↦ before number b less is
     | inr same ↦ subst (λ m. HasNew c.problem m b) (sym same) (h.has b (subst (λ m. IsOpen c.slots m b) same is))
@@ -284,7 +284,7 @@ module _ (pick : Pick) (c : Course) (of : Due) (it : IsTaken pick c of) where
           stays_silent c.problem c.steps step c.slots new.slots due.branch b due.round fits taken_quietly
           (subst (λ at. AddsToOneAt at step) (open_is c.slots (branch_of step) due.branch due.open_) adds) (was.silent told)
 
-    kept_after : (new : Course) (left : Agenda) (b : Branch) → Takes c.problem c.slots step new.slots → IsOpen new.slots (branch_of step) b → IsKept c of left →
+    kept_after : (new : Course) (left : Agenda) (b : Branch) → Takes c.problem c.slots step new.slots → IsOpen new.slots (branch_of step) b → IsCarriedOn c of left →
         IsAgenda pick c.problem (branch_of step) b left
     kept_after new left b takes to h =
         let before = it.agenda.of due.branch due.open_ in
@@ -300,13 +300,13 @@ module _ (pick : Pick) (c : Course) (of : Due) (it : IsTaken pick c of) where
           silent = λ told. let both = h.silent told in silent_after new b takes to h.quiet both.1 both.0;
         }
 
-    agenda_after : (new : Course) (left : Agenda) (b : Branch) → Takes c.problem c.slots step new.slots → IsOpen new.slots (branch_of step) b → IsLeft c of left →
+    agenda_after : (new : Course) (left : Agenda) (b : Branch) → Takes c.problem c.slots step new.slots → IsOpen new.slots (branch_of step) b → IsAgendaAfter c of left →
         IsAgenda pick c.problem (branch_of step) b left
     agenda_after new left b takes to (inl none) = none_is_agenda pick c.problem (branch_of step) b left none
     agenda_after new left b takes to (inr kept) = kept_after new left b takes to kept
 
     -- all other branches are as before
-    pub waiting_after : (new : Course) (waiting : Waiting) (left : Agenda) → waiting.below ≡ length c.slots → waiting.but ≡ branch_of step → waiting.agenda ≡ left → IsNone waiting.next → IsLeft c of left →
+    pub waiting_after : (new : Course) (waiting : Waiting) (left : Agenda) → waiting.below ≡ length c.slots → waiting.but ≡ branch_of step → waiting.agenda ≡ left → IsNone waiting.next → IsAgendaAfter c of left →
         Takes c.problem c.slots step new.slots → new.problem ≡ c.problem → AreWaiting pick new waiting
     waiting_after new waiting left below_is but_is agenda_is next_is h takes problem_is = record {
       next = record { of = λ b is. none_is_agenda pick new.problem waiting.below b waiting.next next_is };
@@ -358,11 +358,12 @@ module _ (pick : Pick) (budget : ℕ) (c : Course) (searches : Searches pick c.p
   ends_saturated number (settled.Proved proof) h few leaf = absurd leaf
   ends_saturated number (settled.Spent taken) h few leaf = absurd leaf
   ends_saturated number (settled.Saturated it) h few leaf =
-      let same : h.branch ≡ it.branch = one_open c.slots number h.branch it.branch h.saturated.open_ (open_back c.slots number it.branch leaf.1) in
+      let same : h.branch ≡ it.branch = one_open c.slots number h.branch it.branch h.saturated.open_ (open_back c.slots number it.branch leaf.branch_is) in
       record {
+        problem_is = leaf.problem_is;
         slots = c.slots;
-        searches = subst (λ taken. Searches pick c.problem taken c.slots) (sym leaf.0) searches;
-        few = subst (λ taken. length taken ≤ budget) (sym leaf.0) few;
+        searches = subst (λ taken. Searches pick c.problem taken c.slots) (sym leaf.steps_are) searches;
+        few = subst (λ taken. length taken ≤ budget) (sym leaf.steps_are) few;
         number = number;
         saturated = subst (IsSaturated c.problem c.slots number) same h.saturated;
         least = h.least;
@@ -460,3 +461,13 @@ open_still old new number same h =
 pub due_list : (pick : Pick) (p : Problem) (taken : List Step) (slots : Slots) → Searches pick p taken slots → DueList pick p taken slots
 due_list pick p taken slots (Searches.start h) = DueList.start h
 due_list pick p taken slots (Searches.next {taken = before} {old = old} h each picked takes) = DueList.next (due_list pick p before old h) picked takes
+
+-- ---- leaves
+
+pub ends_are_leaves : EndsAreLeaves
+ends_are_leaves pick p budget leaf h = record {
+  slots = h.slots;
+  runs = subst (λ q. Runs q leaf.steps h.slots) (sym h.problem_is) (runs_of pick p leaf.steps h.slots h.searches);
+  number = h.number;
+  saturated = subst (λ q. IsSaturated q h.slots h.number leaf.branch) (sym h.problem_is) h.saturated;
+}

@@ -16,9 +16,9 @@ use Rattle.ba_facts.proofs.PlaceLemmas.{upto as up_to_bound}
 use Rattle.ba_instant.proofs.OrderLemmas.{pick_total}
 use Rattle.ba_instant.proofs.RoundLemmas.{is_new, not_new, round_at_once}
 use Rattle.ba_instant.specs.Order.{pick_cmp}
-use Rattle.ba_instant.specs.Offers.{Improves, IsFound, IsHeld, IsNewIn, IsOffered, IsRoundIn, IsWhole, Leads, OfAny, Offers, Reaches, Upto, batch_of, empty_batch, first_by, first_single, is_single, with_found, with_found_by, with_step, with_step_by}
+use Rattle.ba_instant.specs.Offers.{Improves, IsNewOf, IsHeld, IsNewIn, IsOffered, IsRoundIn, IsWholeBatch, HasEarlier, OfAny, Offers, Reaches, Upto, batch_of, empty_batch, first_by, first_single, is_single, with_found, with_found_by, with_step, with_step_by}
 use Rattle.ba_instant.specs.declared.batch.Batch.{Batch}
-use Rattle.ba_instant.specs.declared.found.Found.{Found}
+use Rattle.ba_instant.specs.declared.scan.NewStep.{NewStep}
 use Rattle.ba_instant.specs.declared.order.Pick.{Pick}
 
 pub not_behind : (r : Ordering) → is_gt r ≡ true → is_gt (ordering_reverse r) ≡ false
@@ -36,22 +36,22 @@ module _ (pick : Pick) where
   not_after_itself step = ap is_gt (tied_itself (pick_total pick) step)
 
   module _ (step : Step) where
-    leads_by : (best : Step) (b : Bool) → is_gt (pick_cmp pick best step) ≡ b → Leads pick (first_by b best step) step
+    leads_by : (best : Step) (b : Bool) → is_gt (pick_cmp pick best step) ≡ b → HasEarlier pick (first_by b best step) step
     leads_by best false e = e
     leads_by best true e = not_after_itself step
 
-    leads_here : (single : Option Step) → Leads pick (first_single pick single step) step
+    leads_here : (single : Option Step) → HasEarlier pick (first_single pick single step) step
     leads_here None = not_after_itself step
     leads_here (Some best) = leads_by best (is_gt (pick_cmp pick best step)) refl
 
-    leads_on_by : (best other : Step) (b : Bool) → is_gt (pick_cmp pick best step) ≡ b → is_gt (pick_cmp pick best other) ≡ false → Leads pick (first_by b best step) other
+    leads_on_by : (best other : Step) (b : Bool) → is_gt (pick_cmp pick best step) ≡ b → is_gt (pick_cmp pick best other) ≡ false → HasEarlier pick (first_by b best step) other
     leads_on_by best other false e h = h
     leads_on_by best other true e h =
         let less : is_gt (pick_cmp pick step best) ≡ false =
         ap is_gt ((pick_total pick).antisymm step best) ∙ not_behind (pick_cmp pick best step) e in
         upto (pick_total pick) step best other less h
 
-    leads_on : (single : Option Step) (other : Step) → Leads pick single other → Leads pick (first_single pick single step) other
+    leads_on : (single : Option Step) (other : Step) → HasEarlier pick single other → HasEarlier pick (first_single pick single step) other
     leads_on None other h = absurd h
     leads_on (Some best) other h = leads_on_by best other (is_gt (pick_cmp pick best step)) refl h
 
@@ -106,7 +106,7 @@ module _ (pick : Pick) where
       single_of_by false e h it is = h it is
       single_of_by true e h it is = elim (single_from batch.single it is) [ inl old ↦ h it old | inr same ↦ subst (λ s. IsTrue (is_single s)) same e ]
 
-      pub whole_with : ((it : Step) → batch.single ≡ Some it → IsTrue (is_single it)) → IsWhole (with_step pick batch step)
+      pub whole_with : ((it : Step) → batch.single ≡ Some it → IsTrue (is_single it)) → IsWholeBatch (with_step pick batch step)
       whole_with h = let some = some_by (is_single step) in record { step = some.0; there = some.1; single = single_of_by (is_single step) refl h }
 
       round_by : (b : Bool) → (with_step_by b pick batch step).round ≡ batch.round
@@ -117,13 +117,13 @@ module _ (pick : Pick) where
       round_with = round_by (is_single step)
 
   -- a batch of one step
-  pub offers_one : (it : Found) (other : Step) → Offers (batch_of pick it) other → it.step ≡ other
+  pub offers_one : (it : NewStep) (other : Step) → Offers (batch_of pick it) other → it.step ≡ other
   offers_one it other h = elim (offers_of it.step (empty_batch it.round) other h) [
     | inl none ↦ elim none [ inl in_ ↦ absurd (Contains-nil other in_) | inr is ↦ absurd (let wrong : None ≡ Some other = is in cc) ]
     | inr same ↦ same
   ]
 
-  pub whole_one : (it : Found) → IsWhole (batch_of pick it)
+  pub whole_one : (it : NewStep) → IsWholeBatch (batch_of pick it)
   whole_one it = whole_with it.step (empty_batch it.round) (λ other is. absurd (let wrong : None ≡ Some other = is in cc))
 
 module _ (c : Course) (pick : Pick) where
@@ -133,23 +133,23 @@ module _ (c : Course) (pick : Pick) where
     abbrev It : Step → Type 0
     It other = other ≡ step
 
-    module _ (found : Found) (same : found.step ≡ step) (new : IsNewIn c step) (round : IsRoundIn c step found.round) where
-      found_it : (it : Found) → found.round ≡ it.round → found.step ≡ it.step → IsFound c It it
+    module _ (found : NewStep) (same : found.step ≡ step) (new : IsNewIn c step) (round : IsRoundIn c step found.round) where
+      found_it : (it : NewStep) → found.round ≡ it.round → found.step ≡ it.step → IsNewOf c It it
       found_it it same_round same_step = record {
         of = sym same_step ∙ same;
         new_ = subst (IsNewIn c) (sym same ∙ same_step) new;
         round_is = subst (λ s. IsRoundIn c s it.round) (sym same ∙ same_step) (subst (IsRoundIn c step) same_round round);
       }
 
-      its_round : (it : Found) → IsFound c It it → found.round ≡ it.round
+      its_round : (it : NewStep) → IsNewOf c It it → found.round ≡ it.round
       its_round it h = round_at_once c.problem (open_at c.slots (branch_of step)) step found.round it.round round (subst (λ s. IsRoundIn c s it.round) h.of h.round_is)
 
       -- the batch with the step
-      reaches_with : (batch : Batch) → batch.round ≡ found.round → (it : Found) → IsFound c It it → Reaches pick (Some (with_step pick batch found.step)) it
+      reaches_with : (batch : Batch) → batch.round ≡ found.round → (it : NewStep) → IsNewOf c It it → Reaches pick (Some (with_step pick batch found.step)) it
       reaches_with batch level it h =
           inr (round_with pick found.step batch ∙ (level ∙ its_round it h), subst (IsHeld pick (with_step pick batch found.step)) (same ∙ sym h.of) (held_here pick found.step batch))
 
-      from_one : (it : Found) → IsOffered (Some (batch_of pick found)) it → IsFound c It it
+      from_one : (it : NewStep) → IsOffered (Some (batch_of pick found)) it → IsNewOf c It it
       from_one it h = found_it it (sym (round_with pick found.step (empty_batch found.round)) ∙ h.0) (offers_one pick found it.step h.1)
 
       offered_first : Improves c pick It None (Some (batch_of pick found))
@@ -215,7 +215,7 @@ module _ (c : Course) (pick : Pick) where
       offered_some (Some batch) = offered_by batch (nat_cmp found.round batch.round) refl
 
     -- a step that is new, and one that isn't
-    pub offered_new : (old new : Option Batch) (found : Found) → found.step ≡ step → IsNewRound c.problem (open_at c.slots (branch_of step)) step (Some found.round) →
+    pub offered_new : (old new : Option Batch) (found : NewStep) → found.step ≡ step → IsNewRound c.problem (open_at c.slots (branch_of step)) step (Some found.round) →
         new ≡ with_found pick old found → Improves c pick It old new
     offered_new old new found same told is =
         let h = is_new c.problem (open_at c.slots (branch_of step)) step found.round told in
@@ -245,7 +245,7 @@ module _ (c : Course) (pick : Pick) where
   }
 
   module _ (P Q : Step → Type 0) where
-    pub found_as : ((step : Step) → P step → IsNewIn c step → Q step) → (it : Found) → IsFound c P it → IsFound c Q it
+    pub found_as : ((step : Step) → P step → IsNewIn c step → Q step) → (it : NewStep) → IsNewOf c P it → IsNewOf c Q it
     found_as to it h = record { of = to it.step h.of h.new_; new_ = h.new_; round_is = h.round_is }
 
     -- the same new steps
@@ -264,7 +264,7 @@ module _ (c : Course) (pick : Pick) where
     abbrev Either : Step → Type 0
     Either step = P step ⊎ Q step
 
-    from_both : (old mid new : Option Batch) → Improves c pick P old mid → Improves c pick Q mid new → (it : Found) → IsOffered new it → IsOffered old it ⊎ IsFound c Either it
+    from_both : (old mid new : Option Batch) → Improves c pick P old mid → Improves c pick Q mid new → (it : NewStep) → IsOffered new it → IsOffered old it ⊎ IsNewOf c Either it
     from_both old mid new h k it o = elim (k.from it o) [
       | inl before ↦ elim (h.from it before) [ inl first ↦ inl first | inr is ↦ inr (found_as P Either (λ step p new. inl p) it is) ]
       | inr is ↦ inr (found_as Q Either (λ step q new. inr q) it is)
@@ -274,7 +274,7 @@ module _ (c : Course) (pick : Pick) where
     finds_either old mid new h k step (inl p) is = k.stays (h.finds step p is)
     finds_either old mid new h k step (inr q) is = k.finds step q is
 
-    reaches_either : (old mid new : Option Batch) → Improves c pick P old mid → Improves c pick Q mid new → (it : Found) → Either it.step → IsNewIn c it.step → IsRoundIn c it.step it.round →
+    reaches_either : (old mid new : Option Batch) → Improves c pick P old mid → Improves c pick Q mid new → (it : NewStep) → Either it.step → IsNewIn c it.step → IsRoundIn c it.step it.round →
         Reaches pick new it
     reaches_either old mid new h k it (inl p) new_ round = k.keeps it (h.reaches it (record { of = p; new_ = new_; round_is = round }))
     reaches_either old mid new h k it (inr q) new_ round = k.reaches it (record { of = q; new_ = new_; round_is = round })

@@ -20,13 +20,13 @@ use Rattle.ba_kernel.specs.declared.step.Step.TheVariants as steps
 use Rattle.ba_instant.proofs.ChaseLemmas.{new_on}
 use Rattle.ba_instant.proofs.DueLemmas.{round_on}
 use Rattle.ba_instant.proofs.LateLemmas.{improves_behind, untimely_reaches, untimely_some}
-use Rattle.ba_instant.proofs.LookLemmas.{recent_or}
+use Rattle.ba_instant.proofs.ScanLemmas.{recent_or}
 use Rattle.ba_instant.proofs.OfferLemmas.{improves_as}
-use Rattle.ba_instant.specs.Looks.{AreEqualBy, AreRecent, IsKeyInTurn, IsKeyOfTwo, IsTimelyKey, IsTurn, KeysAreLate, ShareKey}
-use Rattle.ba_instant.specs.Offers.{Improves, IsFound, IsKeyStep, IsNewIn, OfAny, fact_round}
+use Rattle.ba_instant.specs.Scans.{AreEqualBy, AreRecent, IsKeyInTurn, IsKeyOfTwo, IsTimelyKey, IsTurn, KeysAreLate, ShareKey}
+use Rattle.ba_instant.specs.Offers.{Improves, IsNewOf, IsKeyStep, IsNewIn, OfAny, fact_round}
 use Rattle.ba_instant.specs.Partners.{ArePartners}
 use Rattle.ba_instant.specs.declared.batch.Batch.{Batch}
-use Rattle.ba_instant.specs.declared.found.Found.{Found}
+use Rattle.ba_instant.specs.declared.scan.NewStep.{NewStep}
 use Rattle.ba_instant.specs.declared.order.Pick.{Pick}
 
 some_inj : {X : Type 0} (o : Option X) (x y : X) → o ≡ Some x → o ≡ Some y → x ≡ y
@@ -117,10 +117,10 @@ module _ (c : Course) (n quiet : ℕ) (b : Branch) (open_ : IsOpen c.slots n b) 
   shares other step (inl h) new = (h.0, passes h.0 one other step h.1 new)
   shares other step (inr h) new = (h.0, key_turned c.problem.policy.schema b h.0 other one (passes h.0 other one step h.1 new))
 
-  abbrev Late : ℕ → Found → Type 0
+  abbrev Late : ℕ → NewStep → Type 0
   Late other it = 1 + max (fact_round b one) (fact_round b other) ≤ it.round
 
-  late_key : (other key left right : ℕ) (it : Found) (P : Step → Type 0) → it.step ≡ steps.Key n key left right → IsFound c P it →
+  late_key : (other key left right : ℕ) (it : NewStep) (P : Step → Type 0) → it.step ≡ steps.Key n key left right → IsNewOf c P it →
       round_of b (left ∷ right ∷ []) ≡ max (fact_round b one) (fact_round b other) → Late other it
   late_key other key left right it P is h same =
       let on : branch_of it.step ≡ n = ap branch_of is in
@@ -128,7 +128,7 @@ module _ (c : Course) (n quiet : ℕ) (b : Branch) (open_ : IsOpen c.slots n b) 
       subst (λ s. IsRound c.problem b s it.round) is (round_on c n b open_ it.step it.round on h.round_is) in
       omega (arith, at, same)
 
-  late_two : (other : ℕ) (it : Found) (P : Step → Type 0) → IsKeyOfTwo n one other it.step → IsFound c P it → Late other it
+  late_two : (other : ℕ) (it : NewStep) (P : Step → Type 0) → IsKeyOfTwo n one other it.step → IsNewOf c P it → Late other it
   late_two other it P (inl (key, is)) h = late_key other key one other it P is h (omega arith)
   late_two other it P (inr (key, is)) h = late_key other key other one it P is h (omega arith)
 

@@ -23,7 +23,7 @@ use Rattle.ba_instant.proofs.ChaseLemmas.{new_on}
 use Rattle.ba_instant.proofs.OfferLemmas.{improves_none}
 use Rattle.ba_facts.specs.Alike.{AreAlike}
 use Rattle.ba_instant.specs.Offers.{Improves, IsNewIn, IsOfForm}
-use Rattle.ba_instant.specs.Spreads.{HasFact, IsLost, IsPassed, IsReached, NoneBelow}
+use Rattle.ba_instant.specs.Spreads.{HasFact, IsLost, IsPassedOver, IsReached, NoneBelow}
 use Rattle.ba_instant.specs.declared.batch.Batch.{Batch}
 use Rattle.ba_instant.specs.declared.mapped.Form.TheVariants.{OfGoal}
 use Rattle.ba_instant.specs.declared.order.Pick.{Pick}
@@ -98,7 +98,7 @@ module _ (b : Branch) (part : Part) (row : List Term) where
     pub reach_more : (fact : ℕ) (deeper : List ℕ) → deeper ≡ chosen ++ fact ∷ [] → Below fact → ((facts : List ℕ) → Reached rest deeper facts → ⊥) → Below (fact + 1)
     reach_more fact deeper are before none = none_next fact before (λ is facts h. none facts (subst (λ xs. Reached rest xs facts) (sym are) h))
 
-    pub reach_passed : (fact : ℕ) (deeper tried : List ℕ) → IsPassed b Two part Shown (Some row) table deeper tried fact → deeper ≡ chosen ++ fact ∷ [] →
+    pub reach_passed : (fact : ℕ) (deeper tried : List ℕ) → IsPassedOver b Two part Shown (Some row) table deeper tried fact → deeper ≡ chosen ++ fact ∷ [] →
         All (λ other. other < fact) tried → Below fact → Below (fact + 1)
     reach_passed fact deeper tried (inl (inl other)) are below before = none_next fact before (λ is facts h. other is)
     reach_passed fact deeper tried (inl (inr gone)) are below before =

@@ -29,7 +29,7 @@ use Rattle.ba_instant.proofs.ChaseLemmas.{new_on}
 use Rattle.ba_instant.proofs.OfferLemmas.{improves_as, improves_end, improves_next, improves_none}
 use Rattle.ba_instant.specs.Offers.{Improves, IsNewIn, IsSplitOfAtom, IsSplitOfPart, OfAny, Upto}
 use Rattle.ba_facts.specs.Alike.{AreAlike}
-use Rattle.ba_instant.specs.Spreads.{AreChoices, IsAt, IsLike, IsLikeAtom, IsLikeSplit, IsLikeSplits, IsLiveWith, IsLost, IsOpenOf, IsOver, IsOverAtom, IsPassed, IsSpread, IsSpreadAtom, Names}
+use Rattle.ba_instant.specs.Spreads.{AreChoices, IsAt, IsLike, IsLikeAtom, IsLikeSplit, IsLikeSplits, IsLiveWith, IsLost, IsOpenOf, IsOver, IsOverAtom, IsPassedOver, IsSpread, IsSpreadAtom, NamesPlace}
 use Rattle.ba_instant.specs.declared.batch.Batch.{Batch}
 use Rattle.ba_instant.specs.declared.order.Pick.{Pick}
 
@@ -125,7 +125,7 @@ module _ (c : Course) (pick : Pick) (b : Branch) (n : ℕ) (side : Side) (part :
           | inr same ↦ (other, below, by_alike other fact step alike (subst (λ i. By i step) same e.2))
         ]) before
 
-    passed : (fact : ℕ) (deeper tried : List ℕ) (old mid : Option Batch) → IsPassed b side part Live row table deeper tried fact → deeper ≡ chosen ++ fact ∷ [] →
+    passed : (fact : ℕ) (deeper tried : List ℕ) (old mid : Option Batch) → IsPassedOver b side part Live row table deeper tried fact → deeper ≡ chosen ++ fact ∷ [] →
         All (λ other. other < fact) tried → Improves c pick (Upto By fact) old mid → Improves c pick (Upto By (fact + 1)) old mid
     passed fact deeper tried old mid (inl (inl other)) are below before = none_by fact old mid (λ step e. other e.0) before
     passed fact deeper tried old mid (inl (inr gone)) are below before =
@@ -133,7 +133,7 @@ module _ (c : Course) (pick : Pick) (b : Branch) (n : ℕ) (side : Side) (part :
     passed fact deeper tried old mid (inr (k, other, inside, at, alike)) are below before =
         alike_by fact other old mid (All-contains (λ x. x < fact) tried other below (k, inside, at)) alike before
 
-    pub spread_passed : (fact : ℕ) (deeper tried : List ℕ) (old mid last : Option Batch) → last ≡ mid → IsPassed b side part Live row table deeper tried fact → deeper ≡ chosen ++ fact ∷ [] →
+    pub spread_passed : (fact : ℕ) (deeper tried : List ℕ) (old mid last : Option Batch) → last ≡ mid → IsPassedOver b side part Live row table deeper tried fact → deeper ≡ chosen ++ fact ∷ [] →
         All (λ other. other < fact) tried → Improves c pick (Upto By fact) old mid → Improves c pick (Upto By (fact + 1)) old last
     spread_passed fact deeper tried old mid last same is are below before =
         subst (Improves c pick (Upto By (fact + 1)) old) (sym same) (passed fact deeper tried old mid is are below before)
@@ -285,7 +285,7 @@ module _ (c : Course) (pick : Pick) (b : Branch) (n : ℕ) (cond : Atom) where
         ap (λ rows. term_of rows operand) now
         ∙ (sym (term_beside (map (terms_at b) done) (map (terms_at b) after) (terms_at b y) (terms_at b z) operand no_map) ∙ (ap (λ rows. term_of rows operand) (sym before) ∙ e))
 
-    gives_with : (atom : TermAtom) (y z : ℕ) (after : List ℕ) → (Names (length done) cond → ⊥) → GivesAtom (map (terms_at b) (done ++ y ∷ after)) atom cond →
+    gives_with : (atom : TermAtom) (y z : ℕ) (after : List ℕ) → (NamesPlace (length done) cond → ⊥) → GivesAtom (map (terms_at b) (done ++ y ∷ after)) atom cond →
         GivesAtom (map (terms_at b) (done ++ z ∷ after)) atom cond
     gives_with atom y z after apart gives = record {
       op = gives.op;
@@ -302,7 +302,7 @@ module _ (c : Course) (pick : Pick) (b : Branch) (n : ℕ) (cond : Atom) where
       parted_over : (step : Step) (atom : TermAtom) (facts : List ℕ) → step ≡ steps.Split n atom → IsOverAtom b (fact ∷ rest) done cond atom facts → Any (λ choice. Next choice step) choices
       parted_over step atom facts same h = at h.rest h.facts_are h.like
         where
-          with_ : (y choice : ℕ) (after : List ℕ) → facts ≡ done ++ y ∷ after → Likes b rest after → (choice ≡ y) ⊎ (Names (length done) cond → ⊥) → Next choice step
+          with_ : (y choice : ℕ) (after : List ℕ) → facts ≡ done ++ y ∷ after → Likes b rest after → (choice ≡ y) ⊎ (NamesPlace (length done) cond → ⊥) → Next choice step
           with_ y choice after split like how =
               let gives : GivesAtom (map (terms_at b) (done ++ choice ∷ after)) atom cond =
               elim how [

@@ -15,13 +15,13 @@ use Rattle.ba_kernel.specs.declared.step.Step.{Step}
 use Rattle.ba_kernel.specs.declared.step.Step.TheVariants as steps
 use Rattle.ba_instant.proofs.DueLemmas.{round_in, round_on}
 use Rattle.ba_instant.proofs.LateLemmas.{improves_behind, untimely_reaches, untimely_some}
-use Rattle.ba_instant.proofs.LookLemmas.{recent_or, telling_late}
+use Rattle.ba_instant.proofs.ScanLemmas.{recent_or, telling_late}
 use Rattle.ba_instant.proofs.MapLemmas.{By, From, by_from, from_by}
 use Rattle.ba_instant.proofs.OfferLemmas.{improves_as, improves_next}
-use Rattle.ba_instant.specs.Looks.{AreOld, IsLook, IsTimelyOf, TellsOf, least_round}
-use Rattle.ba_instant.specs.Offers.{Improves, IsFound, IsNewIn, IsRoundIn, IsTelling, OfAny, Reaches, Upto, fact_round, step_of}
+use Rattle.ba_instant.specs.Scans.{AreOld, IsScanOf, IsTimelyOf, TellsOf, least_round}
+use Rattle.ba_instant.specs.Offers.{Improves, IsNewOf, IsNewIn, IsRoundIn, IsTelling, OfAny, Reaches, Upto, fact_round, step_of}
 use Rattle.ba_instant.specs.declared.batch.Batch.{Batch}
-use Rattle.ba_instant.specs.declared.found.Found.{Found}
+use Rattle.ba_instant.specs.declared.scan.NewStep.{NewStep}
 use Rattle.ba_instant.specs.declared.mapped.Form.{Form}
 use Rattle.ba_instant.specs.declared.mapped.Form.TheVariants.{OfRule, OfView, OfGoal}
 use Rattle.ba_instant.specs.declared.order.Pick.{Pick}
@@ -63,7 +63,7 @@ form_least c b n (OfRule rule part) facts round is = omega (arith, is)
 form_least c b n (OfView view part) facts round is = omega (arith, is)
 form_least c b n (OfGoal part) facts round is = omega arith
 
-module _ (c : Course) (pick : Pick) (b : Branch) (n : ℕ) (form : Form) (side : Side) (part : Part) (quiet : ℕ) (recent : List ℕ) (look : IsLook c n b quiet recent) where
+module _ (c : Course) (pick : Pick) (b : Branch) (n : ℕ) (form : Form) (side : Side) (part : Part) (quiet : ℕ) (recent : List ℕ) (look : IsScanOf c n b quiet recent) where
   -- its round is at least so much
   pub least_late : (facts : List ℕ) (step : Step) (least : ℕ) → step ≡ step_of n form facts → least ≡ least_round b form facts → (round : ℕ) → IsNewIn c step →
       IsRoundIn c step round → least ≤ round
@@ -93,8 +93,8 @@ module _ (c : Course) (pick : Pick) (b : Branch) (n : ℕ) (form : Form) (side :
     One = By c pick b n form side part table rest chosen
 
     -- a step on facts of which this is one
-    late_at : (form : Form) (fact : ℕ) (facts after : List ℕ) (it : Found) (P : Step → Type 0) (best : Option Batch) → it.step ≡ step_of n form facts → facts ≡ chosen ++ fact ∷ after →
-        IsFound c P it → (IsTimelyOf b form fact best → ⊥) → Reaches pick best it
+    late_at : (form : Form) (fact : ℕ) (facts after : List ℕ) (it : NewStep) (P : Step → Type 0) (best : Option Batch) → it.step ≡ step_of n form facts → facts ≡ chosen ++ fact ∷ after →
+        IsNewOf c P it → (IsTimelyOf b form fact best → ⊥) → Reaches pick best it
     late_at (OfRule rule number) fact facts after it P best is are h untimely =
         let on : branch_of it.step ≡ n = ap branch_of is in
         let round : IsRound c.problem b (steps.Rule n rule number facts) it.round = subst (λ s. IsRound c.problem b s it.round) is (round_on c n b look.open_ it.step it.round on h.round_is) in

@@ -12,7 +12,7 @@ use Rattle.ba_instant.specs.Offers.{IsClosing, IsNewIn, IsRoundIn, IsTelling, Of
 use Rattle.ba_instant.specs.Order.{pick_cmp}
 use Rattle.ba_instant.specs.declared.agenda.Agenda.{Agenda}
 use Rattle.ba_instant.specs.declared.batch.Batch.{Batch}
-use Rattle.ba_instant.specs.declared.found.Found.{Found}
+use Rattle.ba_instant.specs.declared.scan.NewStep.{NewStep}
 use Rattle.ba_instant.specs.declared.order.Pick.{Pick}
 
 -- a single step of the list isn't picked after this one, which is single too
@@ -28,7 +28,9 @@ IsListed pick steps step = Contains steps step ⊎ IsStoodFor pick steps step
 
 -- those at the end are picked first
 abbrev pub AreInTurn : Pick → List Step → Type 0
-AreInTurn pick steps = (i j : ℕ) (d : Step) → i ≤ j → j < length steps → pick_cmp pick (slice_index_or steps j d) (slice_index_or steps i d) ≢ Greater
+AreInTurn pick steps =
+    (i j : ℕ) (d : Step) → i ≤ j → j < length steps →
+    pick_cmp pick (slice_index_or steps j d) (slice_index_or steps i d) ≢ Greater
 
 -- the same steps, those at the end to be picked first
 pub record IsInTurn (pick : Pick) (old new : List Step) : Type 0 where
@@ -38,7 +40,8 @@ pub record IsInTurn (pick : Pick) (old new : List Step) : Type 0 where
 -- each fact of a number below the end is there, and of a lesser round than the bound
 pub record AreOlder (b : Branch) (end bound : ℕ) : Type 0 where
   pub within : end ≤ length b.facts
-  pub older : (number : ℕ) (fact : Fact) → number < end → slice_get b.facts number ≡ Some fact → fact.round < bound
+  pub older : (number : ℕ) (fact : Fact) → number < end → slice_get b.facts number ≡ Some fact →
+      fact.round < bound
 
 -- no step that closes the branch is new on it
 abbrev pub IsSilent : Problem → ℕ → Branch → Type 0
@@ -48,11 +51,14 @@ IsSilent p number b = (step : Step) → IsClosing number step → ¬ (IsNewOn p 
 abbrev pub MOST_ROUND : ℕ
 MOST_ROUND = 4294967295
 
--- Of the new steps that tell the branch something none is of a lesser round than the agenda's, and those of its round are listed, those at the end to be picked first.
-pub record IsAgenda (pick : Pick) (p : Problem) (number : ℕ) (b : Branch) (agenda : Agenda) : Type 0 where
+-- Of the new steps that tell the branch something none is of a lesser round than the agenda's, and
+-- those of its round are listed, those at the end to be picked first.
+pub record IsAgenda (pick : Pick) (p : Problem) (number : ℕ) (b : Branch) (agenda : Agenda)
+    : Type 0 where
   pub on : (step : Step) → Contains agenda.steps.items step → branch_of step ≡ number
   pub in_turn : AreInTurn pick agenda.steps.items
-  pub listed : (step : Step) (round : ℕ) → IsTelling number step → IsNewOn p b step → IsRound p b step round → round ≤ agenda.round →
+  pub listed : (step : Step) (round : ℕ) → IsTelling number step → IsNewOn p b step →
+      IsRound p b step round → round ≤ agenda.round →
       (round ≡ agenda.round) × IsListed pick agenda.steps.items step
   pub older : AreOlder b agenda.older (min agenda.round MOST_ROUND)
   pub silent : IsTrue agenda.silent → IsSilent p number b
@@ -71,9 +77,11 @@ pub record IsAgendaOf (pick : Pick) (batch : Batch) (agenda : Agenda) : Type 0 w
   pub in_turn : AreInTurn pick agenda.steps.items
 
 -- the last step with the round, or none where the agenda has none
-abbrev pub IsFirstOf : Agenda → Option Found → Type 0
+abbrev pub IsFirstOf : Agenda → Option NewStep → Type 0
 IsFirstOf agenda None = agenda.steps.items ≡ []
-IsFirstOf agenda (Some it) = (it.round ≡ agenda.round) × (slice_get agenda.steps.items (length agenda.steps.items - 1) ≡ Some it.step)
+IsFirstOf agenda (Some it) =
+    (it.round ≡ agenda.round) ×
+    (slice_get agenda.steps.items (length agenda.steps.items - 1) ≡ Some it.step)
 
 -- the step is new, and of the round
 abbrev pub IsNewHere : Course → ℕ → Step → Type 0
@@ -102,13 +110,18 @@ IsPast round (Some batch) = round < batch.round
 
 -- nothing is left; and it is so up to the round, if what was found is past it
 abbrev pub IsQuietAgenda : ℕ → Option Batch → Agenda → Type 0
-IsQuietAgenda round found agenda = IsNone agenda ⊎ (IsPast round found × (agenda.round ≡ round) × IsBlank agenda)
+IsQuietAgenda round found agenda =
+    IsNone agenda ⊎ (IsPast round found × (agenda.round ≡ round) × IsBlank agenda)
 
 -- the last step is gone, and with a single one all
 abbrev pub IsWithoutLast : Agenda → Agenda → Type 0
-IsWithoutLast old new = IsNone new ⊎ ((new.round ≡ old.round) × (new.steps.items ≡ take (length old.steps.items - 1) old.steps.items) ×
-    ((step : Step) → slice_get old.steps.items (length old.steps.items - 1) ≡ Some step → is_single step ≡ false) × (new.older ≡ old.older) × (new.silent ≡ old.silent))
+IsWithoutLast old new =
+    IsNone new ⊎ ((new.round ≡ old.round) ×
+    (new.steps.items ≡ take (length old.steps.items - 1) old.steps.items) ×
+    ((step : Step) → slice_get old.steps.items (length old.steps.items - 1) ≡ Some step →
+    is_single step ≡ false) × (new.older ≡ old.older) × (new.silent ≡ old.silent))
 
 -- what was an agenda of an open branch is one still
 pub record IsTrimmed (c : Course) (old new : Agenda) : Type 0 where
-  pub keeps : (pick : Pick) (number : ℕ) (b : Branch) → IsOpen c.slots number b → IsAgenda pick c.problem number b old → IsAgenda pick c.problem number b new
+  pub keeps : (pick : Pick) (number : ℕ) (b : Branch) → IsOpen c.slots number b →
+      IsAgenda pick c.problem number b old → IsAgenda pick c.problem number b new

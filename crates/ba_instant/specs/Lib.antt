@@ -7,7 +7,7 @@ pub mod Loose
 pub mod QuietKeys
 pub mod QuietSteps
 pub mod Givens
-pub mod Looks
+pub mod Scans
 pub mod Partners
 pub mod Agendas
 pub mod Nexts

@@ -18,8 +18,10 @@ use Rattle.ba_instant.specs.Windows.{IsQuietUpto}
 
 -- the lesson tells that x plus so much is at most y
 pub data IsRaise (lesson : Lesson) (x : Term) (by : ℤ) (y : Term) : Type 0 where
-  at_most : lesson ≡ Holds (record { op = Le; left = x; right = y }) → by ≡ pos 0 → IsRaise lesson x by y
-  less : lesson ≡ Holds (record { op = Lt; left = x; right = y }) → by ≡ pos 1 → IsRaise lesson x by y
+  at_most : lesson ≡ Holds (record { op = Le; left = x; right = y }) → by ≡ pos 0 →
+      IsRaise lesson x by y
+  less : lesson ≡ Holds (record { op = Lt; left = x; right = y }) → by ≡ pos 1 →
+      IsRaise lesson x by y
 
 -- neither is NULL, and every chain back falls by more
 pub record IsLoose (k : Known) (x : Term) (by : ℤ) (y : Term) : Type 0 where
@@ -40,13 +42,20 @@ IsLooseAtom k atom = IsLooseOf k atom.op atom.left atom.right
 
 -- a step by an entry, a link or a key, or a split
 abbrev pub IsBeside : ℕ → Step → Type 0
-IsBeside number step = ((IsEntryOf number step ⊎ IsLinkStep number step) ⊎ IsKeyStep number step) ⊎ IsSplitStep number step
+IsBeside number step =
+    ((IsEntryOf number step ⊎ IsLinkStep number step) ⊎ IsKeyStep number step) ⊎
+    IsSplitStep number step
 
 -- none of these is new there whose round is at most the bound
 abbrev pub IsQuietBeside : Problem → Branch → ℕ → ℕ → Type 0
-IsQuietBeside p b number bound = (step : Step) (round : ℕ) → IsBeside number step → IsNewOn p b step → IsRound p b step round → bound < round
+IsQuietBeside p b number bound =
+    (step : Step) (round : ℕ) → IsBeside number step → IsNewOn p b step → IsRound p b step round →
+    bound < round
 
--- A branch that is told a loose comparison stays as quiet, but maybe for steps by rules and views, whatever its number is then.
+-- A branch that is told a loose comparison stays as quiet, but maybe for steps by rules and views,
+-- whatever its number is then.
 abbrev pub LooseStays : Type 0
-LooseStays = (p : Problem) (b : Branch) (lesson : Lesson) (x : Term) (by : ℤ) (y : Term) (number other bound : ℕ) → IsRaise lesson x by y → IsLoose b.known x by y →
+LooseStays =
+    (p : Problem) (b : Branch) (lesson : Lesson) (x : Term) (by : ℤ) (y : Term)
+    (number other bound : ℕ) → IsRaise lesson x by y → IsLoose b.known x by y →
     IsQuietUpto p b number bound → IsQuietBeside p (with_lessons b (lesson ∷ [])) other bound

@@ -30,9 +30,10 @@ use Rattle.ba_kernel.specs.declared.step.Step.TheVariants as steps
 use Rattle.ba_instant.specs.Dues.{IsDue}
 use Rattle.ba_instant.specs.Order.{pick_cmp}
 use Rattle.ba_instant.specs.declared.batch.Batch.{Batch}
-use Rattle.ba_instant.specs.declared.found.Found.{Found}
+use Rattle.ba_instant.specs.declared.scan.NewStep.{NewStep}
 use Rattle.ba_instant.specs.declared.mapped.Form.{Form}
 use Rattle.ba_instant.specs.declared.mapped.Form.TheVariants.{OfRule, OfView, OfGoal}
+use Rattle.ba_instant.specs.declared.mapped.Mapped.{Mapped}
 use Rattle.ba_instant.specs.declared.order.Pick.{Pick}
 
 -- ---- the first of the new steps
@@ -62,51 +63,55 @@ is_single (steps.Absurd branch) = true
 is_single (steps.Goal branch part facts) = true
 
 -- there is one, and this one isn't picked before it
-abbrev pub Leads : Pick → Option Step → Step → Type 0
-Leads pick None step = ⊥
-Leads pick (Some first) step = is_gt (pick_cmp pick first step) ≡ false
+abbrev pub HasEarlier : Pick → Option Step → Step → Type 0
+HasEarlier pick None step = ⊥
+HasEarlier pick (Some first) step = is_gt (pick_cmp pick first step) ≡ false
 
 -- it is in the batch; or it is a single one, and the batch has one that isn't picked after it
 abbrev pub IsHeld : Pick → Batch → Step → Type 0
-IsHeld pick batch step = Contains batch.steps step ⊎ (IsTrue (is_single step) × Leads pick batch.single step)
+IsHeld pick batch step =
+    Contains batch.steps step ⊎ (IsTrue (is_single step) × HasEarlier pick batch.single step)
 
 -- there is a batch, of a lesser round or of the same with the step
-abbrev pub Reaches : Pick → Option Batch → Found → Type 0
+abbrev pub Reaches : Pick → Option Batch → NewStep → Type 0
 Reaches pick None it = ⊥
-Reaches pick (Some batch) it = (batch.round < it.round) ⊎ ((batch.round ≡ it.round) × IsHeld pick batch it.step)
+Reaches pick (Some batch) it =
+    (batch.round < it.round) ⊎ ((batch.round ≡ it.round) × IsHeld pick batch it.step)
 
 -- one of the batch
 abbrev pub Offers : Batch → Step → Type 0
 Offers batch step = Contains batch.steps step ⊎ (batch.single ≡ Some step)
 
-abbrev pub IsOffered : Option Batch → Found → Type 0
+abbrev pub IsOffered : Option Batch → NewStep → Type 0
 IsOffered None it = ⊥
 IsOffered (Some batch) it = (batch.round ≡ it.round) × Offers batch it.step
 
 -- it isn't empty, and its single step is one
-pub record IsWhole (batch : Batch) : Type 0 where
+pub record IsWholeBatch (batch : Batch) : Type 0 where
   pub step : Step
   pub there : Offers batch step
   pub single : (it : Step) → batch.single ≡ Some it → IsTrue (is_single it)
 
-abbrev pub IsFilled : Option Batch → Type 0
-IsFilled None = Unit {0}
-IsFilled (Some batch) = IsWhole batch
+abbrev pub IsWholeIfAny : Option Batch → Type 0
+IsWholeIfAny None = Unit {0}
+IsWholeIfAny (Some batch) = IsWholeBatch batch
 
 -- a new step of the set, with its round
-pub record IsFound (c : Course) (P : Step → Type 0) (it : Found) : Type 0 where
+pub record IsNewOf (c : Course) (P : Step → Type 0) (it : NewStep) : Type 0 where
   pub of : P it.step
   pub new_ : IsNewIn c it.step
   pub round_is : IsRoundIn c it.step it.round
 
--- Of the steps before and the new ones of the set, it has all of the least round; of the single ones the first that is picked.
-pub record Improves (c : Course) (pick : Pick) (P : Step → Type 0) (old new : Option Batch) : Type 0 where
-  pub from : (it : Found) → IsOffered new it → IsOffered old it ⊎ IsFound c P it
-  pub keeps : (it : Found) → Reaches pick old it → Reaches pick new it
-  pub reaches : (it : Found) → IsFound c P it → Reaches pick new it
+-- Of the steps before and the new ones of the set, it has all of the least round; of the single
+-- ones the first that is picked.
+pub record Improves (c : Course) (pick : Pick) (P : Step → Type 0) (old new : Option Batch)
+    : Type 0 where
+  pub from : (it : NewStep) → IsOffered new it → IsOffered old it ⊎ IsNewOf c P it
+  pub keeps : (it : NewStep) → Reaches pick old it → Reaches pick new it
+  pub reaches : (it : NewStep) → IsNewOf c P it → Reaches pick new it
   pub finds : (step : Step) → P step → IsNewIn c step → new ≢ None
   pub stays : old ≢ None → new ≢ None
-  pub filled : IsFilled old → IsFilled new
+  pub filled : IsWholeIfAny old → IsWholeIfAny new
 
 -- ---- a batch with one more step
 
@@ -121,8 +126,11 @@ first_single pick (Some best) step = first_by (is_gt (pick_cmp pick best step)) 
 
 -- a single one, or another
 abbrev pub with_step_by : Bool → Pick → Batch → Step → Batch
-with_step_by true pick batch step = record { round = batch.round; steps = batch.steps; single = first_single pick batch.single step }
-with_step_by false pick batch step = record { round = batch.round; steps = batch.steps ++ step ∷ []; single = batch.single }
+with_step_by true pick batch step =
+    let first = first_single pick batch.single step in
+    record { round = batch.round; steps = batch.steps; single = first }
+with_step_by false pick batch step =
+    record { round = batch.round; steps = batch.steps ++ step ∷ []; single = batch.single }
 
 abbrev pub with_step : Pick → Batch → Step → Batch
 with_step pick batch step = with_step_by (is_single step) pick batch step
@@ -130,16 +138,16 @@ with_step pick batch step = with_step_by (is_single step) pick batch step
 abbrev pub empty_batch : ℕ → Batch
 empty_batch round = record { round = round; steps = []; single = None }
 
-abbrev pub batch_of : Pick → Found → Batch
+abbrev pub batch_of : Pick → NewStep → Batch
 batch_of pick it = with_step pick (empty_batch it.round) it.step
 
 -- a step of a lesser round begins anew, one of the same round joins, one of a greater is left out
-abbrev pub with_found_by : Ordering → Pick → Batch → Found → Batch
+abbrev pub with_found_by : Ordering → Pick → Batch → NewStep → Batch
 with_found_by Less pick batch it = batch_of pick it
 with_found_by Equal pick batch it = with_step pick batch it.step
 with_found_by Greater pick batch it = batch
 
-abbrev pub with_found : Pick → Option Batch → Found → Option Batch
+abbrev pub with_found : Pick → Option Batch → NewStep → Option Batch
 with_found pick None it = Some (batch_of pick it)
 with_found pick (Some batch) it = Some (with_found_by (nat_cmp it.round batch.round) pick batch it)
 
@@ -196,7 +204,8 @@ step_of number (OfGoal part) facts = steps.Goal number part facts
 
 -- of facts that pass the part's tests on the side
 abbrev pub IsMapped : Branch → ℕ → Form → Side → Part → Step → Type 0
-IsMapped b number form side part step = (facts : List ℕ) × (step ≡ step_of number form facts) × FactsPass b side part facts
+IsMapped b number form side part step =
+    (facts : List ℕ) × (step ≡ step_of number form facts) × FactsPass b side part facts
 
 -- both terms are there, and the atom isn't shown
 abbrev pub IsHidden : Known → List (List Term) → Atom → Type 0
@@ -204,7 +213,17 @@ IsHidden k rows atom = Under (λ op a b. ¬ (ShowsOf k op a b)) rows atom
 
 -- of the chosen facts and one of each of these tables that together show the part's atoms
 abbrev pub IsMappedFrom : Branch → ℕ → Form → Side → Part → List ℕ → List ℕ → Step → Type 0
-IsMappedFrom b number form side part from chosen step = (facts : List ℕ) × (step ≡ step_of number form facts) × Completes b side part Shown from chosen facts
+IsMappedFrom b number form side part from chosen step =
+    (facts : List ℕ) × (step ≡ step_of number form facts) ×
+    Completes b side part Shown from chosen facts
+
+-- the steps of a mapped part, and those on the chosen facts and one of each of these tables
+abbrev pub IsStepOf : Mapped → Step → Type 0
+IsStepOf it = IsMapped it.scan.now.branch.now it.scan.now.number it.form it.side it.part.now
+
+abbrev pub IsStepFrom : Mapped → List ℕ → List ℕ → Step → Type 0
+IsStepFrom it from chosen =
+    IsMappedFrom it.scan.now.branch.now it.scan.now.number it.form it.side it.part.now from chosen
 
 -- of the form, on any facts
 abbrev pub IsOfForm : ℕ → Form → Step → Type 0
@@ -212,7 +231,8 @@ IsOfForm number form step = (facts : List ℕ) × (step ≡ step_of number form 
 
 -- of facts of either side that pass the part's tests
 abbrev pub IsOfSides : Branch → ℕ → Form → Part → Step → Type 0
-IsOfSides b number form part step = IsMapped b number form One part step ⊎ IsMapped b number form Two part step
+IsOfSides b number form part step =
+    IsMapped b number form One part step ⊎ IsMapped b number form Two part step
 
 abbrev pub IsOfRule : ℕ → ℕ → Step → Type 0
 IsOfRule number rule step = (part : ℕ) × IsOfForm number (OfRule rule part) step
@@ -236,13 +256,17 @@ IsSplitStep number step = (atom : TermAtom) × (step ≡ steps.Split number atom
 
 -- by what the part's atom is over the facts
 abbrev pub IsSplitOfAtom : Branch → ℕ → List ℕ → Atom → Step → Type 0
-IsSplitOfAtom b number facts cond step = (atom : TermAtom) × (step ≡ steps.Split number atom) × GivesAtom (map (terms_at b) facts) atom cond
+IsSplitOfAtom b number facts cond step =
+    (atom : TermAtom) × (step ≡ steps.Split number atom) ×
+    GivesAtom (map (terms_at b) facts) atom cond
 
 -- by an atom that some facts have by P
 abbrev pub IsSplitBy : (TermAtom → List ℕ → Type 0) → ℕ → Step → Type 0
-IsSplitBy P number step = (atom : TermAtom) × (step ≡ steps.Split number atom) × (facts : List ℕ) × P atom facts
+IsSplitBy P number step =
+    (atom : TermAtom) × (step ≡ steps.Split number atom) × (facts : List ℕ) × P atom facts
 
--- by an atom of a live mapping of the part, of one of the parts, each with the row for its head if there is one; of one to either side, of a view's, of a rule's
+-- by an atom of a live mapping of the part, of one of the parts, each with the row for its head if
+-- there is one; of one to either side, of a view's, of a rule's
 abbrev pub IsSplitOfPart : Branch → ℕ → Side → Option (List Term) → Part → Step → Type 0
 IsSplitOfPart b number side row part step = IsSplitBy (IsLiveAtom b side part row) number step
 
@@ -270,7 +294,9 @@ IsClosing number step = (step ≡ steps.Absurd number) ⊎ IsGoalStep number ste
 
 -- one that tells the branch something, or splits it
 abbrev pub IsTelling : ℕ → Step → Type 0
-IsTelling number step = ((((IsEntryOf number step ⊎ IsLinkStep number step) ⊎ IsKeyStep number step) ⊎ IsRuleStep number step) ⊎ IsViewStep number step) ⊎ IsSplitStep number step
+IsTelling number step =
+    ((((IsEntryOf number step ⊎ IsLinkStep number step) ⊎ IsKeyStep number step) ⊎
+    IsRuleStep number step) ⊎ IsViewStep number step) ⊎ IsSplitStep number step
 
 -- one by a rule or a view; or by a key
 abbrev pub IsByMapping : ℕ → Step → Type 0
@@ -280,13 +306,14 @@ abbrev pub IsTaught : ℕ → Step → Type 0
 IsTaught number step = IsKeyStep number step ⊎ IsByMapping number step
 
 -- The due step that is picked on the branch with its round, or none where no step on it is new.
-pub record IsDueOn (c : Course) (pick : Pick) (number : ℕ) (it : Found) : Type 0 where
+pub record IsDueOn (c : Course) (pick : Pick) (number : ℕ) (it : NewStep) : Type 0 where
   pub on : branch_of it.step ≡ number
   pub due : IsDue c.problem c.slots it.step
-  pub first : (other : Step) → branch_of other ≡ number → IsDue c.problem c.slots other → pick_cmp pick it.step other ≢ Greater
+  pub first : (other : Step) → branch_of other ≡ number → IsDue c.problem c.slots other →
+      pick_cmp pick it.step other ≢ Greater
   pub round_is : IsRoundIn c it.step it.round
 
-abbrev pub IsDueIfAny : Course → Pick → ℕ → Option Found → Type 0
+abbrev pub IsDueIfAny : Course → Pick → ℕ → Option NewStep → Type 0
 IsDueIfAny c pick number None = (step : Step) → branch_of step ≡ number → ¬ (IsNewIn c step)
 IsDueIfAny c pick number (Some it) = IsDueOn c pick number it
 

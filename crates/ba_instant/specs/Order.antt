@@ -41,7 +41,9 @@ term_value (Var n) = None
 
 -- by kind, then by number, or for literals by value
 abbrev pub term_cmp : Term → Term → Ordering
-term_cmp = then_cmp (then_cmp (on term_rank nat_cmp) (on term_number nat_cmp)) (on term_value (option_cmp value_cmp))
+term_cmp =
+    then_cmp (then_cmp (on term_rank nat_cmp) (on term_number nat_cmp))
+    (on term_value (option_cmp value_cmp))
 
 abbrev pub op_rank : Op → ℕ
 op_rank Eq = 0
@@ -53,7 +55,9 @@ op_rank NotNull = 5
 
 -- by the comparison, then by the left and the right term
 abbrev pub atom_cmp : TermAtom → TermAtom → Ordering
-atom_cmp = then_cmp (then_cmp (on (λ atom. op_rank atom.op) nat_cmp) (on (λ atom. atom.left) term_cmp)) (on (λ atom. atom.right) term_cmp)
+atom_cmp =
+    then_cmp (then_cmp (on (λ atom. op_rank atom.op) nat_cmp) (on (λ atom. atom.left) term_cmp))
+    (on (λ atom. atom.right) term_cmp)
 
 -- ---- steps
 
@@ -67,7 +71,8 @@ step_rank (steps.Split branch atom) = 5
 step_rank (steps.Absurd branch) = 6
 step_rank (steps.Goal branch part facts) = 7
 
--- what stands behind the branch and before the list of facts, from left to right, and 0 where nothing stands
+-- what stands behind the branch and before the list of facts, from left to right, and 0 where
+-- nothing stands
 abbrev pub step_numbers : Step → ℕ × ℕ × ℕ
 step_numbers (steps.Entry branch entry) = (entry, 0, 0)
 step_numbers (steps.Key branch key left right) = (key, left, right)
@@ -105,10 +110,12 @@ kind_cmp = then_cmp (on branch_of nat_cmp) (on step_rank nat_cmp)
 -- by the numbers from left to right
 abbrev pub numbers_cmp : Step → Step → Ordering
 numbers_cmp =
-    then_cmp (then_cmp (then_cmp (on (λ s. (step_numbers s).0) nat_cmp) (on (λ s. (step_numbers s).1) nat_cmp)) (on (λ s. (step_numbers s).2) nat_cmp))
+    then_cmp (then_cmp (then_cmp (on (λ s. (step_numbers s).0) nat_cmp)
+    (on (λ s. (step_numbers s).1) nat_cmp)) (on (λ s. (step_numbers s).2) nat_cmp))
     (on step_facts (slice_cmp nat_cmp))
 
--- The order of steps: by branch, then by kind, then by their numbers from left to right; splits by their atoms.
+-- The order of steps: by branch, then by kind, then by their numbers from left to right; splits by
+-- their atoms.
 unfoldable pub step_cmp : Step → Step → Ordering
 step_cmp = then_cmp (then_cmp kind_cmp numbers_cmp) (on step_atom (option_cmp atom_cmp))
 

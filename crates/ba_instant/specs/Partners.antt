@@ -5,7 +5,7 @@ use Rattle.ba_facts.specs.Laid.{IsTermOf}
 use Rattle.ba_facts.specs.declared.branch.Branch.{Branch}
 use Rattle.ba_facts.specs.declared.term.Fact.{Fact}
 use Rattle.ba_kernel.specs.Effects.{AreEqualAt}
-use Rattle.ba_instant.specs.Looks.{ShareKey}
+use Rattle.ba_instant.specs.Scans.{ShareKey}
 
 -- each fact that passes the test of some key with the one is one of these
 abbrev pub ArePartners : Schema → Branch → ℕ → List ℕ → Type 0

@@ -1,4 +1,5 @@
--- Steps by keys on side Two that tell only of unknowns of which nothing was learned, and which no later step asks for.
+-- Steps by keys on side Two that tell only of unknowns of which nothing was learned, and which no
+-- later step asks for.
 use Rattle.std.specs.Prelude.{◌≡◌, ◌⊎◌, ℕ, List, [], ◌∷◌, All, Any, Option, Some, None, false, if◌then◌else◌, nat_eq, slice_get}
 use Rattle.std.specs.List.{AllZip, zip}
 use Rattle.ba_model.specs.declared.query.Atom.{Atom}
@@ -60,13 +61,15 @@ LessonStays moves (Holds atom) = IsUnmoved moves atom.left × IsUnmoved moves at
 
 -- in none of these columns of the row
 abbrev pub ColumnsStay : List Move → List Term → List ℕ → Type 0
-ColumnsStay moves terms columns = All (λ (column : ℕ). IsUnmovedIf moves (slice_get terms column)) columns
+ColumnsStay moves terms columns =
+    All (λ (column : ℕ). IsUnmovedIf moves (slice_get terms column)) columns
 
 -- ---- where no question asks for them
 
 -- what the operand stands for, as far as the row at the place tells it
 abbrev pub term_at : ℕ → List Term → Operand → Option Term
-term_at place row (operands.Col other column) = if nat_eq other place then slice_get row column else None
+term_at place row (operands.Col other column) =
+    if nat_eq other place then slice_get row column else None
 term_at place row (operands.Val v) = Some (Val v)
 term_at place row (operands.Param n) = Some (Param n)
 term_at place row (operands.Var n) = Some (Var n)
@@ -83,46 +86,59 @@ abbrev pub IsEquation : Atom → Type 0
 IsEquation atom = atom.op ≡ Eq
 
 -- the atom is an equation whose sides are apart in the row at the place
-abbrev pub FailsAt : Known → List Move → ℕ → List Term → Atom → Type 0
-FailsAt k moves place row atom = IsEquation atom × AreApart k moves (term_at place row atom.left) (term_at place row atom.right)
+abbrev pub FailsOnRow : Known → List Move → ℕ → List Term → Atom → Type 0
+FailsOnRow k moves place row atom =
+    IsEquation atom × AreApart k moves (term_at place row atom.left) (term_at place row atom.right)
 
 -- a column of a head there, and that of a row, are apart
 abbrev pub GivesAnother : Known → List Move → ℕ → List Term → Operand × Term → Type 0
 GivesAnother k moves place row (operand, t) = AreApart k moves (term_at place row operand) (Some t)
 
--- so it is of an atom of the part, or of a column of its head and of the row that is asked for, if one is
+-- so it is of an atom of the part, or of a column of its head and of the row that is asked for, if
+-- one is
 abbrev pub KeepsOut : Known → List Move → List Term → Part → ℕ → List Term → Type 0
-KeepsOut k moves asked part place row = Any (FailsAt k moves place row) part.conds ⊎ Any (GivesAnother k moves place row) (zip part.head asked)
+KeepsOut k moves asked part place row =
+    Any (FailsOnRow k moves place row) part.conds ⊎
+    Any (GivesAnother k moves place row) (zip part.head asked)
 
 abbrev pub UnmovedSides : List Move → ℕ → List Term → Atom → Type 0
-UnmovedSides moves place row atom = IsUnmovedIf moves (term_at place row atom.left) × IsUnmovedIf moves (term_at place row atom.right)
+UnmovedSides moves place row atom =
+    IsUnmovedIf moves (term_at place row atom.left) ×
+    IsUnmovedIf moves (term_at place row atom.right)
 
 -- the part reads no moved unknown of the row at the place
-pub record ReadsUnmoved (moves : List Move) (part : Part) (place : ℕ) (row : List Term) : Type 0 where
+pub record ReadsUnmoved (moves : List Move) (part : Part) (place : ℕ) (row : List Term)
+    : Type 0 where
   pub conds : All (UnmovedSides moves place row) part.conds
   pub head : All (λ (x : Operand). IsUnmovedIf moves (term_at place row x)) part.head
 
 abbrev pub LeavesRow : Known → List Move → List Term → Part → ℕ → List Term → Type 0
-LeavesRow k moves asked part place row = ReadsUnmoved moves part place row ⊎ KeepsOut k moves asked part place row
+LeavesRow k moves asked part place row =
+    ReadsUnmoved moves part place row ⊎ KeepsOut k moves asked part place row
 
 -- so it is of the fact wherever its table stands in the part
 unfoldable pub LeavesFact : Known → List Move → List Term → Fact → Part → Type 0
-LeavesFact k moves asked fact part = (place : ℕ) → slice_get part.from place ≡ Some fact.table → LeavesRow k moves asked part place fact.terms
+LeavesFact k moves asked fact part =
+    (place : ℕ) → slice_get part.from place ≡ Some fact.table →
+    LeavesRow k moves asked part place fact.terms
 
--- the part has equations alone, which no split is by, or leaves the fact where it gives the goal row
+-- the part has equations alone, which no split is by, or leaves the fact where it gives the goal
+-- row
 unfoldable pub GoalLeaves : Branch → List Move → Fact → Part → Type 0
 GoalLeaves b moves fact part = All IsEquation part.conds ⊎ LeavesFact b.known moves b.goal fact part
 
 -- neither the question nor a rule's left query asks for a moved unknown of the fact
-pub record IsLeft (p : Problem) (b : Branch) (moves : List Move) (fact : Fact) : Type 0 where
+pub record IsUnasked (p : Problem) (b : Branch) (moves : List Move) (fact : Fact) : Type 0 where
   pub goal : All (GoalLeaves b moves fact) p.goal.parts
-  pub rules : All (λ (rule : Rule). All (LeavesFact b.known moves [] fact) rule.left.parts) p.policy.schema.rules
+  pub rules : All (λ (rule : Rule). All (LeavesFact b.known moves [] fact) rule.left.parts)
+      p.policy.schema.rules
 
 -- ---- facts in which they may stand
 
--- the fact is on side Two, they stand in no column of a key or a link, and nothing else asks for them
+-- the fact is on side Two, they stand in no column of a key or a link, and nothing else asks for
+-- them
 pub record IsFree (p : Problem) (b : Branch) (moves : List Move) (fact : Fact) : Type 0 where
-  pub left : IsLeft p b moves fact
+  pub left : IsUnasked p b moves fact
   pub side : fact.side ≡ Two
   pub table : Table
   pub table_is : slice_get p.policy.schema.tables fact.table ≡ Some table
@@ -145,9 +161,11 @@ IsFilledBy k move = IsFilledIf k move.term (slice_get k.unknowns move.unknown)
 
 -- of the terms that stand for theirs the two rows are of one class, column by column
 abbrev pub AreOne : Known → List Move → List Term → List Term → Type 0
-AreOne k moves left right = AllZip (λ (a c : Term). OneClass k (stand_in moves a) (stand_in moves c)) left right
+AreOne k moves left right =
+    AllZip (λ (a c : Term). OneClass k (stand_in moves a) (stand_in moves c)) left right
 
--- the moves are of unknowns that stand in no lesson, not in the goal row, and on side Two alone, where nothing asks for them
+-- the moves are of unknowns that stand in no lesson, not in the goal row, and on side Two alone,
+-- where nothing asks for them
 pub record AreQuietMoves (p : Problem) (b : Branch) (moves : List Move) : Type 0 where
   pub lessons : All (LessonStays moves) b.known.learned
   pub goal : All (IsUnmoved moves) b.goal

@@ -46,8 +46,10 @@ pub record IsOneWith (k : Known) (o : Option Term) (t : Term) : Type 0 where
   pub is : o ≡ Some term
   pub class : OneClass k term t
 
--- a row for each table of the part; what its atoms tell of them is known, and they give a row of the same classes
-pub record GivesRow (s : Schema) (b : Branch) (part : Part) (rows : List (List Term)) (row : List Term) : Type 0 where
+-- a row for each table of the part; what its atoms tell of them is known, and they give a row of
+-- the same classes
+pub record GivesRow (s : Schema) (b : Branch) (part : Part) (rows : List (List Term))
+    (row : List Term) : Type 0 where
   pub rows_for : AllZip (IsRowFor s b.known) part.from rows
   pub told : All (Under (IsToldOf b.known) rows) part.conds
   pub head : AllZip (IsOneWith b.known) (map (term_of rows) part.head) row
@@ -58,7 +60,8 @@ pub record FactsAreFilled (s : Schema) (b : Branch) : Type 0 where
 
 -- ---- steps
 
--- what is shown is known as lessons tell it: equal terms are of one class, and unequal ones were learned to be so
+-- what is shown is known as lessons tell it: equal terms are of one class, and unequal ones were
+-- learned to be so
 abbrev pub IsPlain : Known → Op → Term → Term → Type 0
 IsPlain k Eq a b = OneClass k a b
 IsPlain k Ne a b = RecordedApart k a b
@@ -145,15 +148,21 @@ AddsToOneAt (Some b) step = AddsToOne b step
 
 -- the facts of each open branch of a course are filled
 abbrev pub RunsAreFilled : Type 0
-RunsAreFilled = (p : Problem) (taken : List Step) (slots : Slots) (number : ℕ) (b : Branch) → Runs p taken slots → IsOpen slots number b → FactsAreFilled p.policy.schema b
+RunsAreFilled =
+    (p : Problem) (taken : List Step) (slots : Slots) (number : ℕ) (b : Branch) →
+    Runs p taken slots → IsOpen slots number b → FactsAreFilled p.policy.schema b
 
 -- a case of a row that some rows of terms give already grows quietly
 abbrev pub GivenCaseIsQuiet : Type 0
-GivenCaseIsQuiet = (s : Schema) (b c : Branch) (side : Side) (round : ℕ) (part : Part) (rows : List (List Term)) (row : List Term) →
-    All (IsThere b.known) row → GivesRow s b part rows row → IsCase s b side round row part c → GrowsQuietly round b c
+GivenCaseIsQuiet =
+    (s : Schema) (b c : Branch) (side : Side) (round : ℕ) (part : Part) (rows : List (List Term))
+    (row : List Term) →
+    All (IsThere b.known) row → GivesRow s b part rows row → IsCase s b side round row part c →
+    GrowsQuietly round b c
 
 -- the step is accepted, and leads from b to c at its number; it is quiet, and has this round
-pub record TakesQuietly (p : Problem) (taken : List Step) (step : Step) (old new : Slots) (b c : Branch) (round : ℕ) : Type 0 where
+pub record TakesQuietly (p : Problem) (taken : List Step) (step : Step) (old new : Slots)
+    (b c : Branch) (round : ℕ) : Type 0 where
   pub runs : Runs p taken old
   pub takes : Takes p old step new
   pub from : IsOpen old (branch_of step) b
@@ -163,11 +172,17 @@ pub record TakesQuietly (p : Problem) (taken : List Step) (step : Step) (old new
 
 -- What is new after a quiet step, of a round up to the step's, was new before, of the same round.
 abbrev pub NewAfterQuietStep : Type 0
-NewAfterQuietStep = (p : Problem) (taken : List Step) (step : Step) (old new : Slots) (b c : Branch) (round : ℕ) (other : Step) (its_round : ℕ) → ProblemFits p →
-    TakesQuietly p taken step old new b c round → IsTelling (branch_of step) other → IsNewOn p c other → IsRound p c other its_round → its_round ≤ round →
+NewAfterQuietStep =
+    (p : Problem) (taken : List Step) (step : Step) (old new : Slots) (b c : Branch) (round : ℕ)
+    (other : Step) (its_round : ℕ) → ProblemFits p →
+    TakesQuietly p taken step old new b c round → IsTelling (branch_of step) other →
+    IsNewOn p c other → IsRound p c other its_round → its_round ≤ round →
     IsNewOn p b other × IsRound p b other its_round
 
 -- After a quiet step the branch of its number stays quiet up to each round before the step's.
 abbrev pub QuietStepKeeps : Type 0
-QuietStepKeeps = (p : Problem) (taken : List Step) (step : Step) (old new : Slots) (b c : Branch) (round bound : ℕ) → ProblemFits p →
-    TakesQuietly p taken step old new b c round → bound ≤ round → IsQuietUpto p b (branch_of step) bound → IsQuietUpto p c (branch_of step) bound
+QuietStepKeeps =
+    (p : Problem) (taken : List Step) (step : Step) (old new : Slots) (b c : Branch)
+    (round bound : ℕ) → ProblemFits p →
+    TakesQuietly p taken step old new b c round → bound ≤ round →
+    IsQuietUpto p b (branch_of step) bound → IsQuietUpto p c (branch_of step) bound

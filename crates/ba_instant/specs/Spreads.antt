@@ -20,8 +20,11 @@ use Rattle.ba_facts.specs.declared.term.Side.TheVariants.{Two}
 use Rattle.ba_facts.specs.declared.term.Term.{Term}
 use Rattle.ba_facts.specs.declared.term.TermAtom.{TermAtom}
 use Rattle.ba_kernel.specs.declared.step.Step.{Step}
+use Rattle.std.specs.Option.{option_copied}
 use Rattle.ba_facts.specs.Alike.{AreAlike}
-use Rattle.ba_instant.specs.Offers.{IsSplitBy}
+use Rattle.ba_instant.specs.Offers.{IsSplitBy, IsSplitOfPart}
+use Rattle.ba_instant.specs.declared.reach.Reach.{Reach}
+use Rattle.ba_instant.specs.declared.spread.Spread.{Spread}
 
 -- ---- lists of facts
 
@@ -42,31 +45,70 @@ pub record AreLikes (b : Branch) (fact : ℕ) (likes : List ℕ) : Type 0 where
 
 -- ---- a part's live mappings, but for facts that are alike
 
--- of such a mapping with the row for its head the first facts are like the chosen ones, the others of these tables; and it has the atom
-pub record IsSpreadAtom (b : Branch) (side : Side) (part : Part) (row : Option (List Term)) (from chosen : List ℕ) (atom : TermAtom) (facts : List ℕ) : Type 0 where
+-- of such a mapping with the row for its head the first facts are like the chosen ones, the others
+-- of these tables; and it has the atom
+pub record IsSpreadAtom (b : Branch) (side : Side) (part : Part) (row : Option (List Term))
+    (from chosen : List ℕ) (atom : TermAtom) (facts : List ℕ) : Type 0 where
   pub front : List ℕ
   pub like : AllZip (IsLike b) chosen front
   pub has : HasAtomFrom b side part Live row atom from front facts
 
-abbrev pub IsSpread : Branch → ℕ → Side → Part → Option (List Term) → List ℕ → List ℕ → Step → Type 0
-IsSpread b number side part row from chosen step = IsSplitBy (IsSpreadAtom b side part row from chosen) number step
+abbrev pub IsSpread : Branch → ℕ → Side → Part → Option (List Term) → List ℕ → List ℕ → Step →
+    Type 0
+IsSpread b number side part row from chosen step =
+    IsSplitBy (IsSpreadAtom b side part row from chosen) number step
 
 -- the chosen facts show or leave open each atom of the part, and give the row for its head
-pub record IsLiveWith (b : Branch) (part : Part) (row : Option (List Term)) (chosen : List ℕ) : Type 0 where
+pub record IsLiveWith (b : Branch) (part : Part) (row : Option (List Term)) (chosen : List ℕ)
+    : Type 0 where
   pub live : All (IsLive b.known (map (terms_at b) chosen)) part.conds
   pub head : HeadIs b part chosen row
 
--- whatever facts follow the chosen ones, some atom isn't what is wanted, or the head isn't the same as the row
+-- whatever facts follow the chosen ones, some atom isn't what is wanted, or the head isn't the same
+-- as the row
 abbrev pub IsLost : Branch → Part → Wanted → Option (List Term) → List ℕ → Type 0
-IsLost b part wanted row chosen = Any (FailsAt b.known wanted (map (terms_at b) chosen)) part.conds ⊎ ((rest : List ℕ) → ¬ (HeadIs b part (chosen ++ rest) row))
+IsLost b part wanted row chosen =
+    Any (FailsAt b.known wanted (map (terms_at b) chosen)) part.conds ⊎
+    ((rest : List ℕ) → ¬ (HeadIs b part (chosen ++ rest) row))
 
--- the fact that was chosen last is none of the table on the side, leads to nothing, or is alike to one that was tried
-abbrev pub IsPassed : Branch → Side → Part → Wanted → Option (List Term) → ℕ → List ℕ → List ℕ → ℕ → Type 0
-IsPassed b side part wanted row table chosen tried fact = (¬ (IsFactOf b side table fact) ⊎ IsLost b part wanted row chosen) ⊎ Any (λ other. AreAlike b other fact) tried
+-- the fact that was chosen last is none of the table on the side, leads to nothing, or is alike to
+-- one that was tried
+abbrev pub IsPassedOver : Branch → Side → Part → Wanted → Option (List Term) → ℕ → List ℕ → List ℕ → ℕ →
+    Type 0
+IsPassedOver b side part wanted row table chosen tried fact =
+    (¬ (IsFactOf b side table fact) ⊎ IsLost b part wanted row chosen) ⊎
+    Any (λ other. AreAlike b other fact) tried
+
+-- ---- so it is of a spread
+
+-- its splits, and those of the mappings of which the first facts are like the chosen ones
+abbrev pub IsSplitOf : Spread → Step → Type 0
+IsSplitOf it =
+    IsSplitOfPart it.scan.now.branch.now it.scan.now.number it.side (option_copied it.row)
+    it.part.now
+
+abbrev pub IsSplitFrom : Spread → List ℕ → List ℕ → Step → Type 0
+IsSplitFrom it from chosen =
+    IsSpread it.scan.now.branch.now it.scan.now.number it.side it.part.now (option_copied it.row)
+    from chosen
+
+-- the chosen facts are live with its row, or lead to no live mapping
+abbrev pub IsLiveOn : Spread → List ℕ → Type 0
+IsLiveOn it chosen = IsLiveWith it.scan.now.branch.now it.part.now (option_copied it.row) chosen
+
+abbrev pub LeadsNowhere : Spread → List ℕ → Type 0
+LeadsNowhere it chosen =
+    IsLost it.scan.now.branch.now it.part.now Live (option_copied it.row) chosen
+
+abbrev pub PassesBy : Spread → ℕ → List ℕ → List ℕ → ℕ → Type 0
+PassesBy it table chosen tried fact =
+    IsPassedOver it.scan.now.branch.now it.side it.part.now Live (option_copied it.row) table chosen
+    tried fact
 
 -- ---- an atom over facts that are like the chosen ones
 
-pub record IsLikeAtom (b : Branch) (chosen : List ℕ) (cond : Atom) (atom : TermAtom) (facts : List ℕ) : Type 0 where
+pub record IsLikeAtom (b : Branch) (chosen : List ℕ) (cond : Atom) (atom : TermAtom)
+    (facts : List ℕ) : Type 0 where
   pub like : AllZip (IsLike b) chosen facts
   pub gives : GivesAtom (map (terms_at b) facts) atom cond
 
@@ -75,10 +117,12 @@ abbrev pub IsLikeSplit : Branch → ℕ → List ℕ → Atom → Step → Type 
 IsLikeSplit b number chosen cond step = IsSplitBy (IsLikeAtom b chosen cond) number step
 
 abbrev pub IsLikeSplits : Branch → ℕ → List ℕ → List Atom → Step → Type 0
-IsLikeSplits b number chosen conds step = IsSplitBy (λ atom facts. Any (λ cond. IsLikeAtom b chosen cond atom facts) conds) number step
+IsLikeSplits b number chosen conds step =
+    IsSplitBy (λ atom facts. Any (λ cond. IsLikeAtom b chosen cond atom facts) conds) number step
 
 -- the facts that are done, and facts that are like those left
-pub record IsOverAtom (b : Branch) (left done : List ℕ) (cond : Atom) (atom : TermAtom) (facts : List ℕ) : Type 0 where
+pub record IsOverAtom (b : Branch) (left done : List ℕ) (cond : Atom) (atom : TermAtom)
+    (facts : List ℕ) : Type 0 where
   pub rest : List ℕ
   pub facts_are : facts ≡ done ++ rest
   pub like : AllZip (IsLike b) left rest
@@ -102,18 +146,21 @@ IsAt place (Val v) = ⊥
 IsAt place (Param n) = ⊥
 IsAt place (Var n) = ⊥
 
-abbrev pub Names : ℕ → Atom → Type 0
-Names place cond = IsAt place cond.left ⊎ IsAt place cond.right
+abbrev pub NamesPlace : ℕ → Atom → Type 0
+NamesPlace place cond = IsAt place cond.left ⊎ IsAt place cond.right
 
 -- like the fact; and each that is like it is one of these, or any of these will do in its place
 pub record AreChoices (b : Branch) (cond : Atom) (place fact : ℕ) (choices : List ℕ) : Type 0 where
   pub sound : All (IsLike b fact) choices
-  pub complete : (n : ℕ) → IsLike b fact n → Any (λ choice. (choice ≡ n) ⊎ ¬ (Names place cond)) choices
+  pub complete : (n : ℕ) → IsLike b fact n →
+      Any (λ choice. (choice ≡ n) ⊎ ¬ (NamesPlace place cond)) choices
 
 -- ---- the goal
 
--- of facts of side Two that show each atom of the part and give the row the first ones are like the chosen ones, the others of these tables
-pub record IsReached (b : Branch) (part : Part) (row : List Term) (from chosen facts : List ℕ) : Type 0 where
+-- of facts of side Two that show each atom of the part and give the row the first ones are like the
+-- chosen ones, the others of these tables
+pub record IsReached (b : Branch) (part : Part) (row : List Term) (from chosen facts : List ℕ)
+    : Type 0 where
   pub front : List ℕ
   pub like : AllZip (IsLike b) chosen front
   pub completes : Completes b Two part Shown from front facts
@@ -126,4 +173,19 @@ HasFact b table = Any (λ (fact : Fact). (fact.side ≡ Two) × (fact.table ≡ 
 -- there are none whose next fact is one of the table below the bound
 abbrev pub NoneBelow : Branch → Part → List Term → ℕ → List ℕ → List ℕ → ℕ → Type 0
 NoneBelow b part row table rest chosen bound =
-    (fact : ℕ) → fact < bound → IsFactOf b Two table fact → (facts : List ℕ) → ¬ (IsReached b part row rest (chosen ++ fact ∷ []) facts)
+    (fact : ℕ) → fact < bound → IsFactOf b Two table fact → (facts : List ℕ) →
+    ¬ (IsReached b part row rest (chosen ++ fact ∷ []) facts)
+
+-- ---- so it is of what is reached
+
+-- no facts are, of which the first are like the chosen ones, the others of these tables
+abbrev pub NoneReach : Reach → List ℕ → List ℕ → Type 0
+NoneReach it from chosen =
+    (facts : List ℕ) → IsReached it.branch.now it.part.now it.row.now from chosen facts → ⊥
+
+abbrev pub IsLostBy : Reach → List ℕ → Type 0
+IsLostBy it chosen = IsLost it.branch.now it.part.now Shown (Some it.row.now) chosen
+
+abbrev pub IsPassedBy : Reach → ℕ → List ℕ → List ℕ → ℕ → Type 0
+IsPassedBy it table chosen tried fact =
+    IsPassedOver it.branch.now Two it.part.now Shown (Some it.row.now) table chosen tried fact

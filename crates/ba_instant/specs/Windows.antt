@@ -21,7 +21,9 @@ use Rattle.ba_instant.specs.Offers.{IsTelling}
 
 -- no step that tells the branch something is new there whose round is at most the bound
 abbrev pub IsQuietUpto : Problem → Branch → ℕ → ℕ → Type 0
-IsQuietUpto p b number bound = (step : Step) (round : ℕ) → IsTelling number step → IsNewOn p b step → IsRound p b step round → bound < round
+IsQuietUpto p b number bound =
+    (step : Step) (round : ℕ) → IsTelling number step → IsNewOn p b step → IsRound p b step round →
+    bound < round
 
 -- ---- quiet growth
 
@@ -39,8 +41,9 @@ abbrev pub IsToldBy : Known → (Term → Term) → Lesson → Type 0
 IsToldBy k stands (Same a b) = OneClass k (stands a) (stands b)
 IsToldBy k stands (Holds atom) = IsToldOf k atom.op (stands atom.left) (stands atom.right)
 
--- c is b with further unknowns, facts and lessons. For each further unknown stands a term, and every other term for itself, so that what the lessons tell of the terms
--- that stand for theirs was known already, and what is never NULL stands for what is never NULL.
+-- c is b with further unknowns, facts and lessons. For each further unknown stands a term, and
+-- every other term for itself, so that what the lessons tell of the terms that stand for theirs was
+-- known already, and what is never NULL stands for what is never NULL.
 pub record IsQuietGrowth (b c : Branch) : Type 0 where
   pub unknowns : List Sort
   pub lessons : List Lesson
@@ -54,7 +57,8 @@ pub record IsQuietGrowth (b c : Branch) : Type 0 where
   pub stands : Term → Term
   pub itself : (t : Term) → IsThere b.known t → stands t ≡ t
   pub told : All (IsToldBy b.known stands) lessons
-  pub not_null : (n : ℕ) (sort : Sort) → slice_get unknowns n ≡ Some sort → sort.nullable ≡ false → ShownNotNull b.known (stands (Unknown (length b.known.unknowns + n)))
+  pub not_null : (n : ℕ) (sort : Sort) → slice_get unknowns n ≡ Some sort → sort.nullable ≡ false →
+      ShownNotNull b.known (stands (Unknown (length b.known.unknowns + n)))
 
 -- the further facts have no lesser round
 abbrev pub AreLate : ℕ → List Fact → Type 0
@@ -75,24 +79,35 @@ pub record IsGrounded (b : Branch) : Type 0 where
 
 -- each open branch of a course is grounded
 abbrev pub RunsAreGrounded : Type 0
-RunsAreGrounded = (p : Problem) (taken : List Step) (slots : Slots) (number : ℕ) (b : Branch) → ProblemFits p → Runs p taken slots → IsOpen slots number b → IsGrounded b
+RunsAreGrounded =
+    (p : Problem) (taken : List Step) (slots : Slots) (number : ℕ) (b : Branch) → ProblemFits p →
+    Runs p taken slots → IsOpen slots number b → IsGrounded b
 
--- Where a branch grows quietly by facts of no round below the bound, a step of a round up to the bound that is new then was new before, of the same round.
+-- Where a branch grows quietly by facts of no round below the bound, a step of a round up to the
+-- bound that is new then was new before, of the same round.
 abbrev pub NewWasNew : Type 0
-NewWasNew = (p : Problem) (b c : Branch) (number bound : ℕ) (step : Step) (round : ℕ) → IsGrounded b → GrowsQuietly bound b c → IsTelling number step → round ≤ bound →
+NewWasNew =
+    (p : Problem) (b c : Branch) (number bound : ℕ) (step : Step) (round : ℕ) → IsGrounded b →
+    GrowsQuietly bound b c → IsTelling number step → round ≤ bound →
     IsNewOn p c step → IsRound p c step round → IsNewOn p b step × IsRound p b step round
 
--- where a branch grows quietly by facts of no round below the bound, it stays quiet up to the bound, whatever its number is then
+-- where a branch grows quietly by facts of no round below the bound, it stays quiet up to the
+-- bound, whatever its number is then
 abbrev pub QuietStays : Type 0
-QuietStays = (p : Problem) (b c : Branch) (number other bound : ℕ) → IsGrounded b → GrowsQuietly bound b c → IsQuietUpto p b number bound → IsQuietUpto p c other bound
+QuietStays =
+    (p : Problem) (b c : Branch) (number other bound : ℕ) → IsGrounded b → GrowsQuietly bound b c →
+    IsQuietUpto p b number bound → IsQuietUpto p c other bound
 
 -- and it isn't absurd if it wasn't
 abbrev pub QuietIsNotAbsurd : Type 0
-QuietIsNotAbsurd = (b c : Branch) → IsGrounded b → IsQuietGrowth b c → Absurd c.known → Absurd b.known
+QuietIsNotAbsurd =
+    (b c : Branch) → IsGrounded b → IsQuietGrowth b c → Absurd c.known → Absurd b.known
 
 -- a branch is quiet up to each round before that of its due step, and up to 0
 abbrev pub DueIsQuiet : Type 0
-DueIsQuiet = (p : Problem) (slots : Slots) (step : Step) (bound : ℕ) → (due : IsDue p slots step) → bound < due.round → IsQuietUpto p due.branch (branch_of step) bound
+DueIsQuiet =
+    (p : Problem) (slots : Slots) (step : Step) (bound : ℕ) → (due : IsDue p slots step) →
+    bound < due.round → IsQuietUpto p due.branch (branch_of step) bound
 
 abbrev pub QuietAtFirst : Type 0
 QuietAtFirst = (p : Problem) (b : Branch) (number : ℕ) → IsQuietUpto p b number 0

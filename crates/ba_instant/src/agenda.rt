@@ -4,18 +4,18 @@ ghost use Rattle.ba_kernel.specs.declared.step.Step.{Step as AStep};
 ghost use Rattle.ba_instant.specs.Agendas.{EndsOld, IsAgendaOf, IsFirstOf, IsInTurn, IsNewHere, IsNone, IsPast, IsQuietAgenda, IsTrimmed, IsWithoutLast};
 
 use crate::batch::{Batch, is_single};
-use crate::found::Found;
 use crate::order::{Pick, compare_steps};
+use crate::scan::NewStep;
 use ba_kernel::{Search, Step};
 use ba_model::Duplicate;
 use std::alloc::{AllocError, Global};
 
-/// Steps of a round on a branch, those at the end to be picked first. No step of a lesser round that
-/// tells the branch something is new, and each new one of this round is listed, but for splits that
-/// are picked after the one that is.
+/// Steps of a round on a branch, those at the end to be picked first. No step of a lesser round
+/// that tells the branch something is new, and each new one of this round is listed, but for splits
+/// that are picked after the one that is.
 ///
-/// The facts of a number less than `older` are of a lesser round. Where it is `silent`, no step that
-/// closes the branch is new.
+/// The facts of a number less than `older` are of a lesser round. Where it is `silent`, no step
+/// that closes the branch is new.
 #[derive(Debug, Drop)]
 pub struct Agenda {
     pub round: u64,
@@ -74,13 +74,13 @@ impl Agenda {
     }
 
     /// The step that is picked first, with the round.
-    pub fn first(&self, alloc: Global) -> Result<Option<Found>, AllocError>
+    pub fn first(&self, alloc: Global) -> Result<Option<NewStep>, AllocError>
         ensures { IfOk result (IsFirstOf self.now) }
     {
         match self.steps.last() {
             Some(last) => {
                 let step = last.copy(alloc)?;
-                Ok(Some(Found {
+                Ok(Some(NewStep {
                     round: self.round,
                     step,
                 }))
@@ -92,7 +92,9 @@ impl Agenda {
     /// Drops what isn't new any more from the end, up to a step that is.
     pub fn drop_old(&mut self, alloc: Global, search: &Search)
         ensures trimmed { IsTrimmed search.now self.old self.new }
-        ensures new { (step : AStep) → slice_get self.new.steps.items (length self.new.steps.items - 1) ≡ Some step → IsNewHere search.now self.new.round step }
+        ensures new { (step : AStep) → slice_get self.new.steps.items
+            (length self.new.steps.items - 1) ≡ Some step
+            → IsNewHere search.now self.new.round step }
     {
         while self.ends_old(search) {
             self.drop_last(alloc);
@@ -102,7 +104,9 @@ impl Agenda {
     /// Whether there is a last step, and it isn't new in the round.
     fn ends_old(&self, search: &Search) -> bool
         ensures old { IsTrue result → EndsOld search.now self.now }
-        ensures new { result ≡ false → (step : AStep) → slice_get self.now.steps.items (length self.now.steps.items - 1) ≡ Some step → IsNewHere search.now self.now.round step }
+        ensures new { result ≡ false → (step : AStep)
+            → slice_get self.now.steps.items (length self.now.steps.items - 1) ≡ Some step
+            → IsNewHere search.now self.now.round step }
     {
         match self.steps.last() {
             Some(step) => !is_new_here(search, self.round, step),

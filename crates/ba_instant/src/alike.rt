@@ -3,7 +3,7 @@ ghost use Rattle.std.specs.Prelude.{◌↔◌, ◌≢◌, Any, IfOk, IsTrue};
 ghost use Rattle.ba_facts.specs.Alike.{AreAlike};
 ghost use Rattle.ba_instant.specs.Spreads.{AreLikes};
 
-use crate::found::counted;
+use crate::scan::counted;
 use ba_facts::Branch;
 use std::alloc::{AllocError, Global};
 

@@ -1,20 +1,21 @@
 //! Whether the question or a rule may ask for a moved unknown.
-ghost use Rattle.std.specs.Prelude.{◌≡◌, ℕ, [], All, Any, IsTrue, Some, slice_get};
+ghost use Rattle.std.specs.Prelude.{◌≡◌, [], All, Any, IsTrue, Some, slice_get};
 ghost use Rattle.std.specs.List.{zip};
 ghost use Rattle.std.specs.Option.{option_map};
 ghost use Rattle.ba_facts.specs.Known.{seen};
-ghost use Rattle.ba_instant.specs.QuietKeys.{AreApart, FailsAt, GivesAnother, GoalLeaves, IsEquation, IsLeft, IsUnmovedIf, KeepsOut, LeavesFact, LeavesRow, ReadsUnmoved, UnmovedSides, term_at};
+ghost use Rattle.ba_instant.specs.QuietKeys.{AreApart, FailsOnRow, GivesAnother, GoalLeaves, IsEquation, IsUnasked, IsUnmovedIf, KeepsOut, LeavesFact, LeavesRow, ReadsUnmoved, UnmovedSides, term_at};
 
 use crate::moves::{Move, cell, is_unmoved_if, stand_in};
 use ba_facts::{Branch, Fact, Knowledge, Term, TermRef};
 use ba_kernel::Problem;
 use ba_model::{Atom, Op, Operand, Part, Rule};
 
-/// Whether neither the question nor a rule's left query asks for a moved unknown of the fact. A part
-/// of the question with equations alone asks for none. Another part leaves the fact if, wherever the
-/// fact's table stands in it, it reads no moved unknown of the fact or doesn't hold of it.
+/// Whether neither the question nor a rule's left query asks for a moved unknown of the fact. A
+/// part of the question with equations alone asks for none. Another part leaves the fact if,
+/// wherever the fact's table stands in it, it reads no moved unknown of the fact or doesn't hold of
+/// it.
 pub fn is_left(problem: &Problem, branch: &Branch, moves: &[Move], fact: &Fact) -> bool
-    ensures { IsTrue result → IsLeft problem.now branch.now moves.now fact.now }
+    ensures { IsTrue result → IsUnasked problem.now branch.now moves.now fact.now }
 {
     parts_leave(branch, moves, fact, problem.goal.parts.as_slice())
         && rules_leave(problem, branch, moves, fact)
@@ -45,7 +46,8 @@ fn part_leaves(branch: &Branch, moves: &[Move], fact: &Fact, part: &Part) -> boo
 }
 
 fn rules_leave(problem: &Problem, branch: &Branch, moves: &[Move], fact: &Fact) -> bool
-    ensures { IsTrue result → All (λ rule. All (LeavesFact branch.now.known moves.now [] fact.now) rule.left.parts) problem.now.policy.schema.rules }
+    ensures { IsTrue result → All (λ rule. All (LeavesFact branch.now.known moves.now [] fact.now)
+        rule.left.parts) problem.now.policy.schema.rules }
 {
     let rules = problem.policy.schema.rules.as_slice();
     rules
@@ -99,10 +101,11 @@ struct Asking<'a> {
 }
 
 impl<'a> Asking<'a> {
-    /// Whether wherever the fact's table stands in the part no moved unknown of the fact is read, or
-    /// the fact is kept out.
+    /// Whether wherever the fact's table stands in the part no moved unknown of the fact is read,
+    /// or the fact is kept out.
     fn leaves_fact(&self, fact: &Fact) -> bool
-        ensures { IsTrue result → LeavesFact self.now.known.now self.now.moves.now self.now.asked.now fact.now self.now.part.now }
+        ensures { IsTrue result → LeavesFact self.now.known.now self.now.moves.now
+            self.now.asked.now fact.now self.now.part.now }
     {
         let from = self.part.from.as_slice();
         for place in 0..from.len() {
@@ -114,13 +117,15 @@ impl<'a> Asking<'a> {
     }
 
     fn leaves_place(&self, fact: &Fact, place: usize, table: u32) -> bool
-        ensures { IsTrue result → table ≡ fact.now.table → LeavesRow self.now.known.now self.now.moves.now self.now.asked.now self.now.part.now place fact.now.terms }
+        ensures { IsTrue result → table ≡ fact.now.table → LeavesRow self.now.known.now
+            self.now.moves.now self.now.asked.now self.now.part.now place fact.now.terms }
     {
         table != fact.table || self.leaves_row(place, fact.terms.as_slice())
     }
 
     fn leaves_row(&self, place: usize, row: &[Term]) -> bool
-        ensures { IsTrue result → LeavesRow self.now.known.now self.now.moves.now self.now.asked.now self.now.part.now place row.now }
+        ensures { IsTrue result → LeavesRow self.now.known.now self.now.moves.now self.now.asked.now
+            self.now.part.now place row.now }
     {
         self.reads_unmoved(place, row) || self.keeps_out(place, row)
     }
@@ -133,20 +138,23 @@ impl<'a> Asking<'a> {
     }
 
     fn keeps_out(&self, place: usize, row: &[Term]) -> bool
-        ensures { IsTrue result → KeepsOut self.now.known.now self.now.moves.now self.now.asked.now self.now.part.now place row.now }
+        ensures { IsTrue result → KeepsOut self.now.known.now self.now.moves.now self.now.asked.now
+            self.now.part.now place row.now }
     {
         self.fails_an_atom(place, row) || self.gives_another(self.part.head.as_slice(), place, row)
     }
 
     fn fails_an_atom(&self, place: usize, row: &[Term]) -> bool
-        ensures { IsTrue result → Any (FailsAt self.now.known.now self.now.moves.now place row.now) self.now.part.now.conds }
+        ensures { IsTrue result → Any (FailsOnRow self.now.known.now self.now.moves.now place
+            row.now) self.now.part.now.conds }
     {
         let conds = self.part.conds.as_slice();
         conds.iter().any(|atom| self.fails(atom, place, row))
     }
 
     fn fails(&self, atom: &Atom, place: usize, row: &[Term]) -> bool
-        ensures { IsTrue result → FailsAt self.now.known.now self.now.moves.now place row.now atom.now }
+        ensures { IsTrue result
+            → FailsOnRow self.now.known.now self.now.moves.now place row.now atom.now }
     {
         is_equation(atom)
             && self.are_apart(
@@ -157,7 +165,8 @@ impl<'a> Asking<'a> {
 
     /// Whether a column of the head isn't the same as that of the row that is asked for.
     fn gives_another(&self, head: &[Operand], place: usize, row: &[Term]) -> bool
-        ensures { IsTrue result → Any (GivesAnother self.now.known.now self.now.moves.now place row.now) (zip head.now self.now.asked.now) }
+        ensures { IsTrue result → Any (GivesAnother self.now.known.now self.now.moves.now place
+            row.now) (zip head.now self.now.asked.now) }
     {
         let asked = self.asked;
         if head.len() != asked.len() {
@@ -172,14 +181,16 @@ impl<'a> Asking<'a> {
     }
 
     fn is_another(&self, operand: &Operand, term: &Term, place: usize, row: &[Term]) -> bool
-        ensures { IsTrue result → AreApart self.now.known.now self.now.moves.now (term_at place row.now operand.now) (Some term.now) }
+        ensures { IsTrue result → AreApart self.now.known.now self.now.moves.now
+            (term_at place row.now operand.now) (Some term.now) }
     {
         self.are_apart(term_at(place, row, operand), Some(term.by_ref()))
     }
 
     /// Whether both terms are there, and what stands for them isn't the same.
     fn are_apart(&self, left: Option<TermRef<'_>>, right: Option<TermRef<'_>>) -> bool
-        ensures { IsTrue result → AreApart self.now.known.now self.now.moves.now (option_map seen left.entry) (option_map seen right.entry) }
+        ensures { IsTrue result → AreApart self.now.known.now self.now.moves.now
+            (option_map seen left.entry) (option_map seen right.entry) }
     {
         match (left, right) {
             (Some(left), Some(right)) => !self

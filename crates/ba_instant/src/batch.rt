@@ -1,11 +1,11 @@
 //! The new steps of the least round that were found so far.
 ghost use Rattle.std.specs.Prelude.{◌≡◌, ◌↔◌, IfOk, IsTrue, OnOk, Some};
 ghost use Rattle.std.specs.Ordering.{nat_cmp};
-ghost use Rattle.ba_instant.specs.Looks.{IsBehind, IsTimely};
-ghost use Rattle.ba_instant.specs.Offers.{Leads, Reaches, batch_of, empty_batch, first_single, is_single, with_found, with_found_by, with_step};
+ghost use Rattle.ba_instant.specs.Scans.{IsBehind, IsTimely};
+ghost use Rattle.ba_instant.specs.Offers.{HasEarlier, Reaches, batch_of, empty_batch, first_single, is_single, with_found, with_found_by, with_step};
 
-use crate::found::Found;
 use crate::order::Pick;
+use crate::scan::NewStep;
 use ba_kernel::Step;
 use ba_model::List;
 use std::alloc::{AllocError, Global};
@@ -32,7 +32,7 @@ impl Batch {
     }
 
     /// The step alone.
-    fn of(alloc: Global, pick: Pick, found: Found) -> Result<Batch, AllocError>
+    fn of(alloc: Global, pick: Pick, found: NewStep) -> Result<Batch, AllocError>
         ensures { IfOk result (λ it. it ≡ batch_of pick found) }
     {
         let mut batch = Batch::empty(alloc, found.round);
@@ -54,8 +54,9 @@ impl Batch {
     }
 
     /// Keeps the step if it is of the same round, and the step alone if it is of a lesser one.
-    fn keep(&mut self, alloc: Global, pick: Pick, found: Found) -> Result<(), AllocError>
-        ensures { OnOk result (self.new ≡ with_found_by (nat_cmp found.round self.old.round) pick self.old found) }
+    fn keep(&mut self, alloc: Global, pick: Pick, found: NewStep) -> Result<(), AllocError>
+        ensures { OnOk result
+            (self.new ≡ with_found_by (nat_cmp found.round self.old.round) pick self.old found) }
     {
         match found.round.cmp(&self.round) {
             Ordering::Less => {
@@ -69,21 +70,23 @@ impl Batch {
 
     /// Whether the step of the round, or of a later one, needn't be looked at.
     fn has_passed(&self, pick: Pick, round: u64, step: &Step) -> bool
-        ensures { IsTrue result → Reaches pick (Some self.now) (record { round = round; step = step.now }) }
+        ensures { IsTrue result
+            → Reaches pick (Some self.now) (record { round = round; step = step.now }) }
     {
         self.round < round || (self.round == round && self.leads(pick, step))
     }
 
     /// Whether the step is single and isn't picked before the single one.
     fn leads(&self, pick: Pick, step: &Step) -> bool
-        ensures { IsTrue result → (IsTrue (is_single step.now) × Leads pick self.now.single step.now) }
+        ensures { IsTrue result
+            → (IsTrue (is_single step.now) × HasEarlier pick self.now.single step.now) }
     {
         is_single(step) && is_led(pick, &self.single, step)
     }
 }
 
 fn is_led(pick: Pick, single: &Option<Step>, step: &Step) -> bool
-    ensures { IsTrue result → Leads pick single.now step.now }
+    ensures { IsTrue result → HasEarlier pick single.now step.now }
 {
     match single {
         Some(first) => pick.compare(first, step) != Ordering::Greater,
@@ -124,7 +127,7 @@ pub fn is_single(step: &Step) -> bool
 pub fn keep_found(
     alloc: Global,
     pick: Pick,
-    found: Found,
+    found: NewStep,
     best: &mut Option<Batch>,
 ) -> Result<(), AllocError>
     ensures { OnOk result (best.new ≡ with_found pick best.old found) }
@@ -159,7 +162,8 @@ pub fn is_behind(pick: Pick, best: &Option<Batch>, step: &Step) -> bool
     }
 }
 
-/// Whether a step whose round is more than this may be of no later round than those that were found.
+/// Whether a step whose round is more than this may be of no later round than those that were
+/// found.
 pub fn is_timely(round: u32, best: &Option<Batch>) -> bool
     ensures { IsTrue result ↔ IsTimely round best.now }
 {

@@ -2,20 +2,20 @@
 ghost use Rattle.std.specs.Prelude.{◌≡◌, ◌<◌, IfOk, OnOk, length};
 ghost use Rattle.ba_kernel.specs.News.{IsRoundOfEntry};
 ghost use Rattle.ba_kernel.specs.declared.step.Step.TheVariants.{Entry};
-ghost use Rattle.ba_instant.specs.Looks.{IsLook};
-ghost use Rattle.ba_instant.specs.Offers.{Improves, IsEntryOf, IsLinkOfFact, IsLinkStep, links_at};
+ghost use Rattle.ba_instant.specs.Scans.{ImprovesBy, IsScan, schema_of};
+ghost use Rattle.ba_instant.specs.Offers.{IsEntryOf, IsLinkOfFact, IsLinkStep, links_at};
 
 use crate::batch::Batch;
-use crate::found::{Spot, counted};
 use crate::recent::fact_round;
+use crate::scan::{Scan, counted};
 use ba_kernel::Step;
 use std::alloc::AllocError;
 
-impl<'a> Spot<'a> {
+impl<'a> Scan<'a> {
     /// Offers the steps by the problem's entries, whose rounds are 1 and 2.
     pub fn offer_entries(&self, best: &mut Option<Batch>) -> Result<(), AllocError>
-        requires { IsLook self.now.search.now self.now.number self.now.branch.now self.now.quiet self.now.recent.now }
-        ensures { OnOk result (Improves self.now.search.now self.now.pick (IsEntryOf self.now.number) best.old best.new) }
+        requires { IsScan self.now }
+        ensures { OnOk result (ImprovesBy self.now (IsEntryOf self.now.number) best.old best.new) }
     {
         if self.quiet < 2 {
             self.offer_all_entries(best)?;
@@ -24,8 +24,8 @@ impl<'a> Spot<'a> {
     }
 
     fn offer_all_entries(&self, best: &mut Option<Batch>) -> Result<(), AllocError>
-        requires { IsLook self.now.search.now self.now.number self.now.branch.now self.now.quiet self.now.recent.now }
-        ensures { OnOk result (Improves self.now.search.now self.now.pick (IsEntryOf self.now.number) best.old best.new) }
+        requires { IsScan self.now }
+        ensures { OnOk result (ImprovesBy self.now (IsEntryOf self.now.number) best.old best.new) }
     {
         for entry in 0..self.search.problem().entries.len() {
             self.offer_entry(entry as u64, best)?;
@@ -35,9 +35,10 @@ impl<'a> Spot<'a> {
 
     /// Offers the step by the entry.
     fn offer_entry(&self, entry: u64, best: &mut Option<Batch>) -> Result<(), AllocError>
-        requires look { IsLook self.now.search.now self.now.number self.now.branch.now self.now.quiet self.now.recent.now }
+        requires look { IsScan self.now }
         requires there { entry < length self.now.search.now.problem.entries }
-        ensures { OnOk result (Improves self.now.search.now self.now.pick (λ it. it ≡ Entry self.now.number entry) best.old best.new) }
+        ensures { OnOk result
+            (ImprovesBy self.now (λ it. it ≡ Entry self.now.number entry) best.old best.new) }
     {
         let round = self.entry_round(entry);
         if round <= self.quiet {
@@ -60,8 +61,8 @@ impl<'a> Spot<'a> {
 
     /// Offers the steps by links of recent facts.
     pub fn offer_links(&self, best: &mut Option<Batch>) -> Result<(), AllocError>
-        requires { IsLook self.now.search.now self.now.number self.now.branch.now self.now.quiet self.now.recent.now }
-        ensures { OnOk result (Improves self.now.search.now self.now.pick (IsLinkStep self.now.number) best.old best.new) }
+        requires { IsScan self.now }
+        ensures { OnOk result (ImprovesBy self.now (IsLinkStep self.now.number) best.old best.new) }
     {
         for fact in self.recent {
             self.offer_links_of(*fact, best)?;
@@ -71,8 +72,9 @@ impl<'a> Spot<'a> {
 
     /// Offers the steps by links of the fact.
     fn offer_links_of(&self, fact: u32, best: &mut Option<Batch>) -> Result<(), AllocError>
-        requires { IsLook self.now.search.now self.now.number self.now.branch.now self.now.quiet self.now.recent.now }
-        ensures { OnOk result (Improves self.now.search.now self.now.pick (IsLinkOfFact self.now.number fact) best.old best.new) }
+        requires { IsScan self.now }
+        ensures { OnOk result
+            (ImprovesBy self.now (IsLinkOfFact self.now.number fact) best.old best.new) }
     {
         let round = u64::from(fact_round(self.branch, fact)) + 1;
         let count = self.link_count(fact)?;
@@ -89,7 +91,8 @@ impl<'a> Spot<'a> {
 
     /// How many links the fact's table has; none where there is no such fact or table.
     fn link_count(&self, fact: u32) -> Result<u32, AllocError>
-        ensures { IfOk result (λ count. count ≡ length (links_at self.now.search.now.problem.policy.schema self.now.branch.now fact)) }
+        ensures { IfOk result
+            (λ count. count ≡ length (links_at (schema_of self.now) self.now.branch.now fact)) }
     {
         let Some(it) = self.branch.facts.find(fact as usize) else {
             return Ok(0);

@@ -1,6 +1,6 @@
-//! A choice of terms in place of the facts that a query asks for. Nothing is promised of it: whoever
-//! uses it tests it.
-use crate::found::counted;
+//! A choice of terms in place of the facts that a query asks for. Nothing is promised of it:
+//! whoever uses it tests it.
+use crate::scan::counted;
 use ba_facts::Term;
 use ba_model::{Atom, Duplicate, List, Op, Operand, Part, Same, Schema, Value};
 use std::alloc::{AllocError, Global};

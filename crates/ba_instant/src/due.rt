@@ -1,19 +1,19 @@
 //! The due step of a branch, and of all open branches.
 ghost use Rattle.std.specs.Prelude.{◌≡◌, ◌↔◌, [], IfOk, IsTrue, None, OnOk, Some};
 ghost use Rattle.ba_kernel.specs.Courses.{IsOpen};
-ghost use Rattle.ba_instant.specs.Agendas.{AreOlder, IsAgenda, IsAgendaAt};
+ghost use Rattle.ba_instant.specs.Agendas.{AreOlder, IsAgendaAt};
 ghost use Rattle.ba_instant.specs.Loose.{IsQuietBeside};
 ghost use Rattle.ba_facts.specs.declared.branch.Branch.{Branch as ABranch};
-ghost use Rattle.ba_instant.specs.Looks.{IsLook};
+ghost use Rattle.ba_instant.specs.Scans.{ImprovesBy, IsScan};
 ghost use Rattle.ba_instant.specs.Windows.{IsQuietUpto};
-ghost use Rattle.ba_instant.specs.Nexts.{AreQuietBeside, AreWaiting, ComesLater, IsLooked, IsNext, Waits, first_step};
-ghost use Rattle.ba_instant.specs.Offers.{Improves, IsByMapping, IsClosing, IsDueIfAny, IsTaught, IsTelling, NoneCloses};
+ghost use Rattle.ba_instant.specs.Nexts.{AreQuietBeside, AreWaiting, ComesLater, FindsOn, IsAgendaOn, IsDueOnIt, IsLooked, IsNext, IsOpenOne, Waits, first_step};
+ghost use Rattle.ba_instant.specs.Offers.{IsByMapping, IsClosing, IsTaught, IsTelling, NoneCloses};
 
 use crate::agenda::Agenda;
 use crate::batch::Batch;
-use crate::found::{Found, Spot};
 use crate::order::Pick;
 use crate::recent::{first_recent, recent_facts};
+use crate::scan::{NewStep, Scan};
 use crate::waiting::Waiting;
 use ba_facts::Branch;
 use ba_kernel::{Search, Step};
@@ -23,7 +23,7 @@ use std::cmp::Ordering;
 /// A due step with its round, and the agenda of its branch.
 #[derive(Drop)]
 pub struct Due {
-    pub found: Found,
+    pub found: NewStep,
     pub agenda: Agenda,
 }
 
@@ -38,11 +38,11 @@ pub enum Next {
     Take(Due),
 }
 
-impl<'a> Spot<'a> {
+impl<'a> Scan<'a> {
     /// Offers the steps that close the branch.
     fn offer_closing(&self, best: &mut Option<Batch>) -> Result<(), AllocError>
-        requires { IsLook self.now.search.now self.now.number self.now.branch.now self.now.quiet self.now.recent.now }
-        ensures { OnOk result (Improves self.now.search.now self.now.pick (IsClosing self.now.number) best.old best.new) }
+        requires { IsScan self.now }
+        ensures { OnOk result (ImprovesBy self.now (IsClosing self.now.number) best.old best.new) }
     {
         let absurd = Step::Absurd {
             branch: self.number,
@@ -52,11 +52,11 @@ impl<'a> Spot<'a> {
         Ok(())
     }
 
-    /// Offers the steps that tell the branch something. Links come before keys, since a link that is
-    /// found early leaves few pairs of facts to be looked at.
+    /// Offers the steps that tell the branch something. Links come before keys, since a link that
+    /// is found early leaves few pairs of facts to be looked at.
     fn offer_telling(&self, best: &mut Option<Batch>) -> Result<(), AllocError>
-        requires { IsLook self.now.search.now self.now.number self.now.branch.now self.now.quiet self.now.recent.now }
-        ensures { OnOk result (Improves self.now.search.now self.now.pick (IsTelling self.now.number) best.old best.new) }
+        requires { IsScan self.now }
+        ensures { OnOk result (ImprovesBy self.now (IsTelling self.now.number) best.old best.new) }
     {
         self.offer_entries(best)?;
         self.offer_links(best)?;
@@ -67,8 +67,8 @@ impl<'a> Spot<'a> {
 
     /// Offers the steps by keys, rules and views.
     fn offer_taught(&self, best: &mut Option<Batch>) -> Result<(), AllocError>
-        requires { IsLook self.now.search.now self.now.number self.now.branch.now self.now.quiet self.now.recent.now }
-        ensures { OnOk result (Improves self.now.search.now self.now.pick (IsTaught self.now.number) best.old best.new) }
+        requires { IsScan self.now }
+        ensures { OnOk result (ImprovesBy self.now (IsTaught self.now.number) best.old best.new) }
     {
         self.offer_keys(best)?;
         self.offer_mapped(best)?;
@@ -77,8 +77,9 @@ impl<'a> Spot<'a> {
 
     /// Offers the steps by rules and views.
     fn offer_mapped(&self, best: &mut Option<Batch>) -> Result<(), AllocError>
-        requires { IsLook self.now.search.now self.now.number self.now.branch.now self.now.quiet self.now.recent.now }
-        ensures { OnOk result (Improves self.now.search.now self.now.pick (IsByMapping self.now.number) best.old best.new) }
+        requires { IsScan self.now }
+        ensures { OnOk result
+            (ImprovesBy self.now (IsByMapping self.now.number) best.old best.new) }
     {
         self.offer_rules(best)?;
         self.offer_views(best)?;
@@ -88,20 +89,20 @@ impl<'a> Spot<'a> {
 
 /// An open branch, by number.
 #[derive(Clone, Copy)]
-struct Place<'a> {
-    search: &'a Search,
-    branch: &'a Branch,
-    number: u32,
-    pick: Pick,
+pub struct OpenBranch<'a> {
+    pub search: &'a Search,
+    pub branch: &'a Branch,
+    pub number: u32,
+    pub pick: Pick,
 }
 
-impl Place<'_> {
+impl OpenBranch<'_> {
     /// The branch's due step with its round, if it has one. The agenda is that of the branch.
-    fn due_step(&self, alloc: Global, agenda: &mut Agenda) -> Result<Option<Found>, AllocError>
-        requires open { IsOpen self.now.search.now.slots self.now.number self.now.branch.now }
-        requires agenda { IsAgenda self.now.pick self.now.search.now.problem self.now.number self.now.branch.now agenda.old }
-        ensures due { IfOk result (IsDueIfAny self.now.search.now self.now.pick self.now.number) }
-        ensures agenda { OnOk result (IsAgenda self.now.pick self.now.search.now.problem self.now.number self.now.branch.now agenda.new) }
+    fn due_step(&self, alloc: Global, agenda: &mut Agenda) -> Result<Option<NewStep>, AllocError>
+        requires open { IsOpenOne self.now }
+        requires agenda { IsAgendaOn self.now agenda.old }
+        ensures due { IfOk result (IsDueOnIt self.now) }
+        ensures agenda { OnOk result (IsAgendaOn self.now agenda.new) }
     {
         if agenda.silent {
             return self.telling_step(alloc, agenda);
@@ -115,11 +116,11 @@ impl Place<'_> {
 
     /// The new steps that close the branch.
     fn closing_steps(&self, alloc: Global) -> Result<Option<Batch>, AllocError>
-        requires { IsOpen self.now.search.now.slots self.now.number self.now.branch.now }
-        ensures { IfOk result (Improves self.now.search.now self.now.pick (IsClosing self.now.number) None) }
+        requires { IsOpenOne self.now }
+        ensures { IfOk result (FindsOn self.now (IsClosing self.now.number)) }
     {
         let recent = recent_facts(alloc, self.branch, 0, 0)?;
-        let spot = Spot {
+        let scan = Scan {
             alloc,
             search: self.search,
             branch: self.branch,
@@ -129,17 +130,17 @@ impl Place<'_> {
             recent: &recent,
         };
         let mut best = None;
-        spot.offer_closing(&mut best)?;
+        scan.offer_closing(&mut best)?;
         Ok(best)
     }
 
     /// The new steps by rules and views of the least round.
     fn mapped_steps(&self, alloc: Global) -> Result<Option<Batch>, AllocError>
-        requires { IsOpen self.now.search.now.slots self.now.number self.now.branch.now }
-        ensures { IfOk result (Improves self.now.search.now self.now.pick (IsByMapping self.now.number) None) }
+        requires { IsOpenOne self.now }
+        ensures { IfOk result (FindsOn self.now (IsByMapping self.now.number)) }
     {
         let recent = recent_facts(alloc, self.branch, 0, 0)?;
-        let spot = Spot {
+        let scan = Scan {
             alloc,
             search: self.search,
             branch: self.branch,
@@ -149,15 +150,15 @@ impl Place<'_> {
             recent: &recent,
         };
         let mut best = None;
-        spot.offer_mapped(&mut best)?;
+        scan.offer_mapped(&mut best)?;
         Ok(best)
     }
 
     /// The first of the steps that close the branch.
-    fn first_of(&self, alloc: Global, batch: Batch) -> Result<Option<Found>, AllocError>
-        requires open { IsOpen self.now.search.now.slots self.now.number self.now.branch.now }
-        requires closing { Improves self.now.search.now self.now.pick (IsClosing self.now.number) None (Some batch) }
-        ensures { IfOk result (IsDueIfAny self.now.search.now self.now.pick self.now.number) }
+    fn first_of(&self, alloc: Global, batch: Batch) -> Result<Option<NewStep>, AllocError>
+        requires open { IsOpenOne self.now }
+        requires closing { FindsOn self.now (IsClosing self.now.number) (Some batch) }
+        ensures { IfOk result (IsDueOnIt self.now) }
     {
         let agenda = Agenda::of(self.pick, batch)?;
         let first = agenda.first(alloc)?;
@@ -165,12 +166,16 @@ impl Place<'_> {
     }
 
     /// The due step, where none closes the branch.
-    fn telling_step(&self, alloc: Global, agenda: &mut Agenda) -> Result<Option<Found>, AllocError>
-        requires open { IsOpen self.now.search.now.slots self.now.number self.now.branch.now }
+    fn telling_step(
+        &self,
+        alloc: Global,
+        agenda: &mut Agenda,
+    ) -> Result<Option<NewStep>, AllocError>
+        requires open { IsOpenOne self.now }
         requires closing { NoneCloses self.now.search.now self.now.number }
-        requires agenda { IsAgenda self.now.pick self.now.search.now.problem self.now.number self.now.branch.now agenda.old }
-        ensures due { IfOk result (IsDueIfAny self.now.search.now self.now.pick self.now.number) }
-        ensures agenda { OnOk result (IsAgenda self.now.pick self.now.search.now.problem self.now.number self.now.branch.now agenda.new) }
+        requires agenda { IsAgendaOn self.now agenda.old }
+        ensures due { IfOk result (IsDueOnIt self.now) }
+        ensures agenda { OnOk result (IsAgendaOn self.now agenda.new) }
     {
         agenda.silent = true;
         agenda.drop_old(alloc, self.search);
@@ -182,13 +187,13 @@ impl Place<'_> {
     }
 
     /// The due step, where nothing is left of the agenda. It is filled again.
-    fn next_round(&self, alloc: Global, agenda: &mut Agenda) -> Result<Option<Found>, AllocError>
-        requires open { IsOpen self.now.search.now.slots self.now.number self.now.branch.now }
+    fn next_round(&self, alloc: Global, agenda: &mut Agenda) -> Result<Option<NewStep>, AllocError>
+        requires open { IsOpenOne self.now }
         requires closing { NoneCloses self.now.search.now self.now.number }
-        requires agenda { IsAgenda self.now.pick self.now.search.now.problem self.now.number self.now.branch.now agenda.old }
+        requires agenda { IsAgendaOn self.now agenda.old }
         requires empty { agenda.old.steps.items ≡ [] }
-        ensures due { IfOk result (IsDueIfAny self.now.search.now self.now.pick self.now.number) }
-        ensures agenda { OnOk result (IsAgenda self.now.pick self.now.search.now.problem self.now.number self.now.branch.now agenda.new) }
+        ensures due { IfOk result (IsDueOnIt self.now) }
+        ensures agenda { OnOk result (IsAgendaOn self.now agenda.new) }
     {
         let quiet = agenda.round.min(0xffff_ffff) as u32;
         let older = first_recent(self.branch, agenda.older, quiet)?;
@@ -205,21 +210,22 @@ impl Place<'_> {
         }
     }
 
-    /// The new steps of the least round that tell the branch something. It is past this one. The facts
-    /// of a lesser number than `older` are of a lesser round.
+    /// The new steps of the least round that tell the branch something. It is past this one. The
+    /// facts of a lesser number than `older` are of a lesser round.
     fn telling_steps(
         &self,
         alloc: Global,
         older: u32,
         quiet: u32,
     ) -> Result<Option<Batch>, AllocError>
-        requires open { IsOpen self.now.search.now.slots self.now.number self.now.branch.now }
-        requires quiet { IsQuietUpto self.now.search.now.problem self.now.branch.now self.now.number quiet }
+        requires open { IsOpenOne self.now }
+        requires quiet { IsQuietUpto self.now.search.now.problem self.now.branch.now self.now.number
+            quiet }
         requires older { AreOlder self.now.branch.now older quiet }
-        ensures { IfOk result (Improves self.now.search.now self.now.pick (IsTelling self.now.number) None) }
+        ensures { IfOk result (FindsOn self.now (IsTelling self.now.number)) }
     {
         let recent = recent_facts(alloc, self.branch, older, quiet)?;
-        let spot = Spot {
+        let scan = Scan {
             alloc,
             search: self.search,
             branch: self.branch,
@@ -229,7 +235,7 @@ impl Place<'_> {
             recent: &recent,
         };
         let mut best = None;
-        spot.offer_telling(&mut best)?;
+        scan.offer_telling(&mut best)?;
         Ok(best)
     }
 }
@@ -265,19 +271,20 @@ fn quiet_agenda(
     number: u32,
     round: u64,
 ) -> Result<Agenda, AllocError>
-    requires { (b : ABranch) → IsOpen search.now.slots number b → IsQuietBeside search.now.problem b number round }
+    requires { (b : ABranch) → IsOpen search.now.slots number b
+        → IsQuietBeside search.now.problem b number round }
     ensures { IfOk result (IsAgendaAt pick search.now number) }
 {
     match search.branch(number) {
         None => Ok(Agenda::none(alloc)),
         Some(branch) => {
-            let place = Place {
+            let open_branch = OpenBranch {
                 search,
                 branch,
                 number,
                 pick,
             };
-            let mapped = place.mapped_steps(alloc)?;
+            let mapped = open_branch.mapped_steps(alloc)?;
             Ok(Agenda::quiet(alloc, round, &mapped))
         }
     }
@@ -330,13 +337,13 @@ fn look_at(
         None => Ok(false),
         Some(branch) => {
             let mut agenda = waiting.take_agenda(alloc, number);
-            let place = Place {
+            let open_branch = OpenBranch {
                 search,
                 branch,
                 number,
                 pick,
             };
-            let due = place.due_step(alloc, &mut agenda)?;
+            let due = open_branch.due_step(alloc, &mut agenda)?;
             match due {
                 None => Ok(true),
                 Some(found) => {

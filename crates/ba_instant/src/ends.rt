@@ -4,7 +4,7 @@ ghost use Rattle.ba_model.specs.Limits.{most_budget};
 ghost use Rattle.ba_kernel.specs.Courses.{AllClosed, ProblemFits};
 ghost use Rattle.ba_kernel.specs.Tests.{open_at};
 ghost use Rattle.ba_instant.specs.Dues.{Ends, Searches};
-ghost use Rattle.ba_instant.specs.Nexts.{AreWaiting, IsAhead, IsLeafOf, IsTaken};
+ghost use Rattle.ba_instant.specs.Nexts.{AreLeftAt, AreWaiting, IsAhead, IsLeafOf, IsTaken};
 ghost use Rattle.ba_instant.specs.declared.ends.Settled.TheVariants.{Proved as ByProof, Spent};
 ghost use Rattle.ba_instant.specs.declared.order.Pick.TheVariants.{First};
 
@@ -17,9 +17,11 @@ use ba_kernel::{Problem, Proved, Search, Step};
 use ba_model::{Duplicate, Failure, List, Owned};
 use std::alloc::{AllocError, Global};
 
-/// The steps that were taken, and an open branch that they leave, on which no step is new.
+/// A problem, the steps that were taken from its start, and an open branch that they leave, on
+/// which no step is new.
 #[derive(Drop)]
 pub struct Leaf {
+    pub problem: Owned<Problem>,
     pub steps: List<Step>,
     pub branch: Owned<Branch>,
 }
@@ -50,7 +52,9 @@ pub fn settle(alloc: Global, problem: Problem, budget: u32) -> Result<Settled, A
     settle_in(alloc, problem, budget, Pick::First)
 }
 
-fn settle_in(
+/// The same in an order of its own: of the steps that are due each is the one that comes first by
+/// the pick.
+pub fn settle_in(
     alloc: Global,
     problem: Problem,
     budget: u32,
@@ -66,7 +70,7 @@ fn settle_in(
         let ahead = advance(alloc, &mut search, pick, &mut waiting)?;
         match ahead {
             Ahead::Moved => (),
-            Ahead::Saturated(number) => return saturated(alloc, &search, number),
+            Ahead::Saturated(number) => return saturated(alloc, search, number),
             Ahead::Closed => return Ok(closed(search)),
         }
     }
@@ -121,18 +125,19 @@ fn end(
     let next = next_step(alloc, &search, pick, waiting)?;
     match next {
         Next::Take(_) => spent(alloc, &search),
-        Next::Saturated(number) => saturated(alloc, &search, number),
+        Next::Saturated(number) => saturated(alloc, search, number),
         Next::Closed => Ok(closed(search)),
     }
 }
 
-/// Takes the step, which is due. All branches but its own wait then, and what is left of the agenda is
-/// that one's.
+/// Takes the step, which is due. All branches but its own wait then, and what is left of the agenda
+/// is that one's.
 fn take(alloc: Global, search: &mut Search, pick: Pick, due: Due) -> Result<Waiting, AllocError>
     requires few { length search.old.steps < most_budget }
     requires taken { IsTaken pick search.old due }
     requires searches { Searches pick search.old.problem search.old.steps search.old.slots }
-    ensures searches { OnOk result (Searches pick search.new.problem search.new.steps search.new.slots) }
+    ensures searches { OnOk result
+        (Searches pick search.new.problem search.new.steps search.new.slots) }
     ensures waiting { IfOk result (AreWaiting pick search.new) }
     ensures problem { OnOk result (search.new.problem ≡ search.old.problem) }
     ensures steps { OnOk result (search.new.steps ≡ search.old.steps ++ due.found.step ∷ []) }
@@ -171,15 +176,33 @@ fn spent(alloc: Global, search: &Search) -> Result<Settled, AllocError>
 }
 
 /// The leaf of the branch.
-fn saturated(alloc: Global, search: &Search, number: u32) -> Result<Settled, AllocError>
+fn saturated(alloc: Global, search: Search, number: u32) -> Result<Settled, AllocError>
+    requires { open_at search.slots number ≢ None }
+    ensures { IfOk result (IsLeafOf search number) }
+{
+    let (steps, branch) = left_at(alloc, &search, number)?;
+    let problem = Owned::new(alloc, search.into_problem())?;
+    Ok(Settled::Saturated(Leaf {
+        problem,
+        steps,
+        branch,
+    }))
+}
+
+/// The steps that were taken, and the branch.
+fn left_at(
+    alloc: Global,
+    search: &Search,
+    number: u32,
+) -> Result<(List<Step>, Owned<Branch>), AllocError>
     requires { open_at search.now.slots number ≢ None }
-    ensures { IfOk result (IsLeafOf search.now number) }
+    ensures { IfOk result (AreLeftAt search.now number) }
 {
     match search.branch(number) {
         Some(branch) => {
             let steps = search.steps().copy(alloc)?;
             let branch = branch.owned_copy(alloc)?;
-            Ok(Settled::Saturated(Leaf { steps, branch }))
+            Ok((steps, branch))
         }
         None => unreachable!(),
     }

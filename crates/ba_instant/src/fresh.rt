@@ -11,8 +11,8 @@ use ba_model::{Duplicate, Table};
 use std::alloc::{AllocError, Global};
 
 /// Whether the step by a key of the two facts tells only of unknowns that stand in nothing that was
-/// learned, and on side Two alone, in no column of a key or a link, where neither the question nor a
-/// rule asks for them. No other step does.
+/// learned, and on side Two alone, in no column of a key or a link, where neither the question nor
+/// a rule asks for them. No other step does.
 pub fn is_quiet_key(
     alloc: Global,
     problem: &Problem,
@@ -97,8 +97,8 @@ fn is_other(term: &Term, unknown: u32) -> bool {
     }
 }
 
-/// Whether the moved unknowns stand in nothing that was learned, not in the goal row, and on side Two
-/// alone, where nothing asks for them.
+/// Whether the moved unknowns stand in nothing that was learned, not in the goal row, and on side
+/// Two alone, where nothing asks for them.
 fn are_quiet(problem: &Problem, branch: &Branch, moves: &[Move]) -> bool
     ensures { IsTrue result → AreQuietMoves problem.now branch.now moves.now }
 {
@@ -131,8 +131,8 @@ fn fact_stays(problem: &Problem, branch: &Branch, moves: &[Move], fact: &Fact) -
     are_unmoved(moves, fact.terms.as_slice()) || is_free(problem, branch, moves, fact)
 }
 
-/// Whether the fact is on side Two, none of the moved unknowns stands in a column of a key or a link,
-/// and nothing else asks for them.
+/// Whether the fact is on side Two, none of the moved unknowns stands in a column of a key or a
+/// link, and nothing else asks for them.
 fn is_free(problem: &Problem, branch: &Branch, moves: &[Move], fact: &Fact) -> bool
     ensures { IsTrue result → IsFree problem.now branch.now moves.now fact.now }
 {
@@ -158,7 +158,8 @@ fn keys_stay(moves: &[Move], terms: &[Term], table: &Table) -> bool
 }
 
 fn links_stay(moves: &[Move], terms: &[Term], table: &Table) -> bool
-    ensures { IsTrue result → All (λ link. ColumnsStay moves.now terms.now link.columns) table.now.links }
+    ensures { IsTrue result
+        → All (λ link. ColumnsStay moves.now terms.now link.columns) table.now.links }
 {
     let links = table.links.as_slice();
     links
@@ -198,7 +199,8 @@ fn are_one(known: &Knowledge, moves: &[Move], left: &[Term], right: &[Term]) -> 
 }
 
 fn is_one(known: &Knowledge, moves: &[Move], a: &Term, b: &Term) -> bool
-    ensures { IsTrue result → OneClass known.now (stand_in moves.now a.now) (stand_in moves.now b.now) }
+    ensures { IsTrue result
+        → OneClass known.now (stand_in moves.now a.now) (stand_in moves.now b.now) }
 {
     known.one_class(stand_in(moves, a.by_ref()), stand_in(moves, b.by_ref()))
 }

@@ -4,7 +4,7 @@ ghost use Rattle.std.specs.List.{AllZip};
 ghost use Rattle.ba_model.specs.declared.query.Operand.TheVariants.{Col};
 ghost use Rattle.ba_facts.specs.Known.{seen};
 ghost use Rattle.ba_facts.specs.Matches.{IsShown, Under, term_of};
-ghost use Rattle.ba_instant.specs.Givens.{GivesBy, GivesSome, IsHeadOf, IsPlaceOf};
+ghost use Rattle.ba_instant.specs.Givens.{GivesBy, GivesSome, IsHeadOf, IsHeadPlace};
 ghost use Rattle.ba_instant.specs.QuietSteps.{IsFilled, IsPlain, IsQuietEntry, IsRowFor};
 
 use crate::choices::chosen_rows;
@@ -40,7 +40,8 @@ fn is_row_given(
     part: &Part,
     row: &[Operand],
 ) -> Result<bool, AllocError>
-    ensures { IfOk result (λ it. IsTrue it → GivesSome problem.now.policy.schema branch.now part.now row.now) }
+    ensures { IfOk result
+        (λ it. IsTrue it → GivesSome problem.now.policy.schema branch.now part.now row.now) }
 {
     let schema = &problem.policy.schema;
     let rows = chosen_rows(alloc, schema, part, row)?;
@@ -139,7 +140,8 @@ impl<'a> Rows<'a> {
     }
 
     fn show_all(&self, conds: &'a [Atom]) -> bool
-        ensures { IsTrue result → All (IsShown self.now.branch.now.known self.now.rows.now) conds.now }
+        ensures { IsTrue result
+            → All (IsShown self.now.branch.now.known self.now.rows.now) conds.now }
     {
         conds.iter().all(|atom| self.show(atom))
     }
@@ -154,13 +156,15 @@ impl<'a> Rows<'a> {
     }
 
     fn are_plain(&self, conds: &'a [Atom]) -> bool
-        ensures { IsTrue result → All (Under (IsPlain self.now.branch.now.known) self.now.rows.now) conds.now }
+        ensures { IsTrue result
+            → All (Under (IsPlain self.now.branch.now.known) self.now.rows.now) conds.now }
     {
         conds.iter().all(|atom| self.is_plain(atom))
     }
 
     fn is_plain(&self, atom: &'a Atom) -> bool
-        ensures { IsTrue result → Under (IsPlain self.now.branch.now.known) self.now.rows.now atom.now }
+        ensures { IsTrue result
+            → Under (IsPlain self.now.branch.now.known) self.now.rows.now atom.now }
     {
         match (self.term_of(&atom.left), self.term_of(&atom.right)) {
             (Some(left), Some(right)) => is_plain_of(self.branch, atom.op, left, right),
@@ -170,7 +174,8 @@ impl<'a> Rows<'a> {
 
     /// Whether the head is of one class with the row, place by place.
     fn are_head(&self, head: &'a [Operand], row: &'a [Operand]) -> bool
-        ensures { IsTrue result → IsHeadOf self.now.branch.now.known self.now.rows.now head.now row.now }
+        ensures { IsTrue result
+            → IsHeadOf self.now.branch.now.known self.now.rows.now head.now row.now }
     {
         match (head.split_first(), row.split_first()) {
             (Some((operand, head)), Some((value, row))) => {
@@ -182,7 +187,8 @@ impl<'a> Rows<'a> {
     }
 
     fn is_place(&self, operand: &'a Operand, value: &'a Operand) -> bool
-        ensures { IsTrue result → IsPlaceOf self.now.branch.now.known self.now.rows.now operand.now value.now }
+        ensures { IsTrue result
+            → IsHeadPlace self.now.branch.now.known self.now.rows.now operand.now value.now }
     {
         match (self.term_of(operand), self.branch.term_of(&[], value)) {
             (Some(one), Some(other)) => self.branch.known.one_class(one, other),

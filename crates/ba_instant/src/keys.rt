@@ -4,23 +4,23 @@ ghost use Rattle.ba_facts.specs.Known.{seen};
 ghost use Rattle.ba_facts.specs.Shown.{IsEqual};
 ghost use Rattle.ba_kernel.specs.Courses.{IsOpen};
 ghost use Rattle.ba_kernel.specs.Effects.{AreEqualAt};
-ghost use Rattle.ba_instant.specs.Looks.{AreEqualBy, IsKeyInTurn, IsLook, IsTimelyKey, IsTurn, ShareKey};
-ghost use Rattle.ba_instant.specs.Offers.{Improves, IsKeyOfPair, IsKeyStep, OfAny, keys_at};
+ghost use Rattle.ba_instant.specs.Scans.{AreEqualBy, ImprovesBy, IsKeyOf, IsKeyWith, IsPair, IsScan, IsTimelyKey, IsTurn, ShareKey, schema_of};
+ghost use Rattle.ba_instant.specs.Offers.{IsKeyOfPair, IsKeyStep, keys_at};
 ghost use Rattle.ba_instant.specs.Partners.{ArePartners};
 
 use crate::batch::{Batch, is_timely};
-use crate::found::{Spot, counted};
 use crate::recent::fact_round;
+use crate::scan::{Scan, counted};
 use ba_facts::{Fact, Knowledge, TermRef};
 use ba_kernel::Step;
 use ba_model::List;
 use std::alloc::AllocError;
 
-impl<'a> Spot<'a> {
+impl<'a> Scan<'a> {
     /// Offers the steps by keys of two facts.
     pub fn offer_keys(&self, best: &mut Option<Batch>) -> Result<(), AllocError>
-        requires { IsLook self.now.search.now self.now.number self.now.branch.now self.now.quiet self.now.recent.now }
-        ensures { OnOk result (Improves self.now.search.now self.now.pick (IsKeyStep self.now.number) best.old best.new) }
+        requires { IsScan self.now }
+        ensures { OnOk result (ImprovesBy self.now (IsKeyStep self.now.number) best.old best.new) }
     {
         if is_timely(self.quiet, best) {
             self.offer_recent_keys(best)?;
@@ -30,8 +30,8 @@ impl<'a> Spot<'a> {
 
     /// Offers the steps by keys of two facts, of which one is recent.
     fn offer_recent_keys(&self, best: &mut Option<Batch>) -> Result<(), AllocError>
-        requires { IsLook self.now.search.now self.now.number self.now.branch.now self.now.quiet self.now.recent.now }
-        ensures { OnOk result (Improves self.now.search.now self.now.pick (IsKeyStep self.now.number) best.old best.new) }
+        requires { IsScan self.now }
+        ensures { OnOk result (ImprovesBy self.now (IsKeyStep self.now.number) best.old best.new) }
     {
         for fact in self.recent {
             self.offer_keys_of(*fact, best)?;
@@ -42,7 +42,7 @@ impl<'a> Spot<'a> {
     /// Offers the steps by keys of the fact and others whose turn it is.
     fn offer_keys_of(&self, one: u32, best: &mut Option<Batch>) -> Result<(), AllocError>
         requires { IsOpen self.now.search.now.slots self.now.number self.now.branch.now }
-        ensures { OnOk result (Improves self.now.search.now self.now.pick (OfAny (IsKeyInTurn self.now.branch.now self.now.quiet self.now.number one)) best.old best.new) }
+        ensures { OnOk result (ImprovesBy self.now (IsKeyOf self.now one) best.old best.new) }
     {
         let partners = self.partners(one)?;
         self.offer_keys_with(one, &partners, best)
@@ -56,8 +56,8 @@ impl<'a> Spot<'a> {
         best: &mut Option<Batch>,
     ) -> Result<(), AllocError>
         requires open { IsOpen self.now.search.now.slots self.now.number self.now.branch.now }
-        requires partners { ArePartners self.now.search.now.problem.policy.schema self.now.branch.now one partners.now }
-        ensures { OnOk result (Improves self.now.search.now self.now.pick (OfAny (IsKeyInTurn self.now.branch.now self.now.quiet self.now.number one)) best.old best.new) }
+        requires partners { ArePartners (schema_of self.now) self.now.branch.now one partners.now }
+        ensures { OnOk result (ImprovesBy self.now (IsKeyOf self.now one) best.old best.new) }
     {
         for other in partners {
             self.offer_keys_of_two(one, *other, best)?;
@@ -73,7 +73,8 @@ impl<'a> Spot<'a> {
         best: &mut Option<Batch>,
     ) -> Result<(), AllocError>
         requires { IsOpen self.now.search.now.slots self.now.number self.now.branch.now }
-        ensures { OnOk result (Improves self.now.search.now self.now.pick (IsKeyInTurn self.now.branch.now self.now.quiet self.now.number one other) best.old best.new) }
+        ensures { OnOk result
+            (ImprovesBy self.now (IsKeyWith self.now one other) best.old best.new) }
     {
         if self.is_pair(one, other, best) {
             self.offer_keys_between(one, other, best)?;
@@ -82,18 +83,18 @@ impl<'a> Spot<'a> {
         Ok(())
     }
 
-    /// Whether it is the other fact's turn, keys of the two aren't too late, and they pass the test of
-    /// some key.
+    /// Whether it is the other fact's turn, keys of the two aren't too late, and they pass the test
+    /// of some key.
     fn is_pair(&self, one: u32, other: u32, best: &Option<Batch>) -> bool
-        ensures { IsTrue result ↔ (IsTurn self.now.branch.now self.now.quiet one other × IsTimelyKey self.now.branch.now one other best.now × ShareKey self.now.search.now.problem.policy.schema self.now.branch.now one other) }
+        ensures { IsTrue result ↔ IsPair self.now one other best.now }
     {
         self.is_turn(one, other)
             && self.is_timely_key(one, other, best)
             && self.share_key(one, other)
     }
 
-    /// Whether the two are looked at from the first one, which is recent: two such are looked at from
-    /// that of the lesser number.
+    /// Whether the two are looked at from the first one, which is recent: two such are looked at
+    /// from that of the lesser number.
     fn is_turn(&self, one: u32, other: u32) -> bool
         ensures { IsTrue result ↔ IsTurn self.now.branch.now self.now.quiet one other }
     {
@@ -108,7 +109,8 @@ impl<'a> Spot<'a> {
         best: &mut Option<Batch>,
     ) -> Result<(), AllocError>
         requires { IsOpen self.now.search.now.slots self.now.number self.now.branch.now }
-        ensures { OnOk result (Improves self.now.search.now self.now.pick (IsKeyOfPair self.now.number left right) best.old best.new) }
+        ensures { OnOk result
+            (ImprovesBy self.now (IsKeyOfPair self.now.number left right) best.old best.new) }
     {
         let count = self.key_count(left)?;
         for key in 0..count {
@@ -133,7 +135,7 @@ impl<'a> Spot<'a> {
 
     /// Whether the two facts pass the test of some key of their table.
     fn share_key(&self, one: u32, other: u32) -> bool
-        ensures { IsTrue result ↔ ShareKey self.now.search.now.problem.policy.schema self.now.branch.now one other }
+        ensures { IsTrue result ↔ ShareKey (schema_of self.now) self.now.branch.now one other }
     {
         let Some(f) = self.branch.facts.find(one as usize) else {
             return false;
@@ -146,7 +148,7 @@ impl<'a> Spot<'a> {
 
     /// Whether the two facts are shown equal on some key of the first one's table.
     fn are_equal_by(&self, f: &Fact, g: &Fact) -> bool
-        ensures { IsTrue result ↔ AreEqualBy self.now.search.now.problem.policy.schema self.now.branch.now f.now g.now }
+        ensures { IsTrue result ↔ AreEqualBy (schema_of self.now) self.now.branch.now f.now g.now }
     {
         let tables = &self.search.problem().policy.schema.tables;
         match tables.find(f.table as usize) {
@@ -156,14 +158,16 @@ impl<'a> Spot<'a> {
     }
 
     fn are_equal_on_some(&self, f: &Fact, g: &Fact, keys: &[List<u32>]) -> bool
-        ensures { IsTrue result ↔ Any (λ columns. All (AreEqualAt self.now.branch.now f.now.terms g.now.terms) columns) keys.now }
+        ensures { IsTrue result ↔ Any (λ columns. All
+            (AreEqualAt self.now.branch.now f.now.terms g.now.terms) columns) keys.now }
     {
         keys.iter()
             .any(|columns| self.are_equal_on(f, g, columns.as_slice()))
     }
 
     fn are_equal_on(&self, f: &Fact, g: &Fact, columns: &[u32]) -> bool
-        ensures { IsTrue result ↔ All (AreEqualAt self.now.branch.now f.now.terms g.now.terms) columns.now }
+        ensures { IsTrue result
+            ↔ All (AreEqualAt self.now.branch.now f.now.terms g.now.terms) columns.now }
     {
         columns
             .iter()
@@ -182,7 +186,8 @@ impl<'a> Spot<'a> {
 
     /// How many keys the fact's table has; none where there is no such fact or table.
     fn key_count(&self, fact: u32) -> Result<u32, AllocError>
-        ensures { IfOk result (λ count. count ≡ length (keys_at self.now.search.now.problem.policy.schema self.now.branch.now fact)) }
+        ensures { IfOk result
+            (λ count. count ≡ length (keys_at (schema_of self.now) self.now.branch.now fact)) }
     {
         let Some(it) = self.branch.facts.find(fact as usize) else {
             return Ok(0);

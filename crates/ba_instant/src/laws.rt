@@ -1,8 +1,14 @@
 //! What holds of every search, stated as functions that do nothing.
-ghost use Rattle.ba_instant.specs.Dues.{DueListsAreOne, PickedIsOne, SearchesAreDue};
+ghost use Rattle.ba_instant.specs.Dues.{DueListsAreOne, EndsAreLeaves, PickedIsOne, SearchesAreDue};
 ghost use Rattle.ba_instant.specs.Loose.{LooseStays};
 ghost use Rattle.ba_instant.specs.QuietSteps.{GivenCaseIsQuiet, NewAfterQuietStep, QuietStepKeeps, RunsAreFilled};
 ghost use Rattle.ba_instant.specs.Windows.{DueIsQuiet, NewWasNew, QuietAtFirst, QuietIsNotAbsurd, QuietStays, RunsAreGrounded};
+
+/// A leaf that a search ends at is one: its steps are accepted from its problem's start, and leave
+/// its branch, on which no step is new.
+pub fn ends_are_leaves()
+    ensures { EndsAreLeaves }
+{}
 
 /// The steps of a search are a due list of its problem.
 pub fn searches_are_due()
@@ -25,8 +31,8 @@ pub fn runs_are_grounded()
     ensures { RunsAreGrounded }
 {}
 
-/// Where a branch grows quietly by facts of no round below a bound, a step of a round up to the bound
-/// that is new then was new before, of the same round.
+/// Where a branch grows quietly by facts of no round below a bound, a step of a round up to the
+/// bound that is new then was new before, of the same round.
 pub fn new_was_new()
     ensures { NewWasNew }
 {}

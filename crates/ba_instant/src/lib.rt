@@ -1,5 +1,5 @@
-//! The search for a proof: each step that is taken is the due one, by rounds and the order of steps,
-//! until no branch is open, a branch has no new step, or the budget is spent.
+//! The search for a proof: each step that is taken is the due one, by rounds and the order of
+//! steps, until no branch is open, a branch has no new step, or the budget is spent.
 #![tactic(auto)]
 
 mod agenda;
@@ -10,7 +10,6 @@ mod chases;
 mod choices;
 mod due;
 mod ends;
-mod found;
 mod fresh;
 mod given;
 mod keys;
@@ -24,10 +23,11 @@ mod parts;
 mod quiet;
 mod reach;
 mod recent;
+mod scan;
 mod splits;
 mod spread;
 mod standing;
 mod waiting;
 
-pub use ends::{Leaf, Settled, settle};
+pub use ends::{Leaf, Settled, settle, settle_in};
 pub use order::{Pick, compare_steps};

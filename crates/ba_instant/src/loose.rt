@@ -7,8 +7,8 @@ ghost use Rattle.ba_instant.specs.Loose.{IsLoose, IsLooseAtom};
 use ba_facts::{Knowledge, Term, TermAtom};
 use ba_model::Op;
 
-/// Whether the comparison is loose, and its negation too: told of them, no two terms become the same
-/// that weren't.
+/// Whether the comparison is loose, and its negation too: told of them, no two terms become the
+/// same that weren't.
 pub fn is_loose(known: &Knowledge, atom: &TermAtom) -> bool
     ensures { IsTrue result → IsLooseAtom known.now atom.now }
 {

@@ -2,13 +2,13 @@
 ghost use Rattle.std.specs.Prelude.{◌≡◌, ◌↔◌, [], ◌∷◌, Any, IfOk, IsTrue, OnOk};
 ghost use Rattle.ba_facts.specs.Matches.{IsFactOf};
 ghost use Rattle.ba_kernel.specs.Effects.{rows_at};
-ghost use Rattle.ba_instant.specs.Looks.{AreOld, IsLook, IsOvertaken, IsTimelyOf, least_round};
-ghost use Rattle.ba_instant.specs.Offers.{Improves, IsHidden, IsMapped, IsMappedFrom, step_of};
+ghost use Rattle.ba_instant.specs.Scans.{AreOld, ImprovesBy, IsOvertaken, IsScan, IsTimelyOf, least_round};
+ghost use Rattle.ba_instant.specs.Offers.{IsHidden, IsStepFrom, IsStepOf, step_of};
 
 use crate::batch::{Batch, is_behind, is_timely};
-use crate::found::{Spot, counted};
 use crate::order::Pick;
 use crate::recent::{fact_round, greatest_round};
+use crate::scan::{Scan, counted};
 use ba_facts::{Branch, Side};
 use ba_kernel::Step;
 use ba_model::{Atom, List, Part};
@@ -52,7 +52,7 @@ impl Form {
 /// A part that is mapped to facts of a side, and what step is taken on them.
 #[derive(Clone, Copy)]
 pub struct Mapped<'a> {
-    pub spot: &'a Spot<'a>,
+    pub scan: &'a Scan<'a>,
     pub form: Form,
     pub part: &'a Part,
     pub side: Side,
@@ -62,10 +62,10 @@ impl<'a> Mapped<'a> {
     /// Offers the step on each facts of the side that show the part's atoms.
     #[tactic(auto, using(crate::proofs::MapLemmas::mapped_whole))]
     pub fn offer(&self, best: &mut Option<Batch>) -> Result<(), AllocError>
-        requires { IsLook self.now.spot.now.search.now self.now.spot.now.number self.now.spot.now.branch.now self.now.spot.now.quiet self.now.spot.now.recent.now }
-        ensures { OnOk result (Improves self.now.spot.now.search.now self.now.spot.now.pick (IsMapped self.now.spot.now.branch.now self.now.spot.now.number self.now.form self.now.side self.now.part.now) best.old best.new) }
+        requires { IsScan self.now.scan.now }
+        ensures { OnOk result (ImprovesBy self.now.scan.now (IsStepOf self.now) best.old best.new) }
     {
-        let mut chosen = Vec::new(self.spot.alloc);
+        let mut chosen = Vec::new(self.scan.alloc);
         self.offer_from(self.part.from.as_slice(), &mut chosen, best)?;
         Ok(())
     }
@@ -77,9 +77,10 @@ impl<'a> Mapped<'a> {
         chosen: &mut Vec<u32>,
         best: &mut Option<Batch>,
     ) -> Result<(), AllocError>
-        requires { IsLook self.now.spot.now.search.now self.now.spot.now.number self.now.spot.now.branch.now self.now.spot.now.quiet self.now.spot.now.recent.now }
+        requires { IsScan self.now.scan.now }
         ensures chosen { OnOk result (chosen.new.items ≡ chosen.old.items) }
-        ensures best { OnOk result (Improves self.now.spot.now.search.now self.now.spot.now.pick (IsMappedFrom self.now.spot.now.branch.now self.now.spot.now.number self.now.form self.now.side self.now.part.now from.now chosen.old.items) best.old best.new) }
+        ensures best { OnOk result (ImprovesBy self.now.scan.now
+            (IsStepFrom self.now from.now chosen.old.items) best.old best.new) }
     {
         let Some((table, rest)) = from.split_first() else {
             return self.offer_on(chosen, best);
@@ -87,13 +88,13 @@ impl<'a> Mapped<'a> {
         if self.is_overtaken(chosen, best)? {
             return Ok(());
         }
-        if is_hopeless(self.spot.branch, self.part, chosen) {
+        if is_hopeless(self.scan.branch, self.part, chosen) {
             return Ok(());
         }
         if rest.is_empty() && self.are_old(chosen) {
             return self.offer_recent(*table, chosen, best);
         }
-        let count = counted(self.spot.branch.facts.len())?;
+        let count = counted(self.scan.branch.facts.len())?;
         for fact in 0..count {
             if self.may_take(*table, fact, best) {
                 chosen.push(fact)?;
@@ -112,12 +113,14 @@ impl<'a> Mapped<'a> {
         chosen: &mut Vec<u32>,
         best: &mut Option<Batch>,
     ) -> Result<(), AllocError>
-        requires look { IsLook self.now.spot.now.search.now self.now.spot.now.number self.now.spot.now.branch.now self.now.spot.now.quiet self.now.spot.now.recent.now }
-        requires old { AreOld self.now.spot.now.branch.now self.now.spot.now.quiet self.now.form chosen.old.items }
+        requires look { IsScan self.now.scan.now }
+        requires old { AreOld self.now.scan.now.branch.now self.now.scan.now.quiet self.now.form
+            chosen.old.items }
         ensures chosen { OnOk result (chosen.new.items ≡ chosen.old.items) }
-        ensures best { OnOk result (Improves self.now.spot.now.search.now self.now.spot.now.pick (IsMappedFrom self.now.spot.now.branch.now self.now.spot.now.number self.now.form self.now.side self.now.part.now (table ∷ []) chosen.old.items) best.old best.new) }
+        ensures best { OnOk result (ImprovesBy self.now.scan.now
+            (IsStepFrom self.now (table ∷ []) chosen.old.items) best.old best.new) }
     {
-        for fact in self.spot.recent {
+        for fact in self.scan.recent {
             if self.may_take(table, *fact, best) {
                 chosen.push(*fact)?;
                 self.offer_on(chosen, best)?;
@@ -129,13 +132,14 @@ impl<'a> Mapped<'a> {
 
     /// Offers the step on the facts, if they show the part's atoms.
     fn offer_on(&self, facts: &[u32], best: &mut Option<Batch>) -> Result<(), AllocError>
-        requires { IsLook self.now.spot.now.search.now self.now.spot.now.number self.now.spot.now.branch.now self.now.spot.now.quiet self.now.spot.now.recent.now }
-        ensures { OnOk result (Improves self.now.spot.now.search.now self.now.spot.now.pick (IsMappedFrom self.now.spot.now.branch.now self.now.spot.now.number self.now.form self.now.side self.now.part.now [] facts.now) best.old best.new) }
+        requires { IsScan self.now.scan.now }
+        ensures { OnOk result
+            (ImprovesBy self.now.scan.now (IsStepFrom self.now [] facts.now) best.old best.new) }
     {
-        match self.spot.branch.undecided(self.part, facts) {
+        match self.scan.branch.undecided(self.part, facts) {
             None => {
-                let numbers = copied(self.spot.alloc, facts)?;
-                let step = self.form.on(self.spot.number, numbers);
+                let numbers = copied(self.scan.alloc, facts)?;
+                let step = self.form.on(self.scan.number, numbers);
                 self.offer_shown(facts, step, best)?;
                 Ok(())
             }
@@ -150,27 +154,28 @@ impl<'a> Mapped<'a> {
         step: Step,
         best: &mut Option<Batch>,
     ) -> Result<(), AllocError>
-        requires look { IsLook self.now.spot.now.search.now self.now.spot.now.number self.now.spot.now.branch.now self.now.spot.now.quiet self.now.spot.now.recent.now }
-        requires is { step ≡ step_of self.now.spot.now.number self.now.form facts.now }
-        ensures { OnOk result (Improves self.now.spot.now.search.now self.now.spot.now.pick (λ it. it ≡ step) best.old best.new) }
+        requires look { IsScan self.now.scan.now }
+        requires is { step ≡ step_of self.now.scan.now.number self.now.form facts.now }
+        ensures { OnOk result (ImprovesBy self.now.scan.now (λ it. it ≡ step) best.old best.new) }
     {
         let round = self.least_round(facts);
         match self.form {
-            Form::OfRule { .. } => self.spot.offer_at(round, step, best),
-            Form::OfView { .. } => self.spot.offer_at(round, step, best),
-            Form::OfGoal { .. } => self.spot.offer_late(round, step, best),
+            Form::OfRule { .. } => self.scan.offer_at(round, step, best),
+            Form::OfView { .. } => self.scan.offer_at(round, step, best),
+            Form::OfGoal { .. } => self.scan.offer_late(round, step, best),
         }
     }
 
-    /// Whether a step that reaches the goal was found that isn't picked after any on facts that begin
-    /// with the chosen ones.
+    /// Whether a step that reaches the goal was found that isn't picked after any on facts that
+    /// begin with the chosen ones.
     fn is_overtaken(&self, chosen: &[u32], best: &Option<Batch>) -> Result<bool, AllocError>
-        ensures { IfOk result (λ it. IsTrue it → IsOvertaken self.now.spot.now.pick self.now.spot.now.number self.now.form best.now chosen.now) }
+        ensures { IfOk result (λ it. IsTrue it → IsOvertaken self.now.scan.now.pick
+            self.now.scan.now.number self.now.form best.now chosen.now) }
     {
-        match (self.form, self.spot.pick, best) {
+        match (self.form, self.scan.pick, best) {
             (Form::OfGoal { .. }, Pick::First, Some(_)) => {
-                let facts = copied(self.spot.alloc, chosen)?;
-                let step = self.form.on(self.spot.number, facts);
+                let facts = copied(self.scan.alloc, chosen)?;
+                let step = self.form.on(self.scan.number, facts);
                 Ok(is_behind(Pick::First, best, &step))
             }
             _ => Ok(false),
@@ -179,36 +184,39 @@ impl<'a> Mapped<'a> {
 
     /// The least round of the step on the facts.
     fn least_round(&self, facts: &[u32]) -> u64
-        ensures { result ≡ least_round self.now.spot.now.branch.now self.now.form facts.now }
+        ensures { result ≡ least_round self.now.scan.now.branch.now self.now.form facts.now }
     {
         match self.form {
             Form::OfGoal { .. } => 0,
-            _ => u64::from(greatest_round(self.spot.branch, facts)) + 1,
+            _ => u64::from(greatest_round(self.scan.branch, facts)) + 1,
         }
     }
 
     /// Whether the step tells something, and none of the facts is recent.
     fn are_old(&self, chosen: &[u32]) -> bool
-        ensures { IsTrue result ↔ AreOld self.now.spot.now.branch.now self.now.spot.now.quiet self.now.form chosen.now }
+        ensures { IsTrue result
+            ↔ AreOld self.now.scan.now.branch.now self.now.scan.now.quiet self.now.form chosen.now }
     {
         match self.form {
             Form::OfGoal { .. } => false,
-            _ => greatest_round(self.spot.branch, chosen) < self.spot.quiet,
+            _ => greatest_round(self.scan.branch, chosen) < self.scan.quiet,
         }
     }
 
     /// Whether the number is that of a fact of the table on the side, and the step on it isn't of a
     /// later round than what was found.
     fn may_take(&self, table: u32, fact: u32, best: &Option<Batch>) -> bool
-        ensures { IsTrue result ↔ (IsFactOf self.now.spot.now.branch.now self.now.side table fact × IsTimelyOf self.now.spot.now.branch.now self.now.form fact best.now) }
+        ensures { IsTrue result ↔ (IsFactOf self.now.scan.now.branch.now self.now.side table fact
+            × IsTimelyOf self.now.scan.now.branch.now self.now.form fact best.now) }
     {
         self.is_fact(table, fact) && self.is_timely(fact, best)
     }
 
     fn is_timely(&self, fact: u32, best: &Option<Batch>) -> bool
-        ensures { IsTrue result ↔ IsTimelyOf self.now.spot.now.branch.now self.now.form fact best.now }
+        ensures { IsTrue result
+            ↔ IsTimelyOf self.now.scan.now.branch.now self.now.form fact best.now }
     {
-        let round = fact_round(self.spot.branch, fact);
+        let round = fact_round(self.scan.branch, fact);
         match self.form {
             Form::OfRule { .. } => is_timely(round, best),
             Form::OfView { .. } => is_timely(round, best),
@@ -218,9 +226,9 @@ impl<'a> Mapped<'a> {
 
     /// Whether the number is that of a fact of the table on the side.
     fn is_fact(&self, table: u32, number: u32) -> bool
-        ensures { IsTrue result ↔ IsFactOf self.now.spot.now.branch.now self.now.side table number }
+        ensures { IsTrue result ↔ IsFactOf self.now.scan.now.branch.now self.now.side table number }
     {
-        match self.spot.branch.facts.find(number as usize) {
+        match self.scan.branch.facts.find(number as usize) {
             Some(fact) => fact.side == self.side && fact.table == table,
             None => false,
         }
@@ -230,7 +238,8 @@ impl<'a> Mapped<'a> {
 /// Whether an atom of the part isn't shown, whatever further facts are chosen: the chosen ones give
 /// both its terms.
 fn is_hopeless(branch: &Branch, part: &Part, chosen: &[u32]) -> bool
-    ensures { IsTrue result ↔ Any (IsHidden branch.now.known (rows_at branch.now chosen.now)) part.now.conds }
+    ensures { IsTrue result
+        ↔ Any (IsHidden branch.now.known (rows_at branch.now chosen.now)) part.now.conds }
 {
     let conds = part.conds.as_slice();
     conds.iter().any(|atom| is_hidden(branch, chosen, atom))

@@ -5,19 +5,20 @@ ghost use Rattle.ba_facts.specs.declared.branch.Branch.{Branch as ABranch};
 ghost use Rattle.ba_kernel.specs.Courses.{IsOpen};
 ghost use Rattle.ba_instant.specs.Partners.{ArePartners, Gains, HasAny, IsEqualIn, IsEqualOn, IsEqualOnAny};
 
-use crate::found::{Spot, counted};
 use crate::recent::recent_facts;
+use crate::scan::{Scan, counted};
 use ba_facts::{Branch, Fact};
 use ba_kernel::Search;
 use ba_model::List;
 use std::alloc::{AllocError, Global};
 
-impl<'a> Spot<'a> {
+impl<'a> Scan<'a> {
     /// The facts that pass the test of some key with the fact, and maybe others: if it can be told,
     /// those that have a term of the same class in a key's first column, else all.
     pub fn partners(&self, one: u32) -> Result<Vec<u32>, AllocError>
         requires { IsOpen self.now.search.now.slots self.now.number self.now.branch.now }
-        ensures { IfOk result (λ it. ArePartners self.now.search.now.problem.policy.schema self.now.branch.now one it.items) }
+        ensures { IfOk result (λ it. ArePartners self.now.search.now.problem.policy.schema
+            self.now.branch.now one it.items) }
     {
         match self.near_partners(one)? {
             Some(partners) => Ok(partners),
@@ -27,7 +28,8 @@ impl<'a> Spot<'a> {
 
     fn near_partners(&self, one: u32) -> Result<Option<Vec<u32>>, AllocError>
         requires { IsOpen self.now.search.now.slots self.now.number self.now.branch.now }
-        ensures { IfOk result (λ it. IfSome it (λ partners. ArePartners self.now.search.now.problem.policy.schema self.now.branch.now one partners.items)) }
+        ensures { IfOk result (λ it. IfSome it (λ partners. ArePartners
+            self.now.search.now.problem.policy.schema self.now.branch.now one partners.items)) }
     {
         facts_are_laid(self.search);
         let Some(fact) = self.branch.facts.find(one as usize) else {
@@ -48,8 +50,8 @@ fn facts_are_laid(search: &Search)
     let _steps = search.steps();
 }
 
-/// The facts that are shown equal to this one on some key, and maybe others. Nothing where they can't
-/// be told by a key's first column.
+/// The facts that are shown equal to this one on some key, and maybe others. Nothing where they
+/// can't be told by a key's first column.
 fn equal_facts(
     alloc: Global,
     branch: &Branch,
@@ -57,7 +59,8 @@ fn equal_facts(
     keys: &[List<u32>],
 ) -> Result<Option<Vec<u32>>, AllocError>
     requires { IsLaid branch.now }
-    ensures { IfOk result (λ it. IfSome it (λ facts. (number : ℕ) → IsEqualOnAny branch.now fact.now keys.now number → Contains facts.items number)) }
+    ensures { IfOk result (λ it. IfSome it (λ facts. (number : ℕ)
+        → IsEqualOnAny branch.now fact.now keys.now number → Contains facts.items number)) }
 {
     let mut facts = Vec::new(alloc);
     for columns in keys {
@@ -68,8 +71,8 @@ fn equal_facts(
     Ok(Some(facts))
 }
 
-/// Adds the facts that are shown equal to this one on the columns, and maybe others. Answers whether
-/// they could be told.
+/// Adds the facts that are shown equal to this one on the columns, and maybe others. Answers
+/// whether they could be told.
 fn add_equal(
     branch: &Branch,
     fact: &Fact,
@@ -77,7 +80,8 @@ fn add_equal(
     facts: &mut Vec<u32>,
 ) -> Result<bool, AllocError>
     requires { IsLaid branch.now }
-    ensures { IfOk result (λ told. IsTrue told → Gains facts.old.items facts.new.items (IsEqualOn branch.now fact.now columns.now)) }
+    ensures { IfOk result (λ told. IsTrue told
+        → Gains facts.old.items facts.new.items (IsEqualOn branch.now fact.now columns.now)) }
 {
     match columns.first() {
         Some(column) => add_equal_in(branch, fact, *column, facts),
@@ -92,7 +96,8 @@ fn add_equal_in(
     facts: &mut Vec<u32>,
 ) -> Result<bool, AllocError>
     requires { IsLaid branch.now }
-    ensures { IfOk result (λ told. IsTrue told → Gains facts.old.items facts.new.items (IsEqualIn branch.now fact.now column)) }
+    ensures { IfOk result (λ told. IsTrue told
+        → Gains facts.old.items facts.new.items (IsEqualIn branch.now fact.now column)) }
 {
     let Some(term) = fact.terms.find(column as usize) else {
         return Ok(false);
@@ -119,7 +124,8 @@ fn add_holders(branch: &Branch, unknowns: &[u32], facts: &mut Vec<u32>) -> Resul
 /// Adds the fact of which the unknown is a term, if there is one.
 fn add_holder(branch: &Branch, unknown: u32, facts: &mut Vec<u32>) -> Result<(), AllocError>
     requires { IsLaid branch.now }
-    ensures { OnOk result (Gains facts.old.items facts.new.items (IsTermOf branch.now.facts unknown)) }
+    ensures { OnOk result
+        (Gains facts.old.items facts.new.items (IsTermOf branch.now.facts unknown)) }
 {
     match branch.holder(unknown) {
         Some(number) => {

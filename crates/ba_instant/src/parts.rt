@@ -1,18 +1,18 @@
 //! Rules, views and the goal.
 ghost use Rattle.std.specs.Prelude.{◌≡◌, ◌<◌, OnOk, Some, length, slice_get};
-ghost use Rattle.ba_instant.specs.Looks.{IsLook};
-ghost use Rattle.ba_instant.specs.Offers.{Improves, IsGoalStep, IsOfForm, IsOfRule, IsOfSides, IsOfView, IsRuleStep, IsViewStep};
+ghost use Rattle.ba_instant.specs.Scans.{ImprovesBy, IsScan};
+ghost use Rattle.ba_instant.specs.Offers.{IsGoalStep, IsOfForm, IsOfRule, IsOfSides, IsOfView, IsRuleStep, IsViewStep};
 ghost use Rattle.ba_instant.specs.declared.mapped.Form.TheVariants.{OfGoal, OfRule};
 
 use crate::batch::{Batch, is_timely};
-use crate::found::{Spot, counted};
 use crate::mapped::{Form, Mapped};
 use crate::reach::Reach;
+use crate::scan::{Scan, counted};
 use ba_facts::{Side, Term};
 use ba_model::{List, Part, Rule, View};
 use std::alloc::AllocError;
 
-impl<'a> Spot<'a> {
+impl<'a> Scan<'a> {
     /// The policy's views.
     pub fn views(&self) -> &[View]
         ensures { result.now ≡ self.now.search.now.problem.policy.views }
@@ -43,7 +43,8 @@ impl<'a> Spot<'a> {
 
     fn rule_at(&self, number: u32) -> &Rule
         requires { number < length self.now.search.now.problem.policy.schema.rules }
-        ensures { slice_get self.now.search.now.problem.policy.schema.rules number ≡ Some result.now }
+        ensures { slice_get self.now.search.now.problem.policy.schema.rules number
+            ≡ Some result.now }
     {
         &self.rules()[number as usize]
     }
@@ -57,8 +58,8 @@ impl<'a> Spot<'a> {
 
     /// Offers the steps by views.
     pub fn offer_views(&self, best: &mut Option<Batch>) -> Result<(), AllocError>
-        requires { IsLook self.now.search.now self.now.number self.now.branch.now self.now.quiet self.now.recent.now }
-        ensures { OnOk result (Improves self.now.search.now self.now.pick (IsViewStep self.now.number) best.old best.new) }
+        requires { IsScan self.now }
+        ensures { OnOk result (ImprovesBy self.now (IsViewStep self.now.number) best.old best.new) }
     {
         if is_timely(self.quiet, best) {
             self.offer_all_views(best)?;
@@ -67,8 +68,8 @@ impl<'a> Spot<'a> {
     }
 
     fn offer_all_views(&self, best: &mut Option<Batch>) -> Result<(), AllocError>
-        requires { IsLook self.now.search.now self.now.number self.now.branch.now self.now.quiet self.now.recent.now }
-        ensures { OnOk result (Improves self.now.search.now self.now.pick (IsViewStep self.now.number) best.old best.new) }
+        requires { IsScan self.now }
+        ensures { OnOk result (ImprovesBy self.now (IsViewStep self.now.number) best.old best.new) }
     {
         let count = counted(self.search.problem().policy.views.len())?;
         for view in 0..count {
@@ -79,15 +80,16 @@ impl<'a> Spot<'a> {
 
     /// Offers the steps by the view.
     fn offer_view(&self, view: u32, best: &mut Option<Batch>) -> Result<(), AllocError>
-        requires look { IsLook self.now.search.now self.now.number self.now.branch.now self.now.quiet self.now.recent.now }
+        requires look { IsScan self.now }
         requires there { view < length self.now.search.now.problem.policy.views }
-        ensures { OnOk result (Improves self.now.search.now self.now.pick (IsOfView self.now.number view) best.old best.new) }
+        ensures { OnOk result
+            (ImprovesBy self.now (IsOfView self.now.number view) best.old best.new) }
     {
         let it = self.view_at(view);
         let count = counted(it.query.parts.len())?;
         for part in 0..count {
             let mapped = Mapped {
-                spot: &*self,
+                scan: &*self,
                 form: Form::OfView { view, part },
                 part: it.query.parts.get(part as usize),
                 side: Side::One,
@@ -99,8 +101,8 @@ impl<'a> Spot<'a> {
 
     /// Offers the steps by rules.
     pub fn offer_rules(&self, best: &mut Option<Batch>) -> Result<(), AllocError>
-        requires { IsLook self.now.search.now self.now.number self.now.branch.now self.now.quiet self.now.recent.now }
-        ensures { OnOk result (Improves self.now.search.now self.now.pick (IsRuleStep self.now.number) best.old best.new) }
+        requires { IsScan self.now }
+        ensures { OnOk result (ImprovesBy self.now (IsRuleStep self.now.number) best.old best.new) }
     {
         if is_timely(self.quiet, best) {
             self.offer_all_rules(best)?;
@@ -109,8 +111,8 @@ impl<'a> Spot<'a> {
     }
 
     fn offer_all_rules(&self, best: &mut Option<Batch>) -> Result<(), AllocError>
-        requires { IsLook self.now.search.now self.now.number self.now.branch.now self.now.quiet self.now.recent.now }
-        ensures { OnOk result (Improves self.now.search.now self.now.pick (IsRuleStep self.now.number) best.old best.new) }
+        requires { IsScan self.now }
+        ensures { OnOk result (ImprovesBy self.now (IsRuleStep self.now.number) best.old best.new) }
     {
         let count = counted(self.search.problem().policy.schema.rules.len())?;
         for rule in 0..count {
@@ -121,9 +123,10 @@ impl<'a> Spot<'a> {
 
     /// Offers the steps by the rule.
     fn offer_rule(&self, rule: u32, best: &mut Option<Batch>) -> Result<(), AllocError>
-        requires look { IsLook self.now.search.now self.now.number self.now.branch.now self.now.quiet self.now.recent.now }
+        requires look { IsScan self.now }
         requires there { rule < length self.now.search.now.problem.policy.schema.rules }
-        ensures { OnOk result (Improves self.now.search.now self.now.pick (IsOfRule self.now.number rule) best.old best.new) }
+        ensures { OnOk result
+            (ImprovesBy self.now (IsOfRule self.now.number rule) best.old best.new) }
     {
         let it = self.rule_at(rule);
         let count = counted(it.left.parts.len())?;
@@ -141,12 +144,14 @@ impl<'a> Spot<'a> {
         part: &Part,
         best: &mut Option<Batch>,
     ) -> Result<(), AllocError>
-        requires { IsLook self.now.search.now self.now.number self.now.branch.now self.now.quiet self.now.recent.now }
-        ensures { OnOk result (Improves self.now.search.now self.now.pick (IsOfSides self.now.branch.now self.now.number (OfRule rule number) part.now) best.old best.new) }
+        requires { IsScan self.now }
+        ensures { OnOk result (ImprovesBy self.now
+            (IsOfSides self.now.branch.now self.now.number (OfRule rule number) part.now) best.old
+            best.new) }
     {
         let form = Form::OfRule { rule, part: number };
         let mut mapped = Mapped {
-            spot: &*self,
+            scan: &*self,
             form,
             part,
             side: Side::One,
@@ -159,8 +164,8 @@ impl<'a> Spot<'a> {
 
     /// Offers the steps that reach the goal.
     pub fn offer_goals(&self, best: &mut Option<Batch>) -> Result<(), AllocError>
-        requires { IsLook self.now.search.now self.now.number self.now.branch.now self.now.quiet self.now.recent.now }
-        ensures { OnOk result (Improves self.now.search.now self.now.pick (IsGoalStep self.now.number) best.old best.new) }
+        requires { IsScan self.now }
+        ensures { OnOk result (ImprovesBy self.now (IsGoalStep self.now.number) best.old best.new) }
     {
         let count = counted(self.goal_parts().len())?;
         for part in 0..count {
@@ -171,9 +176,10 @@ impl<'a> Spot<'a> {
 
     /// Offers the steps that reach the goal by the part. They are listed only where there is one.
     fn offer_goal(&self, number: u32, best: &mut Option<Batch>) -> Result<(), AllocError>
-        requires look { IsLook self.now.search.now self.now.number self.now.branch.now self.now.quiet self.now.recent.now }
+        requires look { IsScan self.now }
         requires below { number < length self.now.search.now.problem.goal.parts }
-        ensures { OnOk result (Improves self.now.search.now self.now.pick (IsOfForm self.now.number (OfGoal number)) best.old best.new) }
+        ensures { OnOk result
+            (ImprovesBy self.now (IsOfForm self.now.number (OfGoal number)) best.old best.new) }
     {
         let part = self.goal_part(number);
         let row: &List<Term> = &self.branch.goal;
@@ -185,7 +191,7 @@ impl<'a> Spot<'a> {
         };
         if reach.is_reached()? {
             let mapped = Mapped {
-                spot: &*self,
+                scan: &*self,
                 form: Form::OfGoal { part: number },
                 part,
                 side: Side::Two,

@@ -8,22 +8,22 @@ ghost use Rattle.ba_kernel.specs.Courses.{ProblemFits, branch_of};
 ghost use Rattle.ba_kernel.specs.Effects.{rows_at};
 ghost use Rattle.ba_kernel.specs.Tests.{open_at};
 ghost use Rattle.ba_instant.specs.Loose.{IsLooseAtom};
-ghost use Rattle.ba_instant.specs.Nexts.{IsLeft, IsQuietAt, IsQuietRound};
+ghost use Rattle.ba_instant.specs.Nexts.{IsAgendaAfter, IsQuietAt, IsQuietRound};
 ghost use Rattle.ba_instant.specs.QuietSteps.{AddsToOne, AddsToOneAt, IsOfOne, IsPlain, IsQuietLink, IsQuietStep, IsQuietView};
 
 use crate::agenda::Agenda;
-use crate::found::Found;
 use crate::fresh::is_quiet_key;
 use crate::given::is_quiet_entry;
 use crate::loose::is_loose;
+use crate::scan::NewStep;
 use ba_facts::{Branch, Knowledge, Side, TermAtom, TermRef};
 use ba_kernel::{Problem, Search, Step};
 use ba_model::{Atom, Op};
 use std::alloc::{AllocError, Global};
 
-/// The round up to which both branches of the split stay quiet but, maybe, for rules and views: that
-/// before the split's, if it is loose. Else 0, up to which each branch is quiet.
-pub fn quiet_round(search: &Search, found: &Found) -> u64
+/// The round up to which both branches of the split stay quiet but, maybe, for rules and views:
+/// that before the split's, if it is loose. Else 0, up to which each branch is quiet.
+pub fn quiet_round(search: &Search, found: &NewStep) -> u64
     ensures { IsQuietRound search.now found.now result }
 {
     match &found.step {
@@ -51,10 +51,11 @@ fn loose_round(known: &Knowledge, atom: &TermAtom, round: u64) -> u64
 pub fn left_after(
     alloc: Global,
     search: &Search,
-    found: &Found,
+    found: &NewStep,
     agenda: Agenda,
 ) -> Result<Agenda, AllocError>
-    ensures left { IfOk result (IsLeft search.now (record { found = found.now; agenda = agenda })) }
+    ensures left { IfOk result
+        (IsAgendaAfter search.now (record { found = found.now; agenda = agenda })) }
     ensures fits { ProblemFits search.now.problem }
 {
     let problem = search.problem();
@@ -102,7 +103,8 @@ fn is_quiet_at(
     branch: Option<&Branch>,
     step: &Step,
 ) -> Result<bool, AllocError>
-    ensures { IfOk result (λ it. IsTrue it → IsQuietAt problem.now (option_copied branch.entry) step.now) }
+    ensures { IfOk result
+        (λ it. IsTrue it → IsQuietAt problem.now (option_copied branch.entry) step.now) }
 {
     match branch {
         Some(branch) => is_quiet_step(alloc, problem, branch, step),
@@ -110,9 +112,9 @@ fn is_quiet_at(
     }
 }
 
-/// Whether the step is sure to leave its branch as quiet as it was: a link adds a row whose unknowns
-/// stand for nothing else, a view shows what was told as it is, an entry says no more than what is
-/// known of its constants, a key tells of unknowns alone that nothing asks for.
+/// Whether the step is sure to leave its branch as quiet as it was: a link adds a row whose
+/// unknowns stand for nothing else, a view shows what was told as it is, an entry says no more than
+/// what is known of its constants, a key tells of unknowns alone that nothing asks for.
 fn is_quiet_step(
     alloc: Global,
     problem: &Problem,
@@ -193,13 +195,15 @@ fn is_quiet_view(problem: &Problem, branch: &Branch, view: u32, part: u32, facts
 }
 
 fn are_plain(branch: &Branch, facts: &[u32], conds: &[Atom]) -> bool
-    ensures { IsTrue result → All (Under (IsPlain branch.now.known) (rows_at branch.now facts.now)) conds.now }
+    ensures { IsTrue result
+        → All (Under (IsPlain branch.now.known) (rows_at branch.now facts.now)) conds.now }
 {
     conds.iter().all(|atom| is_plain(branch, facts, atom))
 }
 
 fn is_plain(branch: &Branch, facts: &[u32], atom: &Atom) -> bool
-    ensures { IsTrue result → Under (IsPlain branch.now.known) (rows_at branch.now facts.now) atom.now }
+    ensures { IsTrue result
+        → Under (IsPlain branch.now.known) (rows_at branch.now facts.now) atom.now }
 {
     match (
         branch.term_of(facts, &atom.left),

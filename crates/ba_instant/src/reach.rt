@@ -1,21 +1,20 @@
 //! Whether a part of the goal can be mapped to facts at all.
-ghost use Rattle.std.specs.Prelude.{◌≡◌, ◌↔◌, ◌⊎◌, [], ℕ, All, Any, IfOk, IsTrue, OnOk, Some, map};
-ghost use Rattle.std.specs.Prelude.{List as Numbers};
+ghost use Rattle.std.specs.Prelude.{◌≡◌, ◌↔◌, ◌⊎◌, [], All, Any, IfOk, IsTrue, OnOk, Some, map};
 ghost use Rattle.ba_facts.specs.Matches.{IsFactOf, terms_at};
 ghost use Rattle.ba_facts.specs.Searching.{FailsAt};
 ghost use Rattle.ba_facts.specs.declared.matches.search.Wanted.TheVariants.{Shown};
 ghost use Rattle.ba_facts.specs.declared.term.Side.TheVariants.{Two};
-ghost use Rattle.ba_instant.specs.Spreads.{HasFact, IsLost, IsPassed, IsReached};
+ghost use Rattle.ba_instant.specs.Spreads.{HasFact, IsLostBy, IsPassedBy, NoneReach};
 
 use crate::alike::has_alike;
-use crate::found::counted;
+use crate::scan::counted;
 use crate::spread::is_no_front;
 use ba_facts::{Branch, Fact, Side, Term, is_due};
 use ba_model::{Atom, List, Part};
 use std::alloc::{AllocError, Global};
 
-/// A part of the goal that is mapped to facts of side Two, with the row for its head. Of facts that are
-/// alike only the first is tried.
+/// A part of the goal that is mapped to facts of side Two, with the row for its head. Of facts that
+/// are alike only the first is tried.
 #[derive(Clone, Copy)]
 pub struct Reach<'a> {
     pub alloc: Global,
@@ -27,7 +26,8 @@ pub struct Reach<'a> {
 impl Reach<'_> {
     /// Whether there may be facts that show the part's atoms and give the row.
     pub fn is_reached(&self) -> Result<bool, AllocError>
-        ensures { IfOk result (λ found. (IsTrue found → ⊥) → (facts : Numbers ℕ) → IsReached self.now.branch.now self.now.part.now self.now.row.now self.now.part.now.from [] facts → ⊥) }
+        ensures { IfOk result
+            (λ found. (IsTrue found → ⊥) → NoneReach self.now self.now.part.now.from []) }
     {
         let from = self.part.from.as_slice();
         if !self.have_facts(from) {
@@ -59,7 +59,8 @@ impl Reach<'_> {
     /// Whether there may be such facts of which the first ones are like the chosen ones.
     fn finds(&self, from: &[u32], chosen: &mut Vec<u32>) -> Result<bool, AllocError>
         ensures chosen { OnOk result (chosen.new.items ≡ chosen.old.items) }
-        ensures none { IfOk result (λ found. (IsTrue found → ⊥) → (facts : Numbers ℕ) → IsReached self.now.branch.now self.now.part.now self.now.row.now from.now chosen.old.items facts → ⊥) }
+        ensures none { IfOk result
+            (λ found. (IsTrue found → ⊥) → NoneReach self.now from.now chosen.old.items) }
     {
         let Some((table, rest)) = from.split_first() else {
             return Ok(self.is_shown(chosen));
@@ -83,7 +84,7 @@ impl Reach<'_> {
 
     /// Whether the facts show each atom of the part.
     fn is_shown(&self, facts: &[u32]) -> bool
-        ensures { (IsTrue result → ⊥) → (others : Numbers ℕ) → IsReached self.now.branch.now self.now.part.now self.now.row.now [] facts.now others → ⊥ }
+        ensures { (IsTrue result → ⊥) → NoneReach self.now [] facts.now }
     {
         match self.branch.undecided(self.part, facts) {
             None => true,
@@ -94,7 +95,7 @@ impl Reach<'_> {
     /// Whether the fact that was chosen last is one of the table, may lead to such facts, and isn't
     /// alike to one of those that were tried.
     fn may_lead(&self, table: u32, fact: u32, chosen: &[u32], tried: &[u32]) -> bool
-        ensures { (IsTrue result → ⊥) → IsPassed self.now.branch.now Two self.now.part.now Shown (Some self.now.row.now) table chosen.now tried.now fact }
+        ensures { (IsTrue result → ⊥) → IsPassedBy self.now table chosen.now tried.now fact }
     {
         if !self.is_fact(table, fact) {
             return false;
@@ -117,14 +118,15 @@ impl Reach<'_> {
 
     /// Whether the chosen facts lead to none that show the atoms and give the row.
     fn is_lost(&self, chosen: &[u32]) -> bool
-        ensures { IsTrue result → IsLost self.now.branch.now self.now.part.now Shown (Some self.now.row.now) chosen.now }
+        ensures { IsTrue result → IsLostBy self.now chosen.now }
     {
         self.has_other(chosen) || self.is_hopeless(chosen)
     }
 
     /// Whether the last fact chosen makes some atom one that isn't shown.
     fn is_hopeless(&self, chosen: &[u32]) -> bool
-        ensures { IsTrue result ↔ Any (FailsAt self.now.branch.now.known Shown (map (terms_at self.now.branch.now) chosen.now)) self.now.part.now.conds }
+        ensures { IsTrue result ↔ Any (FailsAt self.now.branch.now.known Shown
+            (map (terms_at self.now.branch.now) chosen.now)) self.now.part.now.conds }
     {
         let conds = self.part.conds.as_slice();
         conds
@@ -134,7 +136,7 @@ impl Reach<'_> {
 
     /// Whether the head has a term already over the chosen facts that isn't the same as the row's.
     fn has_other(&self, chosen: &[u32]) -> bool
-        ensures { IsTrue result → IsLost self.now.branch.now self.now.part.now Shown (Some self.now.row.now) chosen.now }
+        ensures { IsTrue result → IsLostBy self.now chosen.now }
     {
         let head = self.part.head.as_slice();
         is_no_front(self.branch, head, chosen, self.row.as_slice())
@@ -150,7 +152,8 @@ fn is_of(fact: &Fact, table: u32) -> bool
 
 /// Whether both terms are there since the last fact was chosen, and the atom isn't shown.
 fn fails_to_show(branch: &Branch, chosen: &[u32], atom: &Atom) -> bool
-    ensures { IsTrue result ↔ FailsAt branch.now.known Shown (map (terms_at branch.now) chosen.now) atom.now }
+    ensures { IsTrue result
+        ↔ FailsAt branch.now.known Shown (map (terms_at branch.now) chosen.now) atom.now }
 {
     if !is_due(atom, chosen.len()) {
         return false;

@@ -2,15 +2,15 @@
 ghost use Rattle.std.specs.Prelude.{◌≡◌, IfOk};
 ghost use Rattle.ba_facts.specs.Matches.{round_of};
 ghost use Rattle.ba_instant.specs.Agendas.{AreOlder};
-ghost use Rattle.ba_instant.specs.Looks.{AreRecent};
+ghost use Rattle.ba_instant.specs.Scans.{AreRecent};
 ghost use Rattle.ba_instant.specs.Offers.{fact_round};
 
-use crate::found::counted;
+use crate::scan::counted;
 use ba_facts::Branch;
 use std::alloc::{AllocError, Global};
 
-/// The first number of a fact whose round is at least the bound, or that past the last fact. Those of
-/// a lesser number than `older` aren't looked at.
+/// The first number of a fact whose round is at least the bound, or that past the last fact. Those
+/// of a lesser number than `older` aren't looked at.
 pub fn first_recent(branch: &Branch, older: u32, bound: u32) -> Result<u32, AllocError>
     requires { AreOlder branch.now older bound }
     ensures { IfOk result (λ it. AreOlder branch.now it bound) }

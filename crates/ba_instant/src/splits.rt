@@ -3,11 +3,11 @@ ghost use Rattle.std.specs.Prelude.{◌≡◌, ◌↔◌, ◌⊎◌, IfOk, IsTru
 ghost use Rattle.std.specs.Option.{option_copied};
 ghost use Rattle.ba_facts.specs.Known.{seen};
 ghost use Rattle.ba_facts.specs.declared.term.Side.TheVariants.{One, Two};
-ghost use Rattle.ba_instant.specs.Looks.{AreEquations, IsLook};
-ghost use Rattle.ba_instant.specs.Offers.{Improves, IsSplitOfAtom, IsSplitOfPart, IsSplitOfParts, IsSplitOfRules, IsSplitOfSides, IsSplitOfViews, IsSplitStep};
+ghost use Rattle.ba_instant.specs.Scans.{AreEquations, ImprovesBy, IsScan};
+ghost use Rattle.ba_instant.specs.Offers.{IsSplitOfAtom, IsSplitOfPart, IsSplitOfParts, IsSplitOfRules, IsSplitOfSides, IsSplitOfViews, IsSplitStep};
 
 use crate::batch::{Batch, is_timely};
-use crate::found::Spot;
+use crate::scan::Scan;
 use crate::spread::Spread;
 use crate::standing::least_standing;
 use ba_facts::{Side, Term, TermAtom, TermRef};
@@ -15,11 +15,12 @@ use ba_kernel::Step;
 use ba_model::{Atom, Duplicate, List, Op, Part, Rule, Same, View};
 use std::alloc::{AllocError, Global};
 
-impl<'a> Spot<'a> {
+impl<'a> Scan<'a> {
     /// Offers the splits.
     pub fn offer_splits(&self, best: &mut Option<Batch>) -> Result<(), AllocError>
-        requires { IsLook self.now.search.now self.now.number self.now.branch.now self.now.quiet self.now.recent.now }
-        ensures { OnOk result (Improves self.now.search.now self.now.pick (IsSplitStep self.now.number) best.old best.new) }
+        requires { IsScan self.now }
+        ensures { OnOk result
+            (ImprovesBy self.now (IsSplitStep self.now.number) best.old best.new) }
     {
         if is_timely(self.quiet, best) {
             self.offer_all_splits(best)?;
@@ -28,8 +29,9 @@ impl<'a> Spot<'a> {
     }
 
     fn offer_all_splits(&self, best: &mut Option<Batch>) -> Result<(), AllocError>
-        requires { IsLook self.now.search.now self.now.number self.now.branch.now self.now.quiet self.now.recent.now }
-        ensures { OnOk result (Improves self.now.search.now self.now.pick (IsSplitStep self.now.number) best.old best.new) }
+        requires { IsScan self.now }
+        ensures { OnOk result
+            (ImprovesBy self.now (IsSplitStep self.now.number) best.old best.new) }
     {
         self.offer_view_splits(self.views(), best)?;
         self.offer_rule_splits(self.rules(), best)?;
@@ -40,8 +42,9 @@ impl<'a> Spot<'a> {
 
     /// Offers the splits by atoms of the views, mapped to side One.
     fn offer_view_splits(&self, views: &[View], best: &mut Option<Batch>) -> Result<(), AllocError>
-        requires { IsLook self.now.search.now self.now.number self.now.branch.now self.now.quiet self.now.recent.now }
-        ensures { OnOk result (Improves self.now.search.now self.now.pick (IsSplitOfViews self.now.branch.now self.now.number views.now) best.old best.new) }
+        requires { IsScan self.now }
+        ensures { OnOk result (ImprovesBy self.now
+            (IsSplitOfViews self.now.branch.now self.now.number views.now) best.old best.new) }
     {
         for view in views {
             self.offer_part_splits(view.query.parts.as_slice(), Side::One, None, best)?;
@@ -51,8 +54,9 @@ impl<'a> Spot<'a> {
 
     /// Offers the splits by atoms of the rules' left queries, mapped to both sides.
     fn offer_rule_splits(&self, rules: &[Rule], best: &mut Option<Batch>) -> Result<(), AllocError>
-        requires { IsLook self.now.search.now self.now.number self.now.branch.now self.now.quiet self.now.recent.now }
-        ensures { OnOk result (Improves self.now.search.now self.now.pick (IsSplitOfRules self.now.branch.now self.now.number rules.now) best.old best.new) }
+        requires { IsScan self.now }
+        ensures { OnOk result (ImprovesBy self.now
+            (IsSplitOfRules self.now.branch.now self.now.number rules.now) best.old best.new) }
     {
         for rule in rules {
             self.offer_side_splits(rule.left.parts.as_slice(), best)?;
@@ -62,16 +66,17 @@ impl<'a> Spot<'a> {
 
     /// Offers the splits by atoms of the parts, mapped to both sides.
     fn offer_side_splits(&self, parts: &[Part], best: &mut Option<Batch>) -> Result<(), AllocError>
-        requires { IsLook self.now.search.now self.now.number self.now.branch.now self.now.quiet self.now.recent.now }
-        ensures { OnOk result (Improves self.now.search.now self.now.pick (IsSplitOfSides self.now.branch.now self.now.number parts.now) best.old best.new) }
+        requires { IsScan self.now }
+        ensures { OnOk result (ImprovesBy self.now
+            (IsSplitOfSides self.now.branch.now self.now.number parts.now) best.old best.new) }
     {
         self.offer_part_splits(parts, Side::One, None, best)?;
         self.offer_part_splits(parts, Side::Two, None, best)?;
         Ok(())
     }
 
-    /// Offers the splits by atoms of the parts, mapped to the side with the row, if one is given, for
-    /// their heads.
+    /// Offers the splits by atoms of the parts, mapped to the side with the row, if one is given,
+    /// for their heads.
     fn offer_part_splits(
         &self,
         parts: &[Part],
@@ -79,8 +84,10 @@ impl<'a> Spot<'a> {
         row: Option<&List<Term>>,
         best: &mut Option<Batch>,
     ) -> Result<(), AllocError>
-        requires { IsLook self.now.search.now self.now.number self.now.branch.now self.now.quiet self.now.recent.now }
-        ensures { OnOk result (Improves self.now.search.now self.now.pick (IsSplitOfParts self.now.branch.now self.now.number side (option_copied row.entry) parts.now) best.old best.new) }
+        requires { IsScan self.now }
+        ensures { OnOk result (ImprovesBy self.now
+            (IsSplitOfParts self.now.branch.now self.now.number side (option_copied row.entry)
+            parts.now) best.old best.new) }
     {
         for part in parts {
             self.offer_splits_of(part, side, row, best)?;
@@ -88,8 +95,8 @@ impl<'a> Spot<'a> {
         Ok(())
     }
 
-    /// Offers the splits by atoms of the part, mapped to the side with the row, if one is given, for
-    /// its head. None is by an `=`.
+    /// Offers the splits by atoms of the part, mapped to the side with the row, if one is given,
+    /// for its head. None is by an `=`.
     fn offer_splits_of(
         &self,
         part: &Part,
@@ -97,14 +104,16 @@ impl<'a> Spot<'a> {
         row: Option<&List<Term>>,
         best: &mut Option<Batch>,
     ) -> Result<(), AllocError>
-        requires { IsLook self.now.search.now self.now.number self.now.branch.now self.now.quiet self.now.recent.now }
-        ensures { OnOk result (Improves self.now.search.now self.now.pick (IsSplitOfPart self.now.branch.now self.now.number side (option_copied row.entry) part.now) best.old best.new) }
+        requires { IsScan self.now }
+        ensures { OnOk result (ImprovesBy self.now
+            (IsSplitOfPart self.now.branch.now self.now.number side (option_copied row.entry)
+            part.now) best.old best.new) }
     {
         if are_equations(part) {
             return Ok(());
         }
         let spread = Spread {
-            spot: &*self,
+            scan: &*self,
             part,
             side,
             row,
@@ -112,17 +121,19 @@ impl<'a> Spot<'a> {
         spread.offer(best)
     }
 
-    /// Offers the split by the atom over the facts. Its round, which takes long to find, is past the quiet
-    /// ones and past those of the facts in which its terms stand: where a step of an earlier round was
-    /// found, or a split of the same that is picked before, it isn't looked at.
+    /// Offers the split by the atom over the facts. Its round, which takes long to find, is past
+    /// the quiet ones and past those of the facts in which its terms stand: where a step of an
+    /// earlier round was found, or a split of the same that is picked before, it isn't looked at.
     pub fn offer_atom(
         &self,
         facts: &[u32],
         atom: &Atom,
         best: &mut Option<Batch>,
     ) -> Result<(), AllocError>
-        requires { IsLook self.now.search.now self.now.number self.now.branch.now self.now.quiet self.now.recent.now }
-        ensures { OnOk result (Improves self.now.search.now self.now.pick (IsSplitOfAtom self.now.branch.now self.now.number facts.now atom.now) best.old best.new) }
+        requires { IsScan self.now }
+        ensures { OnOk result (ImprovesBy self.now
+            (IsSplitOfAtom self.now.branch.now self.now.number facts.now atom.now) best.old
+            best.new) }
     {
         match (
             self.branch.term_of(facts, &atom.left),
@@ -156,7 +167,8 @@ fn term_atom(
     left: TermRef<'_>,
     right: TermRef<'_>,
 ) -> Result<TermAtom, AllocError>
-    ensures { IfOk result (λ it. it ≡ record { op = op; left = seen left.entry; right = seen right.entry }) }
+    ensures { IfOk result
+        (λ it. it ≡ record { op = op; left = seen left.entry; right = seen right.entry }) }
 {
     let left = copy_seen(alloc, left)?;
     let right = copy_seen(alloc, right)?;

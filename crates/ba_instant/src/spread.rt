@@ -1,5 +1,5 @@
-//! Splits by atoms of a part's live mappings: of those that differ only in facts that are alike one is
-//! looked for, and then each atom over the facts that are alike to those that it names.
+//! Splits by atoms of a part's live mappings: of those that differ only in facts that are alike one
+//! is looked for, and then each atom over the facts that are alike to those that it names.
 ghost use Rattle.std.specs.Prelude.{◌≡◌, ◌↔◌, ◌⊎◌, ◌+◌, ◌≢◌, ◌++◌, ℕ, List, [], All, Any, IfOk, IsTrue, OnOk, Some, length, map, max, option_copied};
 ghost use Rattle.std.specs.List.{AllZip};
 ghost use Rattle.ba_model.specs.declared.query.Op.TheVariants.{Eq};
@@ -7,13 +7,12 @@ ghost use Rattle.ba_facts.specs.Known.{seen};
 ghost use Rattle.ba_facts.specs.Matches.{AreTheSame, HeadIs, IsFactOf, IsLive, Under, row_of, term_of, terms_at};
 ghost use Rattle.ba_facts.specs.Searching.{FailsAt, IsNoFront, IsOther};
 ghost use Rattle.ba_facts.specs.declared.matches.search.Wanted.TheVariants.{Live};
-ghost use Rattle.ba_instant.specs.Looks.{IsLook};
-ghost use Rattle.ba_instant.specs.Offers.{Improves, IsSplitOfPart};
-ghost use Rattle.ba_instant.specs.Spreads.{AreChoices, IsAt, IsLikeSplit, IsLikeSplits, IsLiveWith, IsLost, IsOpenOf, IsOver, IsPassed, IsSpread, Names};
+ghost use Rattle.ba_instant.specs.Scans.{ImprovesBy, IsScan};
+ghost use Rattle.ba_instant.specs.Spreads.{AreChoices, IsAt, IsLikeSplit, IsLikeSplits, IsLiveOn, IsOpenOf, IsOver, IsSplitFrom, IsSplitOf, LeadsNowhere, NamesPlace, PassesBy};
 
 use crate::alike::{has_alike, likes_of};
 use crate::batch::Batch;
-use crate::found::{Spot, counted};
+use crate::scan::{Scan, counted};
 use ba_facts::{Branch, Side, Term, TermRef, is_due};
 use ba_model::{Atom, List, Op, Operand, Part};
 use std::alloc::{AllocError, Global};
@@ -21,11 +20,11 @@ use std::alloc::{AllocError, Global};
 /// With how many of those that were tried before it a fact for the last place is compared.
 const LAST_TRIED: usize = 4;
 
-/// A part that is mapped to facts of a side, with the row, if one is given, for its head. Of facts that
-/// are alike mostly only the first is chosen.
+/// A part that is mapped to facts of a side, with the row, if one is given, for its head. Of facts
+/// that are alike mostly only the first is chosen.
 #[derive(Clone, Copy)]
 pub struct Spread<'a> {
-    pub spot: &'a Spot<'a>,
+    pub scan: &'a Scan<'a>,
     pub part: &'a Part,
     pub side: Side,
     pub row: Option<&'a List<Term>>,
@@ -35,10 +34,11 @@ impl<'a> Spread<'a> {
     /// Offers the splits by atoms of the part's live mappings.
     #[tactic(auto, using(crate::proofs::SpreadLemmas::spread_whole))]
     pub fn offer(&self, best: &mut Option<Batch>) -> Result<(), AllocError>
-        requires { IsLook self.now.spot.now.search.now self.now.spot.now.number self.now.spot.now.branch.now self.now.spot.now.quiet self.now.spot.now.recent.now }
-        ensures { OnOk result (Improves self.now.spot.now.search.now self.now.spot.now.pick (IsSplitOfPart self.now.spot.now.branch.now self.now.spot.now.number self.now.side (option_copied self.now.row) self.now.part.now) best.old best.new) }
+        requires { IsScan self.now.scan.now }
+        ensures { OnOk result
+            (ImprovesBy self.now.scan.now (IsSplitOf self.now) best.old best.new) }
     {
-        let mut chosen = Vec::new(self.spot.alloc);
+        let mut chosen = Vec::new(self.scan.alloc);
         if self.is_lost(&chosen) {
             return Ok(());
         }
@@ -53,15 +53,16 @@ impl<'a> Spread<'a> {
         chosen: &mut Vec<u32>,
         best: &mut Option<Batch>,
     ) -> Result<(), AllocError>
-        requires { IsLook self.now.spot.now.search.now self.now.spot.now.number self.now.spot.now.branch.now self.now.spot.now.quiet self.now.spot.now.recent.now }
+        requires { IsScan self.now.scan.now }
         ensures chosen { OnOk result (chosen.new.items ≡ chosen.old.items) }
-        ensures best { OnOk result (Improves self.now.spot.now.search.now self.now.spot.now.pick (IsSpread self.now.spot.now.branch.now self.now.spot.now.number self.now.side self.now.part.now (option_copied self.now.row) from.now chosen.old.items) best.old best.new) }
+        ensures best { OnOk result (ImprovesBy self.now.scan.now
+            (IsSplitFrom self.now from.now chosen.old.items) best.old best.new) }
     {
         let Some((table, rest)) = from.split_first() else {
             return self.offer_on(chosen, best);
         };
-        let count = counted(self.spot.branch.facts.len())?;
-        let mut tried = Vec::new(self.spot.alloc);
+        let count = counted(self.scan.branch.facts.len())?;
+        let mut tried = Vec::new(self.scan.alloc);
         for fact in 0..count {
             chosen.push(fact)?;
             if self.may_lead(*table, fact, chosen, &tried, rest.is_empty()) {
@@ -73,12 +74,13 @@ impl<'a> Spread<'a> {
         Ok(())
     }
 
-    /// Whether the fact that was chosen last is one of the table on the side, may lead to a mapping, and
-    /// isn't alike to one of those that were tried. At the last place this isn't asked of many, since it
-    /// takes as long there as what it spares.
+    /// Whether the fact that was chosen last is one of the table on the side, may lead to a
+    /// mapping, and isn't alike to one of those that were tried. At the last place this isn't asked
+    /// of many, since it takes as long there as what it spares.
     fn may_lead(&self, table: u32, fact: u32, chosen: &[u32], tried: &[u32], is_last: bool) -> bool
-        ensures taken { IsTrue result → IsFactOf self.now.spot.now.branch.now self.now.side table fact }
-        ensures passed { (IsTrue result → ⊥) → IsPassed self.now.spot.now.branch.now self.now.side self.now.part.now Live (option_copied self.now.row) table chosen.now tried.now fact }
+        ensures taken { IsTrue result
+            → IsFactOf self.now.scan.now.branch.now self.now.side table fact }
+        ensures passed { (IsTrue result → ⊥) → PassesBy self.now table chosen.now tried.now fact }
     {
         if !self.is_fact(table, fact) {
             return false;
@@ -91,23 +93,24 @@ impl<'a> Spread<'a> {
         } else {
             0
         };
-        !has_alike(self.spot.branch, tried, from, fact)
+        !has_alike(self.scan.branch, tried, from, fact)
     }
 
     /// Whether the chosen facts lead to no mapping with the row.
     fn is_lost(&self, chosen: &[u32]) -> bool
-        ensures { IsTrue result → IsLost self.now.spot.now.branch.now self.now.part.now Live (option_copied self.now.row) chosen.now }
+        ensures { IsTrue result → LeadsNowhere self.now chosen.now }
     {
         self.has_other(chosen) || self.is_hopeless(chosen)
     }
 
     /// Offers those of the mappings to facts that are like the chosen ones.
     fn offer_on(&self, chosen: &[u32], best: &mut Option<Batch>) -> Result<(), AllocError>
-        requires { IsLook self.now.spot.now.search.now self.now.spot.now.number self.now.spot.now.branch.now self.now.spot.now.quiet self.now.spot.now.recent.now }
-        ensures { OnOk result (Improves self.now.spot.now.search.now self.now.spot.now.pick (IsSpread self.now.spot.now.branch.now self.now.spot.now.number self.now.side self.now.part.now (option_copied self.now.row) [] chosen.now) best.old best.new) }
+        requires { IsScan self.now.scan.now }
+        ensures { OnOk result
+            (ImprovesBy self.now.scan.now (IsSplitFrom self.now [] chosen.now) best.old best.new) }
     {
         if self.is_live(chosen) {
-            self.spot
+            self.scan
                 .offer_likes(chosen, self.part.conds.as_slice(), best)?;
         }
         Ok(())
@@ -115,33 +118,35 @@ impl<'a> Spread<'a> {
 
     /// Whether the number is that of a fact of the table on the side.
     fn is_fact(&self, table: u32, number: u32) -> bool
-        ensures { IsTrue result ↔ IsFactOf self.now.spot.now.branch.now self.now.side table number }
+        ensures { IsTrue result ↔ IsFactOf self.now.scan.now.branch.now self.now.side table number }
     {
-        match self.spot.branch.facts.find(number as usize) {
+        match self.scan.branch.facts.find(number as usize) {
             Some(fact) => fact.side == self.side && fact.table == table,
             None => false,
         }
     }
 
-    /// Whether the last fact chosen makes some atom not live. Each atom is looked at once on the way
-    /// down, as soon as its terms are there.
+    /// Whether the last fact chosen makes some atom not live. Each atom is looked at once on the
+    /// way down, as soon as its terms are there.
     fn is_hopeless(&self, chosen: &[u32]) -> bool
-        ensures { IsTrue result ↔ Any (FailsAt self.now.spot.now.branch.now.known Live (map (terms_at self.now.spot.now.branch.now) chosen.now)) self.now.part.now.conds }
+        ensures { IsTrue result ↔ Any (FailsAt self.now.scan.now.branch.now.known Live
+            (map (terms_at self.now.scan.now.branch.now) chosen.now)) self.now.part.now.conds }
     {
         let conds = self.part.conds.as_slice();
         conds
             .iter()
-            .any(|atom| fails_at(self.spot.branch, chosen, atom))
+            .any(|atom| fails_at(self.scan.branch, chosen, atom))
     }
 
-    /// Whether the head has a term already over the chosen facts that isn't the same as the row's, if
-    /// one is given.
+    /// Whether the head has a term already over the chosen facts that isn't the same as the row's,
+    /// if one is given.
     fn has_other(&self, chosen: &[u32]) -> bool
-        ensures { IsTrue result → (rest : List ℕ) → HeadIs self.now.spot.now.branch.now self.now.part.now (chosen.now ++ rest) (option_copied self.now.row) → ⊥ }
+        ensures { IsTrue result → (rest : List ℕ) → HeadIs self.now.scan.now.branch.now
+            self.now.part.now (chosen.now ++ rest) (option_copied self.now.row) → ⊥ }
     {
         match self.row {
             Some(row) => is_no_front(
-                self.spot.branch,
+                self.scan.branch,
                 self.part.head.as_slice(),
                 chosen,
                 row.as_slice(),
@@ -152,14 +157,14 @@ impl<'a> Spread<'a> {
 
     /// Whether each atom is live over the facts, and they give the row.
     fn is_live(&self, facts: &[u32]) -> bool
-        ensures { IsTrue result ↔ IsLiveWith self.now.spot.now.branch.now self.now.part.now (option_copied self.now.row) facts.now }
+        ensures { IsTrue result ↔ IsLiveOn self.now facts.now }
     {
-        are_live(self.spot.branch, facts, self.part.conds.as_slice())
-            && has_row(self.spot.branch, self.part, facts, self.row)
+        are_live(self.scan.branch, facts, self.part.conds.as_slice())
+            && has_row(self.scan.branch, self.part, facts, self.row)
     }
 }
 
-impl<'a> Spot<'a> {
+impl<'a> Scan<'a> {
     /// Offers the splits by the atoms over facts that are like the chosen ones.
     fn offer_likes(
         &self,
@@ -167,8 +172,10 @@ impl<'a> Spot<'a> {
         conds: &[Atom],
         best: &mut Option<Batch>,
     ) -> Result<(), AllocError>
-        requires { IsLook self.now.search.now self.now.number self.now.branch.now self.now.quiet self.now.recent.now }
-        ensures { OnOk result (Improves self.now.search.now self.now.pick (IsLikeSplits self.now.branch.now self.now.number chosen.now conds.now) best.old best.new) }
+        requires { IsScan self.now }
+        ensures { OnOk result (ImprovesBy self.now
+            (IsLikeSplits self.now.branch.now self.now.number chosen.now conds.now) best.old
+            best.new) }
     {
         for cond in conds {
             self.offer_like(chosen, cond, best)?;
@@ -176,16 +183,18 @@ impl<'a> Spot<'a> {
         Ok(())
     }
 
-    /// Offers the splits by the atom over facts that are like the chosen ones. None is new if the atom
-    /// is decided over these.
+    /// Offers the splits by the atom over facts that are like the chosen ones. None is new if the
+    /// atom is decided over these.
     fn offer_like(
         &self,
         chosen: &[u32],
         cond: &Atom,
         best: &mut Option<Batch>,
     ) -> Result<(), AllocError>
-        requires { IsLook self.now.search.now self.now.number self.now.branch.now self.now.quiet self.now.recent.now }
-        ensures { OnOk result (Improves self.now.search.now self.now.pick (IsLikeSplit self.now.branch.now self.now.number chosen.now cond.now) best.old best.new) }
+        requires { IsScan self.now }
+        ensures { OnOk result (ImprovesBy self.now
+            (IsLikeSplit self.now.branch.now self.now.number chosen.now cond.now) best.old
+            best.new) }
     {
         if is_open(self.branch, chosen, cond) {
             let mut done = Vec::new(self.alloc);
@@ -194,7 +203,8 @@ impl<'a> Spot<'a> {
         Ok(())
     }
 
-    /// Offers the splits by the atom over the facts that are done and facts that are like those left.
+    /// Offers the splits by the atom over the facts that are done and facts that are like those
+    /// left.
     fn offer_over(
         &self,
         left: &[u32],
@@ -202,9 +212,11 @@ impl<'a> Spot<'a> {
         cond: &Atom,
         best: &mut Option<Batch>,
     ) -> Result<(), AllocError>
-        requires { IsLook self.now.search.now self.now.number self.now.branch.now self.now.quiet self.now.recent.now }
+        requires { IsScan self.now }
         ensures done { OnOk result (done.new.items ≡ done.old.items) }
-        ensures best { OnOk result (Improves self.now.search.now self.now.pick (IsOver self.now.branch.now self.now.number left.now done.old.items cond.now) best.old best.new) }
+        ensures best { OnOk result (ImprovesBy self.now
+            (IsOver self.now.branch.now self.now.number left.now done.old.items cond.now) best.old
+            best.new) }
     {
         let Some((fact, rest)) = left.split_first() else {
             return self.offer_atom(done, cond, best);
@@ -219,8 +231,8 @@ impl<'a> Spot<'a> {
     }
 }
 
-/// The facts that the atom is to be looked at with at the place: all that are like the fact, or that
-/// one alone where the atom doesn't name the place.
+/// The facts that the atom is to be looked at with at the place: all that are like the fact, or
+/// that one alone where the atom doesn't name the place.
 fn choices(
     alloc: Global,
     branch: &Branch,
@@ -240,7 +252,7 @@ fn choices(
 
 /// Whether a side of the atom is a column of the place.
 fn names(place: usize, cond: &Atom) -> bool
-    ensures { IsTrue result ↔ Names place cond.now }
+    ensures { IsTrue result ↔ NamesPlace place cond.now }
 {
     is_at(place, &cond.left) || is_at(place, &cond.right)
 }
@@ -258,7 +270,8 @@ fn is_at(place: usize, operand: &Operand) -> bool
 
 /// Whether the atom is no `=`, and neither shown nor refuted over the facts.
 fn is_open(branch: &Branch, facts: &[u32], cond: &Atom) -> bool
-    ensures { IsTrue result ↔ Under (IsOpenOf branch.now.known) (map (terms_at branch.now) facts.now) cond.now }
+    ensures { IsTrue result
+        ↔ Under (IsOpenOf branch.now.known) (map (terms_at branch.now) facts.now) cond.now }
 {
     match (
         branch.term_of(facts, &cond.left),
@@ -292,13 +305,15 @@ fn is_equation(op: Op) -> bool
 
 /// Whether each of the atoms is live over the facts.
 fn are_live(branch: &Branch, facts: &[u32], conds: &[Atom]) -> bool
-    ensures { IsTrue result ↔ All (IsLive branch.now.known (map (terms_at branch.now) facts.now)) conds.now }
+    ensures { IsTrue result
+        ↔ All (IsLive branch.now.known (map (terms_at branch.now) facts.now)) conds.now }
 {
     conds.iter().all(|atom| is_live(branch, facts, atom))
 }
 
 fn is_live(branch: &Branch, facts: &[u32], atom: &Atom) -> bool
-    ensures { IsTrue result ↔ IsLive branch.now.known (map (terms_at branch.now) facts.now) atom.now }
+    ensures { IsTrue result
+        ↔ IsLive branch.now.known (map (terms_at branch.now) facts.now) atom.now }
 {
     match (
         branch.term_of(facts, &atom.left),
@@ -311,7 +326,8 @@ fn is_live(branch: &Branch, facts: &[u32], atom: &Atom) -> bool
 
 /// Whether both terms are there since the last fact was chosen, and the atom isn't live.
 fn fails_at(branch: &Branch, chosen: &[u32], atom: &Atom) -> bool
-    ensures { IsTrue result ↔ FailsAt branch.now.known Live (map (terms_at branch.now) chosen.now) atom.now }
+    ensures { IsTrue result
+        ↔ FailsAt branch.now.known Live (map (terms_at branch.now) chosen.now) atom.now }
 {
     if !is_due(atom, chosen.len()) {
         return false;
@@ -339,7 +355,8 @@ pub fn is_no_front(branch: &Branch, head: &[Operand], chosen: &[u32], row: &[Ter
 
 /// Whether the operand over the facts stands for a term that isn't the same as the other.
 fn is_other(branch: &Branch, facts: &[u32], operand: &Operand, other: &Term) -> bool
-    ensures { IsTrue result ↔ IsOther branch.now.known (term_of (map (terms_at branch.now) facts.now) operand.now) (Some other.now) }
+    ensures { IsTrue result ↔ IsOther branch.now.known
+        (term_of (map (terms_at branch.now) facts.now) operand.now) (Some other.now) }
 {
     match branch.term_of(facts, operand) {
         Some(term) => !branch.known.same(term, other.by_ref()),
@@ -358,7 +375,8 @@ fn has_row(branch: &Branch, part: &Part, facts: &[u32], row: Option<&List<Term>>
 }
 
 fn is_row(branch: &Branch, head: &[Operand], facts: &[u32], row: &[Term]) -> bool
-    ensures { IsTrue result ↔ AllZip (AreTheSame branch.now.known) (row_of branch.now facts.now head.now) (map Some row.now) }
+    ensures { IsTrue result ↔ AllZip (AreTheSame branch.now.known)
+        (row_of branch.now facts.now head.now) (map Some row.now) }
 {
     if head.len() != row.len() {
         return false;
@@ -373,7 +391,8 @@ fn is_row(branch: &Branch, head: &[Operand], facts: &[u32], row: &[Term]) -> boo
 
 /// Whether the operand over the facts stands for a term that is the same as the other.
 fn is_same(branch: &Branch, facts: &[u32], operand: &Operand, other: &Term) -> bool
-    ensures { IsTrue result ↔ AreTheSame branch.now.known (term_of (map (terms_at branch.now) facts.now) operand.now) (Some other.now) }
+    ensures { IsTrue result ↔ AreTheSame branch.now.known
+        (term_of (map (terms_at branch.now) facts.now) operand.now) (Some other.now) }
 {
     match branch.term_of(facts, operand) {
         Some(term) => branch.known.same(term, other.by_ref()),

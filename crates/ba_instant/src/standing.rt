@@ -8,16 +8,18 @@ ghost use Rattle.ba_model.specs.declared.query.Operand.{Operand};
 
 use ba_facts::{Branch, Fact, Term, TermAtom};
 
-/// A round that no mapping is before under which the atom is one of a part's: its facts have the atom's
-/// unknowns among their terms.
+/// A round that no mapping is before under which the atom is one of a part's: its facts have the
+/// atom's unknowns among their terms.
 pub fn least_standing(branch: &Branch, atom: &TermAtom) -> u32
-    ensures { (facts : List ℕ) (cond : Atom) → GivesAtom (map (terms_at branch.now) facts) atom.now cond → result ≤ round_of branch.now facts }
+    ensures { (facts : List ℕ) (cond : Atom) → GivesAtom (map (terms_at branch.now) facts) atom.now
+        cond → result ≤ round_of branch.now facts }
 {
     term_round(branch, &atom.left).max(term_round(branch, &atom.right))
 }
 
 fn term_round(branch: &Branch, term: &Term) -> u32
-    ensures { (facts : List ℕ) (operand : Operand) → term_of (map (terms_at branch.now) facts) operand ≡ Some term.now → result ≤ round_of branch.now facts }
+    ensures { (facts : List ℕ) (operand : Operand) → term_of (map (terms_at branch.now) facts)
+        operand ≡ Some term.now → result ≤ round_of branch.now facts }
 {
     match term {
         Term::Unknown(n) => unknown_round(branch, *n),
@@ -25,10 +27,11 @@ fn term_round(branch: &Branch, term: &Term) -> u32
     }
 }
 
-/// The least round of the facts that have the unknown among their terms, or the greatest number where
-/// none has.
+/// The least round of the facts that have the unknown among their terms, or the greatest number
+/// where none has.
 fn unknown_round(branch: &Branch, unknown: u32) -> u32
-    ensures { (fact : ℕ) → Any (λ term. term ≡ Unknown unknown) (terms_at branch.now fact) → result ≤ fact_round branch.now fact }
+    ensures { (fact : ℕ) → Any (λ term. term ≡ Unknown unknown) (terms_at branch.now fact) → result
+        ≤ fact_round branch.now fact }
 {
     let mut least: u32 = 0xffff_ffff;
     for number in 0..branch.facts.len() {

@@ -11,8 +11,9 @@ use ba_kernel::{Search, Step};
 use std::alloc::Global;
 use std::mem;
 
-/// The branches that wait: those of a number below the bound but one, of which each that is open has
-/// a new step. The one that doesn't wait has the agenda, and the first from the bound on has one too.
+/// The branches that wait: those of a number below the bound but one, of which each that is open
+/// has a new step. The one that doesn't wait has the agenda, and the first from the bound on has
+/// one too.
 #[derive(Drop)]
 pub struct Waiting {
     pub below: u32,
@@ -60,8 +61,10 @@ impl Waiting {
 
     /// Takes the branch's agenda out.
     pub fn take_agenda(&mut self, alloc: Global, number: u32) -> Agenda
-        ensures agenda { (pick : Pick) (c : Course) → AreWaiting pick c self.old → IsAgendaAt pick c number result }
-        ensures waiting { (pick : Pick) (c : Course) → AreWaiting pick c self.old → AreWaiting pick c self.new }
+        ensures agenda { (pick : Pick) (c : Course) → AreWaiting pick c self.old
+            → IsAgendaAt pick c number result }
+        ensures waiting { (pick : Pick) (c : Course) → AreWaiting pick c self.old
+            → AreWaiting pick c self.new }
     {
         let none = Agenda::none(alloc);
         if number == self.but {
@@ -71,12 +74,14 @@ impl Waiting {
         }
     }
 
-    /// Takes the agenda of the first branch from the bound on out, if it is the number's, and puts the
-    /// one without steps in its place.
+    /// Takes the agenda of the first branch from the bound on out, if it is the number's, and puts
+    /// the one without steps in its place.
     fn take_next(&mut self, number: u32, none: Agenda) -> Agenda
         requires { IsNone none }
-        ensures agenda { (pick : Pick) (c : Course) → AreWaiting pick c self.old → IsAgendaAt pick c number result }
-        ensures waiting { (pick : Pick) (c : Course) → AreWaiting pick c self.old → AreWaiting pick c self.new }
+        ensures agenda { (pick : Pick) (c : Course) → AreWaiting pick c self.old
+            → IsAgendaAt pick c number result }
+        ensures waiting { (pick : Pick) (c : Course) → AreWaiting pick c self.old
+            → AreWaiting pick c self.new }
     {
         if number == self.below {
             mem::replace(&mut self.next, none)

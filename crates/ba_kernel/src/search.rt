@@ -230,6 +230,14 @@ impl Search {
         &self.problem
     }
 
+    /// The problem alone; the steps and the branches are let go.
+    pub fn into_problem(self) -> Problem
+        ensures is { result ≡ self.problem }
+        ensures fits { ProblemFits result }
+    {
+        self.problem
+    }
+
     /// The steps that were accepted, the first one first. They are at most
     /// [`ba_model::MAX_STEPS`], and leave these
     /// branches.

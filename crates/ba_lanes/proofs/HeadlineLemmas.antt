@@ -20,7 +20,7 @@ use Rattle.ba_lanes.proofs.JoinLemmas.{told_by}
 use Rattle.ba_lanes.proofs.LineLemmas.{in_its_lane}
 use Rattle.ba_lanes.proofs.MergeLemmas.{lane_low}
 use Rattle.ba_lanes.proofs.ServeLemmas.{same_length}
-use Rattle.ba_lanes.specs.Headline.{Headline, IsAnswerEverywhere, IsAsker, IsBlockedWithReason}
+use Rattle.ba_lanes.specs.Headline.{Headline, IsAnswerEverywhere, IsAskerOf, IsBlockedWithReason}
 use Rattle.ba_lanes.specs.Legal.{AreServed, IsAsk, IsServed, Legal, LineDone, answer_of, begins, done_in, lane_of, pin_of, trace_in, trace_of, versions_made}
 use Rattle.ba_lanes.specs.declared.journal.Entry.{Entry}
 use Rattle.ba_lanes.specs.declared.journal.Entry.TheVariants.{Begin, Unbegun, Ask, End, Publish, NoMemory}
@@ -131,7 +131,7 @@ served_at input (l ∷ ls) earlier (x ∷ front) it rest (h, more) =
 -- the reply that a question's entry has, and its line
 record HasReply (input : Input) (journal : Journal) (request version : ℕ) (earlier : List Entry) (reply : Reply) : Type 0 where
   asker : Request
-  asks : IsAsker input journal request version earlier asker
+  asks : IsAskerOf input journal request version earlier asker
   name : List ℕ
   text : List ℕ
   line : slice_get input.script.entries (length earlier) ≡ Some (said.Ask request name text)

@@ -16,7 +16,7 @@ use Rattle.ba_model.specs.declared.schema.Schema.{Schema}
 use Rattle.ba_script.specs.declared.entry.ScriptEntry.{ScriptEntry}
 use Rattle.ba_script.specs.declared.entry.ScriptEntry.TheVariants as said
 use Rattle.ba_session.proofs.PassLemmas.{more_calls, no_calls, one_call}
-use Rattle.ba_session.specs.Asking.{IsAsker, IsBegun, IsChecked, IsGround, IsKept, IsLook, Replies, answer_in}
+use Rattle.ba_session.specs.Asking.{IsRequestOf, IsBegun, IsChecked, IsGround, IsKept, IsLook, Replies, answer_in}
 use Rattle.ba_session.specs.Passing.{AreOf, HasRoom, LeavesShelves, Makes, MakesCalls, ShelfCalls, calls_on}
 use Rattle.ba_session.specs.declared.reply.By.{By}
 use Rattle.ba_session.specs.declared.reply.By.TheVariants.{Cover, Template, Proof}
@@ -245,7 +245,7 @@ makes_looks old new calls it is made =
 -- ---- what becomes of a line
 
 module _ (input : Input) (service : Service) (old new : Lane) (of : AreOf service new.passes) (entries : new.entries ≡ old.entries) (room : vec_capacity new.requests ≡ vec_capacity old.requests) where
-  pub takes_begun : (r : ℕ) (name : List ℕ) (c : Context) (asker : Request) → IsBegun c asker → IsAsker input.policy asker → new.requests.items ≡ old.requests.items ++ Some asker ∷ [] →
+  pub takes_begun : (r : ℕ) (name : List ℕ) (c : Context) (asker : Request) → IsBegun c asker → IsRequestOf input.policy asker → new.requests.items ≡ old.requests.items ++ Some asker ∷ [] →
       MakesCall (known_by old.passes.versions) (known_by new.passes.versions) (pin_of asker.version asker.tables) → LeavesShelves old.passes new.passes → Takes input service (said.Begin r name c) (Begin r asker.version) old new
   takes_begun r name c asker is_begun may later made leaves = record {
     made = on_versions (pin_of asker.version asker.tables ∷ []);
@@ -277,7 +277,7 @@ module _ (input : Input) (service : Service) (old new : Lane) (of : AreOf servic
     room = room;
   }
 
-  pub takes_asked : (r : ℕ) (name text : List ℕ) (asker next : Request) (reply : Reply) → slice_get old.requests.items r ≡ Some (Some asker) → IsAsker input.policy next → next ≡ record asker { trace = asker.trace ++ answer_in reply } →
+  pub takes_asked : (r : ℕ) (name text : List ℕ) (asker next : Request) (reply : Reply) → slice_get old.requests.items r ≡ Some (Some asker) → IsRequestOf input.policy next → next ≡ record asker { trace = asker.trace ++ answer_in reply } →
       new.requests.items ≡ slice_set old.requests.items r (Some next) → ((calls : ShelfCalls) × Replies input.policy asker input.budget text calls reply × Makes calls old.passes new.passes) →
       Takes input service (said.Ask r name text) (Ask r next.version reply) old new
   takes_asked r name text asker next reply at may next_is later (calls, replies, makes) =
@@ -290,7 +290,7 @@ module _ (input : Input) (service : Service) (old new : Lane) (of : AreOf servic
           calls = calls;
           replies = replies;
           is = refl;
-          may = subst (IsAsker input.policy) next_is may;
+          may = subst (IsRequestOf input.policy) next_is may;
           later_is = later ∙ ap (λ z. slice_set old.requests.items r (Some z)) next_is;
         });
         makes = makes_looks old.passes new.passes calls (record { entry = Ask r asker.version reply; made = on_shelves calls }) refl makes;

@@ -24,7 +24,7 @@ pub record IsQuestion (input : Input) (request : ℕ) (earlier : List Entry) (qu
 
 -- The request as it stands after the earlier entries: it has the context of its begin line, sees the version of the tables that it pinned there, and was told what these
 -- entries answer it.
-pub record IsAsker (input : Input) (journal : Journal) (request version : ℕ) (earlier : List Entry) (asker : Request) : Type 0 where
+pub record IsAskerOf (input : Input) (journal : Journal) (request version : ℕ) (earlier : List Entry) (asker : Request) : Type 0 where
   pub context : HasContext input.script request asker.context
   pub version_is : asker.version ≡ version
   pub pinned : ∥ slice_get (versions_of journal.histories.versions) version ≡ Some asker.tables ∥₁
@@ -35,7 +35,7 @@ pub record IsAsker (input : Input) (journal : Journal) (request version : ℕ) (
 pub record IsAnswerEverywhere (input : Input) (journal : Journal) (request version : ℕ) (earlier : List Entry) (query : Query) (rows : List (List Value)) : Type 0 where
   pub question : IsQuestion input request earlier query
   pub asker : Request
-  pub asks : IsAsker input journal request version earlier asker
+  pub asks : IsAskerOf input journal request version earlier asker
   pub released : IsReleased input.policy asker query rows
 
 -- The query is that of the line's text and isn't covered under the request's context, and the block carries its reason: a counterexample
@@ -43,7 +43,7 @@ pub record IsAnswerEverywhere (input : Input) (journal : Journal) (request versi
 pub record IsBlockedWithReason (input : Input) (journal : Journal) (request version : ℕ) (earlier : List Entry) (query : Query) (why : Why) : Type 0 where
   pub question : IsQuestion input request earlier query
   pub asker : Request
-  pub asks : IsAsker input journal request version earlier asker
+  pub asks : IsAskerOf input journal request version earlier asker
   pub uncovered : Uncovered input.policy asker query
   pub reason : IsReason input.policy asker input.budget query why
 

@@ -7,7 +7,7 @@ use Rattle.ba_model.specs.Limits.{shard_count}
 use Rattle.ba_model.specs.declared.policy.Context.{Context}
 use Rattle.ba_script.specs.declared.entry.ScriptEntry.{ScriptEntry}
 use Rattle.ba_script.specs.declared.entry.ScriptEntry.TheVariants as said
-use Rattle.ba_session.specs.Asking.{IsAsker, IsBegun, Replies, answer_in}
+use Rattle.ba_session.specs.Asking.{IsRequestOf, IsBegun, Replies, answer_in}
 use Rattle.ba_session.specs.Passing.{AreOf, HasRoom, MakesCalls, ShelfCalls, calls_on}
 use Rattle.ba_session.specs.declared.reply.Reply.{Reply}
 use Rattle.ba_session.specs.declared.request.Request.{Request}
@@ -61,7 +61,7 @@ pub record MakesAll (served : List LineDone) (old new : Passes) : Type 0 where
 -- the request as it stands after earlier lines, which may ask
 pub record IsStanding (input : Input) (earlier : List LineDone) (number : ℕ) (asker : Request) : Type 0 where
   pub asks : IsRequest input earlier number asker
-  pub may : IsAsker input.policy asker
+  pub may : IsRequestOf input.policy asker
 
 -- a place of the requests, by their numbers, after earlier lines of the lane k: the request, or that it is lost, or one of another lane
 abbrev pub StandsIn : Input → ℕ → List LineDone → ℕ → Option Request → Type 0
@@ -77,14 +77,14 @@ pub record Stand (input : Input) (k begun : ℕ) (earlier : List LineDone) (requ
 
 -- each request may ask
 pub record AreAskers (input : Input) (requests : List (Option Request)) : Type 0 where
-  pub each : (number : ℕ) (asker : Request) → slice_get requests number ≡ Some (Some asker) → IsAsker input.policy asker
+  pub each : (number : ℕ) (asker : Request) → slice_get requests number ≡ Some (Some asker) → IsRequestOf input.policy asker
 
 -- the next request begins, over a version that it pins
 pub record Begins (input : Input) (requests : List (Option Request)) (request : ℕ) (context : Context) (it : LineDone) (later : List (Option Request)) : Type 0 where
   pub asker : Request
   pub is : it ≡ begins request asker.version asker.tables
   pub begun : IsBegun context asker
-  pub may : IsAsker input.policy asker
+  pub may : IsRequestOf input.policy asker
   pub later_is : later ≡ requests ++ Some asker ∷ []
 
 -- a question gets a reply, and its request alone changes, by the answer
@@ -95,7 +95,7 @@ pub record Asks (input : Input) (requests : List (Option Request)) (request : �
   pub calls : ShelfCalls
   pub replies : Replies input.policy asker input.budget text calls reply
   pub is : it ≡ record { entry = Ask request asker.version reply; made = on_shelves calls }
-  pub may : IsAsker input.policy (record asker { trace = asker.trace ++ answer_in reply })
+  pub may : IsRequestOf input.policy (record asker { trace = asker.trace ++ answer_in reply })
   pub later_is : later ≡ slice_set requests request (Some (record asker { trace = asker.trace ++ answer_in reply }))
 
 -- the request, which has begun, ends

@@ -1,7 +1,11 @@
+pub mod GivenLemmas
 pub mod ImageLemmas
+pub mod LeafLemmas
 pub mod LoopLemmas
 pub mod NumberLemmas
+pub mod OneImage
 pub mod RefuteLemmas
+pub mod RisingLemmas
 pub mod RowLemmas
 pub mod TextLemmas
 pub mod UnknownLemmas

@@ -11,14 +11,14 @@ use Rattle.ba_facts.specs.Known.{Known, ShownGap}
 use Rattle.ba_facts.specs.declared.term.Term.{Term}
 use Rattle.ba_facts.specs.declared.term.Term.TheVariants.{Unknown, Val}
 use Rattle.ba_model.specs.declared.value.Value.TheVariants.{Int}
-use Rattle.ba_refute.specs.Images.{AreNumbers, IsAtLeast, IsAtMost, IsNumberOf, with_zero}
+use Rattle.ba_refute.specs.Images.{AreNumbers, IsLowerBound, IsUpperBound, IsNumberOf, with_zero}
 
 module _ (k : Known) (valued : List (Term × ℤ)) (term other : Term) (value : ℤ) where
   abbrev more : List (Term × ℤ)
   more = valued ++ (other, value) ∷ []
 
   -- a lower bound by one more value is one by the values before, or by that value
-  least_cases : {A : Type 0} (c : ℤ) → (IsAtLeast k valued term c → A) → ((g : ℤ) → ShownGap k other g term → c ≤ℤ (value +ℤ g) → A) → IsAtLeast k more term c → A
+  least_cases : {A : Type 0} (c : ℤ) → (IsLowerBound k valued term c → A) → ((g : ℤ) → ShownGap k other g term → c ≤ℤ (value +ℤ g) → A) → IsLowerBound k more term c → A
   least_cases c old new b =
       ⊎_elim
       (λ h. old (record { other = b.other; value = b.value; gap = b.gap; has_value = h; shown = b.shown; enough = b.enough }))
@@ -26,30 +26,30 @@ module _ (k : Known) (valued : List (Term × ℤ)) (term other : Term) (value : 
       new b.gap (subst (λ n. ShownGap k n b.gap term) (sym (ap (λ (p : Term × ℤ). p.0) e)) b.shown) (subst (λ v. c ≤ℤ (v +ℤ b.gap)) (sym (ap (λ (p : Term × ℤ). p.1) e)) b.enough))
       (Contains-push_cases valued (other, value) (b.other, b.value) b.has_value)
 
-  least_old : (c : ℤ) → IsAtLeast k valued term c → IsAtLeast k more term c
+  least_old : (c : ℤ) → IsLowerBound k valued term c → IsLowerBound k more term c
   least_old c b = record { other = b.other; value = b.value; gap = b.gap; has_value = Contains-append_left valued _ _ b.has_value; shown = b.shown; enough = b.enough }
 
-  least_new : (c g : ℤ) → ShownGap k other g term → c ≤ℤ (value +ℤ g) → IsAtLeast k more term c
+  least_new : (c g : ℤ) → ShownGap k other g term → c ≤ℤ (value +ℤ g) → IsLowerBound k more term c
   least_new c g s e = record { other = other; value = value; gap = g; has_value = Contains-push valued (other, value); shown = s; enough = e }
 
-  pub least_same : (low : Option ℤ) → IsGreatest (IsAtLeast k valued term) low → ((g : ℤ) → ShownGap k other g term → ⊥) → IsGreatest (IsAtLeast k more term) low
+  pub least_same : (low : Option ℤ) → IsGreatest (IsLowerBound k valued term) low → ((g : ℤ) → ShownGap k other g term → ⊥) → IsGreatest (IsLowerBound k more term) low
   least_same None is no_gap = λ c b. least_cases c (is c) (λ g s e. no_gap g s) b
   least_same (Some m) is no_gap = (least_old m is.0, λ c b. least_cases c (is.1 c) (λ g s e. absurd (no_gap g s)) b)
 
-  pub least_more : (low : Option ℤ) (gap bound : ℤ) → IsGreatest (IsAtLeast k valued term) low → ShownGap k other gap term → ((g : ℤ) → ShownGap k other g term → g ≤ℤ gap) → bound ≡ value +ℤ gap → IsGreatest (IsAtLeast k more term) (Some (greater_of low bound))
+  pub least_more : (low : Option ℤ) (gap bound : ℤ) → IsGreatest (IsLowerBound k valued term) low → ShownGap k other gap term → ((g : ℤ) → ShownGap k other g term → g ≤ℤ gap) → bound ≡ value +ℤ gap → IsGreatest (IsLowerBound k more term) (Some (greater_of low bound))
   least_more None gap bound is shown best e = (
     least_new bound gap shown (omega (arith, ints, e)),
     λ c b. least_cases c (λ h. absurd (is c h)) (λ g s f. omega (arith, ints, e, f, best g s)) b,
   )
   least_more (Some m) gap bound is shown best e = (
-    by_lt_z {P = IsAtLeast k more term (int_max m bound)} m bound
+    by_lt_z {P = IsLowerBound k more term (int_max m bound)} m bound
         (λ less. least_new (int_max m bound) gap shown (omega (arith, ints, clamps, e)))
-        (λ high. let top : m ≡ int_max m bound = omega (arith, ints, clamps) in subst (IsAtLeast k more term) top (least_old m is.0)),
+        (λ high. let top : m ≡ int_max m bound = omega (arith, ints, clamps) in subst (IsLowerBound k more term) top (least_old m is.0)),
     λ c b. least_cases c (λ h. omega (arith, ints, clamps, is.1 c h)) (λ g s f. omega (arith, ints, clamps, e, f, best g s)) b,
   )
 
   -- the same of upper bounds
-  most_cases : {A : Type 0} (c : ℤ) → (IsAtMost k valued term c → A) → ((g : ℤ) → ShownGap k term g other → value ≤ℤ (c +ℤ g) → A) → IsAtMost k more term c → A
+  most_cases : {A : Type 0} (c : ℤ) → (IsUpperBound k valued term c → A) → ((g : ℤ) → ShownGap k term g other → value ≤ℤ (c +ℤ g) → A) → IsUpperBound k more term c → A
   most_cases c old new b =
       ⊎_elim
       (λ h. old (record { other = b.other; value = b.value; gap = b.gap; has_value = h; shown = b.shown; enough = b.enough }))
@@ -57,25 +57,25 @@ module _ (k : Known) (valued : List (Term × ℤ)) (term other : Term) (value : 
       new b.gap (subst (λ n. ShownGap k term b.gap n) (sym (ap (λ (p : Term × ℤ). p.0) e)) b.shown) (subst (λ v. v ≤ℤ (c +ℤ b.gap)) (sym (ap (λ (p : Term × ℤ). p.1) e)) b.enough))
       (Contains-push_cases valued (other, value) (b.other, b.value) b.has_value)
 
-  most_old : (c : ℤ) → IsAtMost k valued term c → IsAtMost k more term c
+  most_old : (c : ℤ) → IsUpperBound k valued term c → IsUpperBound k more term c
   most_old c b = record { other = b.other; value = b.value; gap = b.gap; has_value = Contains-append_left valued _ _ b.has_value; shown = b.shown; enough = b.enough }
 
-  most_new : (c g : ℤ) → ShownGap k term g other → value ≤ℤ (c +ℤ g) → IsAtMost k more term c
+  most_new : (c g : ℤ) → ShownGap k term g other → value ≤ℤ (c +ℤ g) → IsUpperBound k more term c
   most_new c g s e = record { other = other; value = value; gap = g; has_value = Contains-push valued (other, value); shown = s; enough = e }
 
-  pub most_same : (high : Option ℤ) → IsLeast (IsAtMost k valued term) high → ((g : ℤ) → ShownGap k term g other → ⊥) → IsLeast (IsAtMost k more term) high
+  pub most_same : (high : Option ℤ) → IsLeast (IsUpperBound k valued term) high → ((g : ℤ) → ShownGap k term g other → ⊥) → IsLeast (IsUpperBound k more term) high
   most_same None is no_gap = λ c b. most_cases c (is c) (λ g s e. no_gap g s) b
   most_same (Some m) is no_gap = (most_old m is.0, λ c b. most_cases c (is.1 c) (λ g s e. absurd (no_gap g s)) b)
 
-  pub most_more : (high : Option ℤ) (gap bound : ℤ) → IsLeast (IsAtMost k valued term) high → ShownGap k term gap other → ((g : ℤ) → ShownGap k term g other → g ≤ℤ gap) → bound +ℤ gap ≡ value → IsLeast (IsAtMost k more term) (Some (lesser_of high bound))
+  pub most_more : (high : Option ℤ) (gap bound : ℤ) → IsLeast (IsUpperBound k valued term) high → ShownGap k term gap other → ((g : ℤ) → ShownGap k term g other → g ≤ℤ gap) → bound +ℤ gap ≡ value → IsLeast (IsUpperBound k more term) (Some (lesser_of high bound))
   most_more None gap bound is shown best e = (
     most_new bound gap shown (omega (arith, ints, e)),
     λ c b. most_cases c (λ h. absurd (is c h)) (λ g s f. omega (arith, ints, e, f, best g s)) b,
   )
   most_more (Some m) gap bound is shown best e = (
-    by_lt_z {P = IsAtMost k more term (int_min m bound)} bound m
+    by_lt_z {P = IsUpperBound k more term (int_min m bound)} bound m
         (λ less. most_new (int_min m bound) gap shown (omega (arith, ints, clamps, e)))
-        (λ low. let bottom : m ≡ int_min m bound = omega (arith, ints, clamps) in subst (IsAtMost k more term) bottom (most_old m is.0)),
+        (λ low. let bottom : m ≡ int_min m bound = omega (arith, ints, clamps) in subst (IsUpperBound k more term) bottom (most_old m is.0)),
     λ c b. most_cases c (λ h. omega (arith, ints, clamps, is.1 c h)) (λ g s f. omega (arith, ints, clamps, e, f, best g s)) b,
   )
 

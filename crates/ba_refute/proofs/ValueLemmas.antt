@@ -16,7 +16,7 @@ use Rattle.ba_model.specs.declared.schema.Kind.{Kind}
 use Rattle.ba_model.specs.declared.schema.Kind.TheVariants.{Int as IntKind, Text as TextKind}
 use Rattle.ba_model.specs.declared.value.Value.{Value}
 use Rattle.ba_model.specs.declared.value.Value.TheVariants.{Int, Null, Text}
-use Rattle.ba_refute.specs.Images.{AreNodes, AreNumbers, AreValues, HasKind, HasNoLiteral, IsClassValue, IsFree, IsLeastUnknown, IsMarks, IsValueOf, literal, null, text, number, numbers_of}
+use Rattle.ba_refute.specs.Images.{AreNodes, AreNumbers, AreValues, HasKind, HasNoLiteral, IsClassValue, IsFreeUnknown, IsLeastUnknown, IsMarks, IsValueOf, literal, null, text, number, numbers_of}
 
 -- the value is that of the class, whatever literals have so many marks
 abbrev pub IsAnyClassValue : Known → ℕ → List ℕ → List ℤ → ℕ → Value → Type 0
@@ -82,14 +82,14 @@ literal_value k marks nodes numbers n v (Ok it) class h = λ all marked. literal
 pub null_value : (k : Known) (marks : ℕ) (nodes : List ℕ) (numbers : List ℤ) (n : ℕ) (v : Value) → HasNoLiteral k n → (ShownNotNull k (Unknown n) → ⊥) → v ≡ Null → IsAnyClassValue k marks nodes numbers n v
 null_value k marks nodes numbers n v without shown e = λ all marked. subst (IsClassValue k all nodes numbers n) (sym e) (null without shown)
 
-pub text_found : {E : Type 0} (k : Known) (marks : ℕ) (nodes : List ℕ) (numbers : List ℤ) (n : ℕ) (found : Result Value E) → IsFree k TextKind n → IfOk found (λ it. it ≡ Text (repeat marks (126 ∷ []) ++ decimal n)) → IfOk found (IsAnyClassValue k marks nodes numbers n)
+pub text_found : {E : Type 0} (k : Known) (marks : ℕ) (nodes : List ℕ) (numbers : List ℤ) (n : ℕ) (found : Result Value E) → IsFreeUnknown k TextKind n → IfOk found (λ it. it ≡ Text (repeat marks (126 ∷ []) ++ decimal n)) → IfOk found (IsAnyClassValue k marks nodes numbers n)
 text_found k marks nodes numbers n (Err e) free h = h
 text_found k marks nodes numbers n (Ok it) free h = λ all marked. subst (IsClassValue k all nodes numbers n) (sym h) (text free marked)
 
-pub number_value : (k : Known) (marks : ℕ) (nodes : List ℕ) (numbers : List ℤ) (n : ℕ) (z : ℤ) (v : Value) → IsFree k IntKind n → Contains (zip nodes numbers) (n, z) → v ≡ Int z → IsAnyClassValue k marks nodes numbers n v
+pub number_value : (k : Known) (marks : ℕ) (nodes : List ℕ) (numbers : List ℤ) (n : ℕ) (z : ℤ) (v : Value) → IsFreeUnknown k IntKind n → Contains (zip nodes numbers) (n, z) → v ≡ Int z → IsAnyClassValue k marks nodes numbers n v
 number_value k marks nodes numbers n z v free has e = λ all marked. subst (IsClassValue k all nodes numbers n) (sym e) (number free has)
 
-pub node_is_there : (k : Known) (nodes : List ℕ) (n : ℕ) → AreNodes k nodes → IsLeastUnknown k n → IsFree k IntKind n → Contains nodes n
+pub node_is_there : (k : Known) (nodes : List ℕ) (n : ℕ) → AreNodes k nodes → IsLeastUnknown k n → IsFreeUnknown k IntKind n → Contains nodes n
 node_is_there k nodes n are least free = are.complete n (record { least = least; free = free })
 
 -- ---- all of them

@@ -16,7 +16,7 @@ use Rattle.ba_model.specs.declared.schema.Rule.{Rule}
 use Rattle.ba_model.specs.declared.schema.Schema.{Schema}
 use Rattle.ba_model.specs.declared.value.RowSet.{RowSet}
 use Rattle.ba_model.specs.declared.value.Value.{Value}
-use Rattle.ba_refute.specs.Counterexamples.{IsShown, RowsPass, ViewsWithin}
+use Rattle.ba_refute.specs.Counterexamples.{EntryIsShown, RowsPass, ViewsWithin}
 
 pub as_within : {q : Query} {c : Context} {d e : RowSet} (b : Bool) → (IsTrue b ↔ RowsPass c q d q e) → IsTrue b ↔ AnswerWithin q c d e
 as_within b test = (λ t. record { rows = test.0 t }, λ h. test.1 h.rows)
@@ -45,7 +45,7 @@ tables_agree s d (Err x) tables test = test
 tables_agree s d (Ok found) tables test = (λ t. record { tables = tables; rules = test.0 t }, λ h. test.1 h.rules)
 
 -- an entry is tested through what holds its query and its rows
-pub as_shown : {E : Type 0} (c : Context) (d : RowSet) (entry : TraceEntry) {q : Query} {rows shown : List (List Value)} (tested : Result Bool E) → q ≡ entry.query → shown ≡ rows → rows ≡ entry.rows → IfOk tested (λ found. IsTrue found ↔ All (InAnswer q c d) shown) → IfOk tested (λ found. IsTrue found ↔ IsShown c d entry)
+pub as_shown : {E : Type 0} (c : Context) (d : RowSet) (entry : TraceEntry) {q : Query} {rows shown : List (List Value)} (tested : Result Bool E) → q ≡ entry.query → shown ≡ rows → rows ≡ entry.rows → IfOk tested (λ found. IsTrue found ↔ All (InAnswer q c d) shown) → IfOk tested (λ found. IsTrue found ↔ EntryIsShown c d entry)
 as_shown {E} c d entry {q} {rows} {shown} tested asked seen held test =
     subst (λ x. IfOk tested (λ found. IsTrue found ↔ All (InAnswer x c d) entry.rows)) asked
     (subst (λ x. IfOk tested (λ found. IsTrue found ↔ All (InAnswer q c d) x)) (seen ∙ held) test)
@@ -56,6 +56,6 @@ all_within policy {views} c d e (Ok found) same test =
     let its : IsTrue found ↔ ViewsWithin policy.views c d e = subst (λ vs. IsTrue found ↔ ViewsWithin vs c d e) same test in
     (λ t. record { views = its.0 t }, λ h. its.1 h.views)
 
-pub all_shown : {E : Type 0} (trace : List TraceEntry) (c : Context) (d : RowSet) (tested : Result Bool E) → IfOk tested (λ found. IsTrue found ↔ All (IsShown c d) trace) → IfOk tested (λ found. IsTrue found ↔ Shows trace c d)
+pub all_shown : {E : Type 0} (trace : List TraceEntry) (c : Context) (d : RowSet) (tested : Result Bool E) → IfOk tested (λ found. IsTrue found ↔ All (EntryIsShown c d) trace) → IfOk tested (λ found. IsTrue found ↔ Shows trace c d)
 all_shown trace c d (Err x) test = test
 all_shown trace c d (Ok found) test = (λ t. record { entries = test.0 t }, λ h. test.1 h.entries)

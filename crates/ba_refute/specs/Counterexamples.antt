@@ -1,15 +1,18 @@
 -- Pairs of databases that show that a question isn't strongly compliant.
 use Rattle.std.specs.Prelude.{ℕ, ◌<◌, ◌≤ℤ◌, ℤ, negsuc, pos, List, All, Option, None, Some}
+use Rattle.std.specs.List.{AllZip}
 use Rattle.std.specs.List.Sorted.{IsStrictlySortedBy}
 use Rattle.ba_comply.specs.Comply.{AnswerWithin, Shows, Strong, Within}
 use Rattle.ba_comply.specs.declared.trace.TraceEntry.{TraceEntry}
-use Rattle.ba_model.specs.Conform.{Conforms}
+use Rattle.ba_eval.specs.Search.{SameRows}
+use Rattle.ba_model.specs.Conform.{Conforms, TableConforms}
 use Rattle.ba_model.specs.Meaning.{InAnswer}
 use Rattle.ba_model.specs.Order.{row_cmp}
 use Rattle.ba_model.specs.declared.policy.Context.{Context}
 use Rattle.ba_model.specs.declared.policy.Policy.{Policy}
 use Rattle.ba_model.specs.declared.policy.View.{View}
 use Rattle.ba_model.specs.declared.query.Query.{Query}
+use Rattle.ba_model.specs.declared.schema.Table.{Table}
 use Rattle.ba_model.specs.declared.value.RowSet.{RowSet}
 use Rattle.ba_model.specs.declared.value.Value.{Value}
 use Rattle.ba_model.specs.declared.value.Value.TheVariants.{Null, Int, Text}
@@ -56,22 +59,34 @@ rank Asked = 5
 rank Absent = 6
 
 -- it meets every clause
-pub record IsCounterexample (policy : Policy) (c : Context) (trace : List TraceEntry) (q : Query) (it : Counterexample) : Type 0 where
+pub record IsCounterexample (policy : Policy) (c : Context) (trace : List TraceEntry) (q : Query)
+    (it : Counterexample) : Type 0 where
   pub meets : (clause : Clause) → Meets policy c trace q it clause
 
 -- it doesn't meet this clause, and meets each before it
-pub record IsFirstUnmet (policy : Policy) (c : Context) (trace : List TraceEntry) (q : Query) (it : Counterexample) (clause : Clause) : Type 0 where
+pub record IsFirstUnmet (policy : Policy) (c : Context) (trace : List TraceEntry) (q : Query)
+    (it : Counterexample) (clause : Clause) : Type 0 where
   pub unmet : Meets policy c trace q it clause → ⊥
   pub before : (other : Clause) → rank other < rank clause → Meets policy c trace q it other
 
 -- the first clause that it doesn't meet, or that it meets them all
-abbrev pub TellsFirstUnmet : Policy → Context → List TraceEntry → Query → Counterexample → Option Clause → Type 0
+abbrev pub TellsFirstUnmet : Policy → Context → List TraceEntry → Query → Counterexample →
+    Option Clause → Type 0
 TellsFirstUnmet policy c trace q it None = IsCounterexample policy c trace q it
 TellsFirstUnmet policy c trace q it (Some clause) = IsFirstUnmet policy c trace q it clause
 
 -- the rows of each table are strictly rising
-pub record IsRising (d : RowSet) : Type 0 where
+pub record AreRising (d : RowSet) : Type 0 where
   pub tables : All (IsStrictlySortedBy row_cmp) d.tables
+
+-- the database conforms to the tables, whatever the rules
+abbrev pub FitTables : List Table → RowSet → Type 0
+FitTables tables d = AllZip (TableConforms d) tables d.tables
+
+-- the same rows in each table, strictly rising
+pub record IsInOrder (d new : RowSet) : Type 0 where
+  pub rising : All (IsStrictlySortedBy row_cmp) new.tables
+  pub same : AllZip SameRows d.tables new.tables
 
 -- each row of the first query in d is a row of the second in e
 abbrev pub RowsPass : Context → Query → RowSet → Query → RowSet → Type 0
@@ -82,8 +97,8 @@ abbrev pub ViewsWithin : List View → Context → RowSet → RowSet → Type 0
 ViewsWithin views c d e = All (λ view. AnswerWithin view.query c d e) views
 
 -- each of the entry's rows is in its query's answer
-abbrev pub IsShown : Context → RowSet → TraceEntry → Type 0
-IsShown c d entry = All (InAnswer entry.query c d) entry.rows
+abbrev pub EntryIsShown : Context → RowSet → TraceEntry → Type 0
+EntryIsShown c d entry = All (InAnswer entry.query c d) entry.rows
 
 -- a question with a counterexample isn't strongly compliant
 abbrev pub CounterexamplesRefute : Type 0

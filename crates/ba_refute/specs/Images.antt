@@ -6,7 +6,6 @@ use Rattle.std.specs.List.Sorted.{IsStrictlySortedBy}
 use Rattle.std.specs.Ordering.{nat_cmp}
 use Rattle.ba_model.specs.Order.{row_cmp}
 use Rattle.ba_model.specs.declared.policy.Context.{Context}
-use Rattle.ba_model.specs.declared.policy.Policy.{Policy}
 use Rattle.ba_model.specs.declared.policy.View.{View}
 use Rattle.ba_model.specs.declared.query.Atom.{Atom}
 use Rattle.ba_model.specs.declared.query.Operand.{Operand}
@@ -19,11 +18,11 @@ use Rattle.ba_model.specs.declared.schema.Rule.{Rule}
 use Rattle.ba_model.specs.declared.value.RowSet.{RowSet}
 use Rattle.ba_model.specs.declared.value.Value.{Value}
 use Rattle.ba_model.specs.declared.value.Value.TheVariants.{Null, Int, Text}
-use Rattle.ba_comply.specs.declared.trace.TraceEntry.{TraceEntry}
 use Rattle.ba_classes.specs.Image.{IsGreatest, IsLeast, IsValueBetween}
 use Rattle.ba_facts.specs.Fits.{Instance, value_of_term}
 use Rattle.ba_facts.specs.Knowing.{IsLeastOf}
 use Rattle.ba_facts.specs.Known.{Known, OneClass, ShownGap, ShownNotNull}
+use Rattle.ba_facts.specs.Shown.{Absurd}
 use Rattle.ba_facts.specs.declared.branch.Branch.{Branch}
 use Rattle.ba_facts.specs.declared.term.Fact.{Fact}
 use Rattle.ba_facts.specs.declared.term.Lesson.{Lesson}
@@ -36,10 +35,7 @@ use Rattle.ba_facts.specs.declared.term.Term.TheVariants.{Unknown, Val, Param, V
 use Rattle.ba_facts.specs.declared.term.TermAtom.{TermAtom}
 use Rattle.ba_kernel.specs.declared.problem.Problem.{Problem}
 use Rattle.ba_kernel.specs.declared.problem.ProblemEntry.{ProblemEntry}
-use Rattle.ba_refute.specs.Counterexamples.{IsCounterexample, IsFirstUnmet}
 use Rattle.ba_refute.specs.declared.clause.Counterexample.{Counterexample}
-use Rattle.ba_refute.specs.declared.tried.Tried.{Tried}
-use Rattle.ba_refute.specs.declared.tried.Tried.TheVariants.{Pair, Stuck}
 
 -- ---- literals
 
@@ -53,7 +49,8 @@ abbrev pub literals_of_atom : Atom → List Value
 literals_of_atom atom = literals_of_operand atom.left ++ literals_of_operand atom.right
 
 abbrev pub literals_of_part : Part → List Value
-literals_of_part part = flat_map literals_of_atom part.conds ++ flat_map literals_of_operand part.head
+literals_of_part part =
+    flat_map literals_of_atom part.conds ++ flat_map literals_of_operand part.head
 
 abbrev pub literals_of_query : Query → List Value
 literals_of_query q = flat_map literals_of_part q.parts
@@ -87,12 +84,14 @@ literals_of_fact fact = flat_map literals_of_term fact.terms
 abbrev pub literals_of_problem : Problem → List Value
 literals_of_problem p =
     flat_map literals_of_rule p.policy.schema.rules ++ (flat_map literals_of_view p.policy.views ++
-    (literals_of_query p.goal ++ (flat_map literals_of_entry p.entries ++ flat_map literals_of_atom p.assumed)))
+    (literals_of_query p.goal ++
+    (flat_map literals_of_entry p.entries ++ flat_map literals_of_atom p.assumed)))
 
 -- those of what was learned, the facts and the goal row
 abbrev pub literals_of_branch : Branch → List Value
 literals_of_branch b =
-    flat_map literals_of_lesson b.known.learned ++ (flat_map literals_of_fact b.facts ++ flat_map literals_of_term b.goal)
+    flat_map literals_of_lesson b.known.learned ++
+    (flat_map literals_of_fact b.facts ++ flat_map literals_of_term b.goal)
 
 abbrev pub literals : Problem → Branch → List Value
 literals p b = literals_of_problem p ++ literals_of_branch b
@@ -134,7 +133,7 @@ pub record HasKind (k : Known) (kind : Kind) (n : ℕ) : Type 0 where
   pub kind_is : sort.kind ≡ kind
 
 -- the unknown is of the kind, its class has no literal, and it is shown not null
-pub record IsFree (k : Known) (kind : Kind) (n : ℕ) : Type 0 where
+pub record IsFreeUnknown (k : Known) (kind : Kind) (n : ℕ) : Type 0 where
   pub has_kind : HasKind k kind n
   pub no_literal : HasNoLiteral k n
   pub not_null : ShownNotNull k (Unknown n)
@@ -144,7 +143,7 @@ pub record IsFree (k : Known) (kind : Kind) (n : ℕ) : Type 0 where
 -- a class of whole numbers that is valued, by its least unknown
 pub record IsNode (k : Known) (n : ℕ) : Type 0 where
   pub least : IsLeastUnknown k n
-  pub free : IsFree k IntKind n
+  pub free : IsFreeUnknown k IntKind n
 
 -- the strictly rising list of exactly these
 pub record AreNodes (k : Known) (nodes : List ℕ) : Type 0 where
@@ -153,7 +152,7 @@ pub record AreNodes (k : Known) (nodes : List ℕ) : Type 0 where
   pub complete : (n : ℕ) → IsNode k n → Contains nodes n
 
 -- what is known shows, with the values of some terms, that the term is at least c
-pub record IsAtLeast (k : Known) (valued : List (Term × ℤ)) (term : Term) (c : ℤ) : Type 0 where
+pub record IsLowerBound (k : Known) (valued : List (Term × ℤ)) (term : Term) (c : ℤ) : Type 0 where
   pub other : Term
   pub value : ℤ
   pub gap : ℤ
@@ -162,7 +161,7 @@ pub record IsAtLeast (k : Known) (valued : List (Term × ℤ)) (term : Term) (c 
   pub enough : c ≤ℤ (value +ℤ gap)
 
 -- and that it is at most c
-pub record IsAtMost (k : Known) (valued : List (Term × ℤ)) (term : Term) (c : ℤ) : Type 0 where
+pub record IsUpperBound (k : Known) (valued : List (Term × ℤ)) (term : Term) (c : ℤ) : Type 0 where
   pub other : Term
   pub value : ℤ
   pub gap : ℤ
@@ -171,34 +170,43 @@ pub record IsAtMost (k : Known) (valued : List (Term × ℤ)) (term : Term) (c :
   pub enough : value ≤ℤ (c +ℤ gap)
 
 -- the term's value, with the greatest lower and the least upper bound that are shown
-pub record IsNumberOf (k : Known) (valued : List (Term × ℤ)) (used : List ℤ) (term : Term) (value : ℤ) : Type 0 where
+pub record IsNumberOf (k : Known) (valued : List (Term × ℤ)) (used : List ℤ) (term : Term)
+    (value : ℤ) : Type 0 where
   pub low : Option ℤ
   pub high : Option ℤ
-  pub low_is : IsGreatest (IsAtLeast k valued term) low
-  pub high_is : IsLeast (IsAtMost k valued term) high
+  pub low_is : IsGreatest (IsLowerBound k valued term) low
+  pub high_is : IsLeast (IsUpperBound k valued term) high
   pub between : IsValueBetween used low high value
 
--- The number 0 and some unknowns with their values. Any other whole number is a literal that is shown to be so much above 0.
+-- The number 0 and some unknowns with their values. Any other whole number is a literal that is
+-- shown to be so much above 0.
 abbrev pub with_zero : List ℕ → List ℤ → List (Term × ℤ)
 with_zero nodes values = (Val (Int (pos 0)), pos 0) ∷ zip (map Unknown nodes) values
 
--- each node has its value, where the nodes before it have theirs; the literals and the values before it are used
+-- each node has its value, where the nodes before it have theirs; the literals and the values
+-- before it are used
 pub record AreNumbers (k : Known) (used : List ℤ) (nodes : List ℕ) (values : List ℤ) : Type 0 where
   pub len : length values ≡ length nodes
   pub each : (i : ℕ) → i < length nodes →
-      IsNumberOf k (with_zero (take i nodes) (take i values)) (used ++ take i values) (Unknown (slice_index nodes i)) (slice_index_or values i (pos 0))
+      IsNumberOf k (with_zero (take i nodes) (take i values)) (used ++ take i values)
+      (Unknown (slice_index nodes i)) (slice_index_or values i (pos 0))
 
 -- ---- values
 
--- The value of a class, by its least unknown: its literal; NULL where it isn't shown not null; a text that no literal begins with; or its number.
-pub data IsClassValue (k : Known) (all : List Value) (nodes : List ℕ) (numbers : List ℤ) (n : ℕ) : Value → Type 0 where
+-- The value of a class, by its least unknown: its literal; NULL where it isn't shown not null; a
+-- text that no literal begins with; or its number.
+pub data IsClassValue (k : Known) (all : List Value) (nodes : List ℕ) (numbers : List ℤ)
+    (n : ℕ) : Value → Type 0 where
   literal : {v : Value} → OneClass k (Unknown n) (Val v) → IsClassValue k all nodes numbers n v
   null : HasNoLiteral k n → ¬ (ShownNotNull k (Unknown n)) → IsClassValue k all nodes numbers n Null
-  text : {marks : ℕ} → IsFree k TextKind n → IsMarks all marks → IsClassValue k all nodes numbers n (Text (repeat marks (126 ∷ []) ++ decimal n))
-  number : {value : ℤ} → IsFree k IntKind n → Contains (zip nodes numbers) (n, value) → IsClassValue k all nodes numbers n (Int value)
+  text : {marks : ℕ} → IsFreeUnknown k TextKind n → IsMarks all marks →
+      IsClassValue k all nodes numbers n (Text (repeat marks (126 ∷ []) ++ decimal n))
+  number : {value : ℤ} → IsFreeUnknown k IntKind n → Contains (zip nodes numbers) (n, value) →
+      IsClassValue k all nodes numbers n (Int value)
 
 -- the value of an unknown is that of its class
-pub record IsValueOf (k : Known) (all : List Value) (nodes : List ℕ) (numbers : List ℤ) (n : ℕ) (v : Value) : Type 0 where
+pub record IsValueOf (k : Known) (all : List Value) (nodes : List ℕ) (numbers : List ℤ) (n : ℕ)
+    (v : Value) : Type 0 where
   pub least : ℕ
   pub is_least : IsLeastOf k n least
   pub value : IsClassValue k all nodes numbers least v
@@ -223,7 +231,8 @@ abbrev pub IsRowAt : Context → List Value → List Term → List Value → Typ
 IsRowAt c values terms r = map (value_of_term (given c) values) terms ≡ map Some r
 
 -- a fact of the table on the side is the row
-pub record IsFactRow (c : Context) (values : List Value) (facts : List Fact) (side : Side) (table : ℕ) (r : List Value) : Type 0 where
+pub record IsFactRow (c : Context) (values : List Value) (facts : List Fact) (side : Side)
+    (table : ℕ) (r : List Value) : Type 0 where
   pub fact : Fact
   pub there : Contains facts fact
   pub side_is : fact.side ≡ side
@@ -231,19 +240,23 @@ pub record IsFactRow (c : Context) (values : List Value) (facts : List Fact) (si
   pub row : IsRowAt c values fact.terms r
 
 -- the strictly rising list of exactly these rows
-pub record AreFactRows (c : Context) (values : List Value) (facts : List Fact) (side : Side) (table : ℕ) (rows : List (List Value)) : Type 0 where
+pub record AreFactRows (c : Context) (values : List Value) (facts : List Fact) (side : Side)
+    (table : ℕ) (rows : List (List Value)) : Type 0 where
   pub rising : IsStrictlySortedBy row_cmp rows
   pub sound : (r : List Value) → Contains rows r → IsFactRow c values facts side table r
   pub complete : (r : List Value) → IsFactRow c values facts side table r → Contains rows r
 
 -- those of so many tables
-pub record AreSideRows (c : Context) (values : List Value) (facts : List Fact) (tables : ℕ) (side : Side) (all : List (List (List Value))) : Type 0 where
+pub record AreSideRows (c : Context) (values : List Value) (facts : List Fact) (tables : ℕ)
+    (side : Side) (all : List (List (List Value))) : Type 0 where
   pub len : length all ≡ tables
-  pub each : (table : ℕ) (rows : List (List Value)) → slice_get all table ≡ Some rows → AreFactRows c values facts side table rows
+  pub each : (table : ℕ) (rows : List (List Value)) → slice_get all table ≡ Some rows →
+      AreFactRows c values facts side table rows
 
 -- the database of the facts of a side, with a list of rows for each table of the problem's schema
 abbrev pub IsSideOf : Problem → Context → List Value → List Fact → Side → RowSet → Type 0
-IsSideOf p c values facts side d = AreSideRows c values facts (length p.policy.schema.tables) side d.tables
+IsSideOf p c values facts side d =
+    AreSideRows c values facts (length p.policy.schema.tables) side d.tables
 
 -- the image of a branch under a context
 pub record IsImage (p : Problem) (c : Context) (b : Branch) (it : Counterexample) : Type 0 where
@@ -253,16 +266,11 @@ pub record IsImage (p : Problem) (c : Context) (b : Branch) (it : Counterexample
   pub two : IsSideOf p c values b.facts Two it.two
   pub row : IsRowAt c values b.goal it.row
 
--- the pair, which is a counterexample, or the first clause that it doesn't meet
-abbrev pub IsTested : Policy → Context → List TraceEntry → Query → Counterexample → Tried → Type 0
-IsTested policy c trace q it (Pair found) = (found ≡ it) × IsCounterexample policy c trace q it
-IsTested policy c trace q it (Stuck clause) = IsFirstUnmet policy c trace q it clause
-
--- the image, which is a counterexample, or the first clause that it doesn't meet
-abbrev pub TellsTried : Policy → Context → List TraceEntry → Query → Problem → Branch → Tried → Type 0
-TellsTried policy c trace q p b (Pair it) = IsImage p c b it × IsCounterexample policy c trace q it
-TellsTried policy c trace q p b (Stuck clause) =
-    (it : Counterexample) × IsImage p c b it × IsFirstUnmet policy c trace q it clause
+-- a branch that isn't absurd has one image at most under a context
+abbrev pub ImagesAreOne : Type 0
+ImagesAreOne =
+    (p : Problem) (c : Context) (b : Branch) (it other : Counterexample) → ¬ (Absurd b.known) →
+    IsImage p c b it → IsImage p c b other → it ≡ other
 
 -- ---- what is asked of the branch
 

@@ -15,14 +15,13 @@ pub(crate) trait HasLiterals {
 
     /// Adds its literals, in order.
     fn add_to<'a>(&'a self, found: &mut Vec<&'a Value>) -> Result<(), AllocError>
-        ensures { OnOk result (map (λ v. v.now) found.new.items
-            ≡ map (λ v. v.now) found.old.items ++ Self.literals self.now) };
+        ensures { OnOk result (map (λ v. v.now) found.new.items ≡ map (λ v. v.now) found.old.items ++ Self.literals self.now) };
 }
 
 /// Adds the literals of each.
 fn add_all<'a, T: HasLiterals>(each: &'a [T], found: &mut Vec<&'a Value>) -> Result<(), AllocError>
-    ensures { OnOk result (map (λ v. v.now) found.new.items
-        ≡ map (λ v. v.now) found.old.items ++ flat_map T.literals each.now) }
+    ensures { OnOk result (map (λ v. v.now) found.new.items ≡ map (λ v. v.now) found.old.items
+        ++ flat_map T.literals each.now) }
 {
     for one in each {
         one.add_to(found)?;
@@ -186,8 +185,8 @@ pub(crate) fn literals<'a>(
     problem: &'a Problem,
     branch: &'a Branch,
 ) -> Result<Vec<&'a Value>, AllocError>
-    ensures { IfOk result (λ found.
-        map (λ v. v.now) found.items ≡ literals problem.now branch.now) }
+    ensures { IfOk result
+        (λ found. map (λ v. v.now) found.items ≡ literals problem.now branch.now) }
 {
     let mut found = Vec::new(alloc);
     problem.add_to(&mut found)?;

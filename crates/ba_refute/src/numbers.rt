@@ -3,7 +3,7 @@ ghost use Rattle.std.specs.Prelude.{IfOk};
 ghost use Rattle.ba_classes.specs.Image.{IsGreatest, IsLeast};
 ghost use Rattle.ba_facts.specs.Knowing.{IsRising};
 ghost use Rattle.ba_facts.specs.declared.term.Term.TheVariants.{Unknown};
-ghost use Rattle.ba_refute.specs.Images.{AreNumbers, IsAtLeast, IsAtMost, IsNumberOf};
+ghost use Rattle.ba_refute.specs.Images.{AreNumbers, IsLowerBound, IsUpperBound, IsNumberOf};
 
 use ba_classes::image::{difference, greater, lesser, sum, value_between};
 use ba_facts::{Knowledge, Term, TermRef};
@@ -17,7 +17,7 @@ fn lower_bound(
     n: u32,
 ) -> Result<Option<i128>, AllocError>
     requires { ¬ (IsRising known.now) }
-    ensures { IfOk result (IsGreatest (IsAtLeast known.now valued.now (Unknown n))) }
+    ensures { IfOk result (IsGreatest (IsLowerBound known.now valued.now (Unknown n))) }
 {
     let mut bound = None;
     for (other, value) in valued {
@@ -35,7 +35,7 @@ fn upper_bound(
     n: u32,
 ) -> Result<Option<i128>, AllocError>
     requires { ¬ (IsRising known.now) }
-    ensures { IfOk result (IsLeast (IsAtMost known.now valued.now (Unknown n))) }
+    ensures { IfOk result (IsLeast (IsUpperBound known.now valued.now (Unknown n))) }
 {
     let mut bound = None;
     for (other, value) in valued {

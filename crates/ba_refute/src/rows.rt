@@ -66,8 +66,8 @@ fn fact_rows(
     table: usize,
 ) -> Result<Vec<WideRow>, AllocError>
     requires { All (FactIsGiven (length values.now) ctx.now) facts.now }
-    ensures { IfOk result (λ it. (r : Sequence Plain) →
-        Contains it.items r ↔ IsFactRow ctx.now values.now facts.now side table r) }
+    ensures { IfOk result (λ it. (r : Sequence Plain) → Contains it.items r
+        ↔ IsFactRow ctx.now values.now facts.now side table r) }
 {
     let mut rows = Vec::new(alloc);
     for fact in facts {

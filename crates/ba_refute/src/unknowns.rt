@@ -1,6 +1,6 @@
 //! Unknowns and their classes.
 ghost use Rattle.std.specs.Prelude.{◌↔◌, ◌<◌, IfOk, IsTrue, length};
-ghost use Rattle.ba_refute.specs.Images.{AreNodes, HasKind, HasNoLiteral, IsFree, IsLeastUnknown, IsNode};
+ghost use Rattle.ba_refute.specs.Images.{AreNodes, HasKind, HasNoLiteral, IsFreeUnknown, IsLeastUnknown, IsNode};
 
 use ba_facts::{Knowledge, TermRef, number_of};
 use ba_model::{Kind, Same};
@@ -26,7 +26,7 @@ fn has_no_literal(known: &Knowledge, n: u32) -> bool
 }
 
 fn is_free(known: &Knowledge, kind: Kind, n: u32) -> bool
-    ensures { IsTrue result ↔ IsFree known.now kind n }
+    ensures { IsTrue result ↔ IsFreeUnknown known.now kind n }
 {
     is_of_kind(known, kind, n)
         && has_no_literal(known, n)
@@ -47,8 +47,8 @@ fn is_node(known: &Knowledge, n: u32) -> bool
     is_least(known, n) && is_free(known, Kind::Int, n)
 }
 
-/// The least unknowns of the classes of whole numbers that are valued, in rising order. `AllocError`
-/// also where there are 2^32 unknowns or more.
+/// The least unknowns of the classes of whole numbers that are valued, in rising order.
+/// `AllocError` also where there are 2^32 unknowns or more.
 pub(crate) fn nodes(alloc: Global, known: &Knowledge) -> Result<Vec<u32>, AllocError>
     ensures { IfOk result (λ it. AreNodes known.now it.items) }
 {

@@ -1,6 +1,6 @@
 //! The first clause that a pair doesn't meet.
 ghost use Rattle.std.specs.Prelude.{IfOk};
-ghost use Rattle.ba_refute.specs.Counterexamples.{IsPairStored, IsRising, TellsFirstUnmet};
+ghost use Rattle.ba_refute.specs.Counterexamples.{IsPairStored, TellsFirstUnmet};
 
 use crate::clause::{Clause, Counterexample};
 use crate::conform::conforms;
@@ -13,7 +13,7 @@ use std::alloc::{AllocError, Global};
 /// The first clause, in the order of [`Clause`], that the pair doesn't meet for a question under a
 /// policy and a context after a trace; none where it is a counterexample to strong compliance
 /// ([`crate::laws::counterexamples_refute`]). Its numbers are within 64 bits, as [`Clause::Value`]
-/// asks, and the rows of each table are strictly rising.
+/// asks; the rows of a table may stand in any order, and more than once.
 pub fn first_unmet(
     alloc: Global,
     policy: &Policy,
@@ -23,8 +23,6 @@ pub fn first_unmet(
     pair: &Counterexample,
 ) -> Result<Option<Clause>, AllocError>
     requires stored { IsPairStored pair.now }
-    requires one { IsRising pair.now.one }
-    requires two { IsRising pair.now.two }
     ensures { IfOk result (TellsFirstUnmet policy.now ctx.now trace.now query.now pair.now) }
 {
     let one = conforms(alloc, &policy.schema, &pair.one)?;

@@ -41,8 +41,8 @@ fn class_value(
     requires nodes { AreNodes known.now nodes.now }
     requires numbered { length numbers.now ≡ length nodes.now }
     requires is_least { IsLeastUnknown known.now least }
-    ensures { IfOk result (λ v. (all : Sequence Plain) → IsMarks all marks →
-        IsClassValue known.now all nodes.now numbers.now least v) }
+    ensures { IfOk result (λ v. (all : Sequence Plain) → IsMarks all marks
+        → IsClassValue known.now all nodes.now numbers.now least v) }
 {
     match known.literal(TermRef::Unknown(least)) {
         Some(value) => WideValue::of(alloc, value),
@@ -63,8 +63,8 @@ fn open_value(
     requires numbered { length numbers.now ≡ length nodes.now }
     requires is_least { IsLeastUnknown known.now least }
     requires open { HasNoLiteral known.now least }
-    ensures { IfOk result (λ v. (all : Sequence Plain) → IsMarks all marks →
-        IsClassValue known.now all nodes.now numbers.now least v) }
+    ensures { IfOk result (λ v. (all : Sequence Plain) → IsMarks all marks
+        → IsClassValue known.now all nodes.now numbers.now least v) }
 {
     if !known.shown_not_null(TermRef::Unknown(least)) {
         return Ok(WideValue::null());
@@ -89,9 +89,9 @@ fn all_values(
     requires nodes { AreNodes known.now nodes.now }
     requires numbered { length numbers.now ≡ length nodes.now }
     ensures len { IfOk result (λ it. length it.items ≡ length known.now.unknowns) }
-    ensures each { IfOk result (λ it. (all : Sequence Plain) → IsMarks all marks →
-        (n : ℕ) (v : Plain) → slice_get it.items n ≡ Some v →
-        IsValueOf known.now all nodes.now numbers.now n v) }
+    ensures each { IfOk result (λ it. (all : Sequence Plain) → IsMarks all marks
+        → (n : ℕ) (v : Plain) → slice_get it.items n ≡ Some v
+        → IsValueOf known.now all nodes.now numbers.now n v) }
 {
     let count = number_of(known.unknowns().len())?;
     let mut values = Vec::new(alloc);
@@ -109,8 +109,8 @@ pub(crate) fn values(
     branch: &Branch,
 ) -> Result<Vec<WideValue>, AllocError>
     requires { ¬ (Absurd branch.now.known) }
-    ensures { IfOk result (λ it.
-        AreValues branch.now.known (literals problem.now branch.now) it.items) }
+    ensures { IfOk result
+        (λ it. AreValues branch.now.known (literals problem.now branch.now) it.items) }
 {
     let all = literals(alloc, problem, branch)?;
     let marks = marks(&all)?;

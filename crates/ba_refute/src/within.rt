@@ -2,7 +2,7 @@
 ghost use Rattle.std.specs.Prelude.{◌↔◌, All, IfOk, IsTrue};
 ghost use Rattle.ba_comply.specs.Comply.{Shows, Within};
 ghost use Rattle.ba_model.specs.Meaning.{InAnswer};
-ghost use Rattle.ba_refute.specs.Counterexamples.{IsShown, RowsPass, ViewsWithin};
+ghost use Rattle.ba_refute.specs.Counterexamples.{EntryIsShown, RowsPass, ViewsWithin};
 
 use ba_comply::{Trace, TraceEntry};
 use ba_eval::{answer, contains};
@@ -17,7 +17,8 @@ fn all_in(
     query: &Query,
     database: &RowSet,
 ) -> Result<bool, AllocError>
-    ensures { IfOk result (λ found. IsTrue found ↔ All (InAnswer query.now ctx.now database.now) rows.now) }
+    ensures { IfOk result
+        (λ found. IsTrue found ↔ All (InAnswer query.now ctx.now database.now) rows.now) }
 {
     for row in rows {
         let found = contains(alloc, database, ctx, query, row)?;
@@ -37,7 +38,8 @@ pub fn rows_pass(
     other: &Query,
     two: &RowSet,
 ) -> Result<bool, AllocError>
-    ensures { IfOk result (λ found. IsTrue found ↔ RowsPass ctx.now query.now one.now other.now two.now) }
+    ensures { IfOk result
+        (λ found. IsTrue found ↔ RowsPass ctx.now query.now one.now other.now two.now) }
 {
     let rows = answer(alloc, one, ctx, query)?;
     all_in(alloc, ctx, rows.as_slice(), other, two)
@@ -81,7 +83,7 @@ fn entry_is_shown(
     entry: &TraceEntry,
     one: &RowSet,
 ) -> Result<bool, AllocError>
-    ensures { IfOk result (λ found. IsTrue found ↔ IsShown ctx.now one.now entry.now) }
+    ensures { IfOk result (λ found. IsTrue found ↔ EntryIsShown ctx.now one.now entry.now) }
 {
     all_in(alloc, ctx, entry.rows.as_slice(), &entry.query, one)
 }
@@ -92,7 +94,7 @@ fn entries_are_shown(
     trace: &Trace,
     one: &RowSet,
 ) -> Result<bool, AllocError>
-    ensures { IfOk result (λ found. IsTrue found ↔ All (IsShown ctx.now one.now) trace.now) }
+    ensures { IfOk result (λ found. IsTrue found ↔ All (EntryIsShown ctx.now one.now) trace.now) }
 {
     for i in 0..trace.len() {
         let shown = entry_is_shown(alloc, ctx, trace.entry(i), one)?;

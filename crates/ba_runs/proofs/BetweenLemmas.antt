@@ -15,7 +15,7 @@ use Rattle.ba_model.specs.declared.policy.Policy.{Policy}
 use Rattle.ba_runs.proofs.ScriptLemmas.{IsOpenAfter, Opens, WasOpen, next_number, opened_before}
 use Rattle.ba_script.specs.Scripts.{NumberedFrom}
 use Rattle.ba_script.specs.declared.entry.ScriptEntry.{ScriptEntry}
-use Rattle.ba_session.specs.Asking.{IsAsker, answer_in}
+use Rattle.ba_session.specs.Asking.{IsRequestOf, answer_in}
 use Rattle.ba_session.specs.declared.reply.Reply.{Reply}
 use Rattle.ba_session.specs.declared.request.Request.{Request}
 use Rattle.ba_tables.specs.TableSet.{TableSet}
@@ -120,7 +120,7 @@ quiet_unserved k it is = quiet_by k it NoMemory is refl (λ v e. apart k v e)
 -- the machine has this of the request, which may ask
 pub record Stands (input : Input) (t : State) (k : ℕ) (asker : Request) : Type 0 where
   pub has : HasRequest input.policy t k asker
-  pub may : IsAsker input.policy asker
+  pub may : IsRequestOf input.policy asker
 
 module _ (input : Input) (chosen : ℕ → Bool) where
   -- Requests that haven't begun are told nothing, and are not open. The chosen ones that are open after these lines stand as what became of the lines tells.

@@ -22,7 +22,7 @@ use Rattle.ba_model.specs.Fit.{IsQuery, kinds_of}
 use Rattle.ba_model.specs.declared.policy.Policy.{Policy}
 use Rattle.ba_model.specs.declared.query.Query.{Query}
 use Rattle.ba_runs.proofs.LineLemmas.{AnswersComply}
-use Rattle.ba_session.specs.Asking.{IsAsker, IsChecked, IsGround, question}
+use Rattle.ba_session.specs.Asking.{IsRequestOf, IsChecked, IsGround, question}
 use Rattle.ba_session.specs.Passing.{ShelfCalls}
 use Rattle.ba_session.specs.declared.reply.By.{By}
 use Rattle.ba_session.specs.declared.reply.By.TheVariants as by
@@ -45,7 +45,7 @@ runs_of (Searches.start h) = courses.Runs.start h
 runs_of (Searches.next before each picked takes) = courses.Runs.next (runs_of before) takes
 
 strong_by : Grounds → (number : ℕ → ℕ → ℕ) (policy : Policy) (t : State) (asker : Request) (budget : ℕ) (query : Query) (made : ShelfCalls) (basis : By) → IsChecked policy → AreSound t →
-    HasFound number t made → IsAsker policy asker → IsQuery policy.schema (kinds_of policy.params) [] query → IsGround policy asker budget query basis made →
+    HasFound number t made → IsRequestOf policy asker → IsQuery policy.schema (kinds_of policy.params) [] query → IsGround policy asker budget query basis made →
     Strong policy asker.context asker.trace query
 strong_by laws number policy t asker budget query made (by.Cover cover) checked sound found may asks ground =
     laws.covered policy asker.context asker.trace query checked.fits may.context (laws.covers policy asker.context query cover ground.0)

@@ -33,7 +33,7 @@ use Rattle.ba_runs.specs.Journals.{event_of, reply_of, standing}
 use Rattle.ba_script.specs.Scripts.{BeginFits, IsOpen, IsScript}
 use Rattle.ba_script.specs.declared.entry.ScriptEntry.{ScriptEntry}
 use Rattle.ba_script.specs.declared.entry.ScriptEntry.TheVariants as said
-use Rattle.ba_session.specs.Asking.{IsAsker, IsChecked, IsGround, Reads, Replies, answer_in}
+use Rattle.ba_session.specs.Asking.{IsRequestOf, IsChecked, IsGround, Reads, Replies, answer_in}
 use Rattle.ba_session.specs.Asking as asking
 use Rattle.ba_session.specs.Passing.{ShelfCalls}
 use Rattle.ba_session.specs.declared.reply.By.{By}
@@ -51,7 +51,7 @@ use Rattle.ba_versions.specs.declared.call.VersionCall.TheVariants as call
 -- an answer with its evidence complies, on a machine that has the request
 abbrev pub AnswersComply : Type 0
 AnswersComply = (number : ℕ → ℕ → ℕ) (policy : Policy) (t : State) (k : ℕ) (asker : Request) (budget : ℕ) (query : Query) (rows : List (List Value)) (made : ShelfCalls) (basis : By) →
-    IsChecked policy → HasRequest policy t k asker → AreSound t → HasFound number t made → IsAsker policy asker → IsQuery policy.schema (kinds_of policy.params) [] query →
+    IsChecked policy → HasRequest policy t k asker → AreSound t → HasFound number t made → IsRequestOf policy asker → IsQuery policy.schema (kinds_of policy.params) [] query →
     IsGround policy asker budget query basis made → IsAnswer query asker.context asker.tables.rows rows → IsCompliant t k query rows
 
 -- a text reads as a query that is checked
@@ -93,8 +93,8 @@ pub record AreTables (policy : Policy) (tables : TableSet) : Type 0 where
   pub schema : tables.schema ≡ policy.schema
   pub conforms : Conforms policy.schema tables.rows
 
-may_answer : (policy : Policy) (asker : Request) (query : Query) (rows : List (List Value)) (basis : By) → IsAsker policy asker → IsQuery policy.schema (kinds_of policy.params) [] query →
-    IsAnswer query asker.context asker.tables.rows rows → IsAsker policy (after asker (Answer query rows basis))
+may_answer : (policy : Policy) (asker : Request) (query : Query) (rows : List (List Value)) (basis : By) → IsRequestOf policy asker → IsQuery policy.schema (kinds_of policy.params) [] query →
+    IsAnswer query asker.context asker.tables.rows rows → IsRequestOf policy (after asker (Answer query rows basis))
 may_answer policy asker query rows basis may checked answer =
     let entry : TraceEntry = record { query = query; rows = rows } in
     record {
@@ -196,7 +196,7 @@ module _ (laws : Laws) (number : ℕ → ℕ → ℕ) (input : Input) (journal :
       at : (r ≡ length (contexts_of before)) × (slice_get (contexts_of input.script.entries) r ≡ Some context)
       at = next_number input.script.entries before rest r name context script.numbered are
 
-      may_begin : IsAsker input.policy begun
+      may_begin : IsRequestOf input.policy begun
       may_begin = record {
         context = All-contains (BeginFits input.policy.params) input.script.entries (said.Begin r name context) script.contexts
             (subst (λ z. Contains z (said.Begin r name context)) (sym are) (Contains-append_right before (said.Begin r name context ∷ rest) (said.Begin r name context) (0, omega arith, refl)));

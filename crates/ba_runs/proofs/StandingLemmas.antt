@@ -4,7 +4,7 @@ use Rattle.std.proofs.Math.Logic.{∥∥₁_map}
 use Rattle.std.proofs.lemmas.List.Elements.{All-cons, All-contains, All-map, All-nil, Contains-append_right}
 use Rattle.std.proofs.lemmas.Option.{get_or_from_slice_get}
 use Rattle.ba_lanes.proofs.HeadlineLemmas.{headline}
-use Rattle.ba_lanes.specs.Headline.{IsAsker}
+use Rattle.ba_lanes.specs.Headline.{IsAskerOf}
 use Rattle.ba_lanes.specs.Legal.{AreServed, HasContext, IsServed, Legal, LineDone, contexts_of}
 use Rattle.ba_lanes.specs.declared.journal.Entry.{Entry}
 use Rattle.ba_lanes.specs.declared.journal.Entry.TheVariants.{Begin, Unbegun, Ask, End, Publish, NoMemory}
@@ -68,8 +68,8 @@ begins_standing input journal legal before after request version e =
     shown (contexts_of input.script.entries) request it.0 it.1
 
 -- a request that asks is the one that stands there
-is_standing : (input : Input) (journal : Journal) (request version : ℕ) (earlier : List Entry) (asker : Request) → IsAsker input journal request version earlier asker →
-    IsAsker input journal request version earlier (standing input journal earlier request version)
+is_standing : (input : Input) (journal : Journal) (request version : ℕ) (earlier : List Entry) (asker : Request) → IsAskerOf input journal request version earlier asker →
+    IsAskerOf input journal request version earlier (standing input journal earlier request version)
 is_standing input journal request version earlier asker h =
     let tables = versions_of journal.histories.versions in
     record {

@@ -11,7 +11,7 @@ use Rattle.ba_core.specs.declared.event.CoreReply.TheVariants as replies
 use Rattle.ba_core.specs.declared.event.Event.{Event}
 use Rattle.ba_core.specs.declared.event.Event.TheVariants as events
 use Rattle.ba_kernel.specs.Tests.{Proof}
-use Rattle.ba_lanes.specs.Headline.{IsAsker}
+use Rattle.ba_lanes.specs.Headline.{IsAskerOf}
 use Rattle.ba_lanes.specs.Legal.{HasContext, Legal, contexts_of, trace_in}
 use Rattle.ba_lanes.specs.declared.journal.Entry.{Entry}
 use Rattle.ba_lanes.specs.declared.journal.Entry.TheVariants.{Begin, Unbegun, Ask, End, Publish, NoMemory}
@@ -107,9 +107,9 @@ pub record AskersStand (input : Input) (journal : Journal) : Type 0 where
   pub begins :
       (before after : List Entry) (request version : ℕ) → journal.entries ≡ before ++ Begin request version ∷ after → HasContext input.script request (standing input journal before request version).context
   pub answers :
-      (before after : List Entry) (request version : ℕ) (query : Query) (rows : List (List Value)) (basis : By) → journal.entries ≡ before ++ Ask request version (Answer query rows basis) ∷ after → IsAsker input journal request version before (standing input journal before request version)
+      (before after : List Entry) (request version : ℕ) (query : Query) (rows : List (List Value)) (basis : By) → journal.entries ≡ before ++ Ask request version (Answer query rows basis) ∷ after → IsAskerOf input journal request version before (standing input journal before request version)
   pub blocks :
-      (before after : List Entry) (request version : ℕ) (query : Query) (why : Why) → journal.entries ≡ before ++ Ask request version (Blocked query why) ∷ after → IsAsker input journal request version before (standing input journal before request version)
+      (before after : List Entry) (request version : ℕ) (query : Query) (why : Why) → journal.entries ≡ before ++ Ask request version (Blocked query why) ∷ after → IsAskerOf input journal request version before (standing input journal before request version)
 
 -- So it is in each legal journal.
 abbrev pub AskersAreStanding : Type 0

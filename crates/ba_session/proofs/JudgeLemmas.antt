@@ -12,21 +12,15 @@ use Rattle.ba_comply.specs.Comply.{AnswerEverywhere}
 use Rattle.ba_comply.specs.declared.trace.TraceEntry.{TraceEntry}
 use Rattle.ba_direct.specs.Cover.{AlwaysStrong, Covered, IsCover}
 use Rattle.ba_direct.specs.declared.covers.Cover.{Cover}
-use Rattle.ba_facts.specs.Shown.{Absurd}
-use Rattle.ba_facts.specs.declared.branch.Branch.{Branch}
-use Rattle.ba_instant.specs.Dues.{Ends, EndsProved, EndsSaturated, Searches}
+use Rattle.ba_instant.specs.Dues.{Ends, EndsAreLeaves, EndsProved, EndsSaturated, IsLeaf, Searches}
 use Rattle.ba_instant.specs.declared.ends.Leaf.{Leaf}
 use Rattle.ba_instant.specs.declared.ends.Settled.{Settled}
 use Rattle.ba_instant.specs.declared.ends.Settled.TheVariants as settled
-use Rattle.ba_instant.specs.declared.order.Pick.{Pick}
 use Rattle.ba_instant.specs.declared.order.Pick.TheVariants.{First}
-use Rattle.ba_kernel.specs.Asked.{AnswersAreRecords, QuestionFits, QuestionIsProblem, RecordFits}
-use Rattle.ba_kernel.specs.Courses.{Runs, Slots}
+use Rattle.ba_kernel.specs.Asked.{AnswersAreRecords, QuestionFits, RecordFits}
 use Rattle.ba_kernel.specs.Problems.{ProblemIsQuestion, StrongAll}
-use Rattle.ba_kernel.specs.Tests.{IsTidy, Proof, RunsAreTidy}
+use Rattle.ba_kernel.specs.Tests.{Proof}
 use Rattle.ba_kernel.specs.declared.problem.Problem.{Problem}
-use Rattle.ba_kernel.specs.declared.step.Step.{Step}
-use Rattle.ba_kernel.specs.declared.step.Step.TheVariants as steps
 use Rattle.ba_match.specs.Matching.{IsFirstMatch, IsFound}
 use Rattle.ba_model.specs.Conform.{Conforms}
 use Rattle.ba_model.specs.Fit.{ContextFits, IsQuery, kinds_of}
@@ -39,15 +33,15 @@ use Rattle.ba_model.specs.declared.policy.Policy.{Policy}
 use Rattle.ba_model.specs.declared.query.Query.{Query}
 use Rattle.ba_model.specs.declared.value.RowSet.{RowSet}
 use Rattle.ba_model.specs.declared.value.Value.{Value}
-use Rattle.ba_refute.specs.Images.{FactIsGiven, IsGiven, TellsTried}
+use Rattle.ba_refute.specs.Images.{IsImage}
+use Rattle.ba_refute.specs.Refutals.{IsRefutal, IsRefutedBy, IsStuckAt}
 use Rattle.ba_refute.specs.declared.clause.Clause.{Clause}
 use Rattle.ba_refute.specs.declared.clause.Counterexample.{Counterexample}
-use Rattle.ba_refute.specs.declared.tried.Tried.{Tried}
-use Rattle.ba_refute.specs.declared.tried.Tried.TheVariants as tried
-use Rattle.ba_session.proofs.GivenLemmas.{IsFixedOn, all_given, facts_given, open_fixed}
-use Rattle.ba_session.specs.Asking.{HasFault, IsAsker, IsChecked, IsFirstToMatch, IsGround, IsKept, IsNoMatch, IsReason, IsReleased, NoneMatches, Reads, Replies, Uncovered, answer_in, look_at, question}
+use Rattle.ba_refute.specs.declared.refutal.Refutal.{Refutal}
+use Rattle.ba_refute.specs.declared.refutal.Refutal.TheVariants as refutal
+use Rattle.ba_session.specs.Asking.{HasFault, IsRequestOf, IsChecked, IsFirstToMatch, IsGround, IsKept, IsNoMatch, IsReason, IsReleased, NoneMatches, Reads, Replies, Uncovered, answer_in, look_at, question}
 use Rattle.ba_session.specs.Judging as judging
-use Rattle.ba_session.specs.Judging.{Answers, AnswersByProof, Decides, IsCompliant, IsLeft, IsServing, IsTold, Judges, Says, refusal_of}
+use Rattle.ba_session.specs.Judging.{Answers, AnswersByProof, Decides, IsCompliant, IsServing, IsTold, Judges, Says, refusal_of}
 use Rattle.ba_session.proofs.PassLemmas.{makes_more, makes_none, makes_one}
 use Rattle.ba_session.specs.Passing.{LeavesVersions, Makes, ShelfCalls, on_shelf}
 use Rattle.ba_session.specs.declared.service.Passes.{Passes}
@@ -64,54 +58,49 @@ use Rattle.ba_template.specs.Found.{MatchedIsStrong, Matches}
 use Rattle.ba_template.specs.Shapes.{shape_of, shard_of}
 use Rattle.ba_template.specs.declared.found.Match.{Match}
 
--- ---- a branch that is saturated
+-- ---- what a saturated leaf shows
 
-pub not_absurd : (p : Problem) (b : Branch) → IsLeft p b → ¬ (Absurd b.known)
-not_absurd p b left h = left.saturated.none_new (steps.Absurd left.number) refl (record { passes = h; tells = tt })
-
-module _ (policy : Policy) (asker : Request) (query : Query) (fits : QuestionFits policy asker.context asker.trace query)
-    (b : Branch) (left : IsLeft (question policy asker query) b) where
-  abbrev p : Problem
-  p = question policy asker query
-
-  fixed_left : IsFixedOn asker.context b
-  fixed_left =
-      open_fixed asker.context p fits.asked.fits.kinds fits.context fits.asked.fits.parts left.taken left.slots left.number b left.runs left.saturated.open_
-
-  module _ (tidy : RunsAreTidy) (law : QuestionIsProblem) where
-    tidy_left : IsTidy p b
-    tidy_left = tidy p left.taken left.slots (law policy asker.context asker.trace query fits) left.runs left.number b left.saturated.open_
-
-    pub facts_left : All (FactIsGiven (length b.known.unknowns) asker.context) b.facts
-    facts_left = facts_given asker.context policy.schema b.known b.facts fixed_left.facts tidy_left.facts
-
-    pub goal_left : All (IsGiven (length b.known.unknowns) asker.context) b.goal
-    goal_left = all_given asker.context b.known b.goal fixed_left.goal tidy_left.goal
-
--- ---- what a saturated branch shows
-
-module _ (policy : Policy) (asker : Request) (query : Query) (leaf : Leaf) (it : Tried)
-    (tells : TellsTried policy asker.context asker.trace query (question policy asker query) leaf.branch it) where
-  pub refuted : (pair : Counterexample) → it ≡ tried.Pair pair → (budget : ℕ) → EndsSaturated First (question policy asker query) budget leaf →
+module _ (policy : Policy) (asker : Request) (query : Query) (leaf : Leaf) (it : Refutal) (tells : IsRefutal policy asker.context asker.trace query leaf it) where
+  pub refuted : (pair : Counterexample) → it ≡ refutal.Pair pair → (budget : ℕ) → EndsSaturated First (question policy asker query) budget leaf →
       IsReason policy asker budget query (why.Refuted pair)
   refuted pair e budget ends =
-      let it = subst (TellsTried policy asker.context asker.trace query (question policy asker query) leaf.branch) e tells in
-      record { leaf = leaf; saturated = ends; image_is = it.0; refutes = it.1 }
+      let h : IsRefutedBy policy asker.context asker.trace query leaf pair = subst (IsRefutal policy asker.context asker.trace query leaf) e tells in
+      record {
+        leaf = leaf;
+        saturated = ends;
+        image_is = subst (λ p. IsImage p asker.context leaf.branch pair) ends.problem_is h.image_is;
+        refutes = h.refutes;
+      }
 
-  pub stuck : (clause : Clause) → it ≡ tried.Stuck clause → (budget : ℕ) → EndsSaturated First (question policy asker query) budget leaf →
-      IsReason policy asker budget query (why.Stuck leaf clause)
-  stuck clause e budget ends =
-      let it = subst (TellsTried policy asker.context asker.trace query (question policy asker query) leaf.branch) e tells in
-      record { saturated = ends; image = it.0; image_is = it.1; unmet = it.2 }
+  pub stuck : (other : Leaf) (clause : Clause) → it ≡ refutal.Stuck other clause → (budget : ℕ) → EndsSaturated First (question policy asker query) budget leaf →
+      IsReason policy asker budget query (why.Stuck other clause)
+  stuck other clause e budget ends =
+      let h : IsStuckAt policy asker.context asker.trace query leaf other clause = subst (IsRefutal policy asker.context asker.trace query leaf) e tells in
+      subst (λ z. IsReason policy asker budget query (why.Stuck z clause)) (sym h.same)
+      (record {
+        saturated = ends;
+        image = h.image;
+        image_is = subst (λ p. IsImage p asker.context leaf.branch h.image) ends.problem_is h.image_is;
+        unmet = h.unmet;
+      })
+
+-- of a policy and a query that other names have too
+pub fits_seen : (policy seen : Policy) (asker : Request) (query seen_query : Query) → seen ≡ policy → seen_query ≡ query → QuestionFits policy asker.context asker.trace query →
+    QuestionFits seen asker.context asker.trace seen_query
+fits_seen policy seen asker query seen_query same same_query fits =
+    subst (λ z. QuestionFits seen asker.context asker.trace z) (sym same_query) (subst (λ z. QuestionFits z asker.context asker.trace query) (sym same) fits)
+
+pub problem_seen : (policy seen : Policy) (asker : Request) (query seen_query : Query) → seen ≡ policy → seen_query ≡ query → (p : Problem) → p ≡ question policy asker query →
+    p ≡ question seen asker seen_query
+problem_seen policy seen asker query seen_query same same_query p is =
+    is ∙ sym (ap (λ z. question z asker query) same) ∙ sym (ap (λ z. question seen asker z) same_query)
+
+pub refutal_seen : (policy seen : Policy) (asker : Request) (query seen_query : Query) → seen ≡ policy → seen_query ≡ query → (leaf : Leaf) (it : Refutal) →
+    IsRefutal seen asker.context asker.trace seen_query leaf it → IsRefutal policy asker.context asker.trace query leaf it
+refutal_seen policy seen asker query seen_query same same_query leaf it h =
+    subst (λ z. IsRefutal policy asker.context asker.trace z leaf it) same_query (subst (λ z. IsRefutal z asker.context asker.trace seen_query leaf it) same h)
 
 -- ---- how a search ends
-
-runs_of : {pick : Pick} {p : Problem} {taken : List Step} {slots : Slots} → Searches pick p taken slots → Runs p taken slots
-runs_of (Searches.start h) = Runs.start h
-runs_of (Searches.next before each picked takes) = Runs.next (runs_of before) takes
-
-pub left_of : (p : Problem) (budget : ℕ) (leaf : Leaf) → EndsSaturated First p budget leaf → IsLeft p leaf.branch
-left_of p budget leaf h = record { taken = leaf.steps; slots = h.slots; runs = runs_of h.searches; number = h.number; saturated = h.saturated }
 
 module _ (policy : Policy) (asker : Request) (budget : ℕ) (query : Query) (problem : Problem) (is : problem ≡ question policy asker query)
     (end : Settled) (ends : Ends First problem budget end) where
@@ -121,11 +110,14 @@ module _ (policy : Policy) (asker : Request) (budget : ℕ) (query : Query) (pro
   pub saturated_at : (leaf : Leaf) → end ≡ settled.Saturated leaf → EndsSaturated First (question policy asker query) budget leaf
   saturated_at leaf e = subst (Ends First (question policy asker query) budget) e ends_at
 
-  pub left_at : (leaf : Leaf) → end ≡ settled.Saturated leaf → IsLeft (question policy asker query) leaf.branch
-  left_at leaf e = left_of (question policy asker query) budget leaf (saturated_at leaf e)
+  pub leaf_at : (leaf : Leaf) → end ≡ settled.Saturated leaf → EndsAreLeaves → IsLeaf leaf
+  leaf_at leaf e law = law First (question policy asker query) budget leaf (saturated_at leaf e)
+
+  pub problem_at : (leaf : Leaf) → end ≡ settled.Saturated leaf → leaf.problem ≡ question policy asker query
+  problem_at leaf e = (saturated_at leaf e).problem_is
 
   pub proved_at : (proof : Proof) → end ≡ settled.Proved proof → ProblemIsQuestion → QuestionFits policy asker.context asker.trace query → StrongAll proof.problem →
-      judging.Searches policy asker budget query (Prove proof)
+      judging.IsSearched policy asker budget query (Prove proof)
   proved_at proof e law fits strong =
       let it : EndsProved First (question policy asker query) budget proof = subst (Ends First (question policy asker query) budget) e ends_at in
       (it, law policy asker.context asker.trace query fits.context (subst StrongAll it.problem_is strong))
@@ -150,12 +142,12 @@ module _ (law : MatchedIsStrong) (policy : Policy) (asker : Request) (budget : �
       let first : IsFirstToMatch policy asker query found id it = subst (IsServing policy asker query found) e serving in
       (first, served_strong law policy asker query found id it fits.context sound first)
 
-  pub judged_search : (judgement : Judgement) → served ≡ None → judging.Searches policy asker budget query judgement → Judges policy asker budget query found judgement
+  pub judged_search : (judgement : Judgement) → served ≡ None → judging.IsSearched policy asker budget query judgement → Judges policy asker budget query found judgement
   judged_search (Serve id it) e h = absurd h
   judged_search (Prove proof) e h = (subst (IsServing policy asker query found) e serving, h)
   judged_search (Deny reason) e h = (subst (IsServing policy asker query found) e serving, h)
 
-  pub judged_result : {E : Type 0} → served ≡ None → (r : Result Judgement E) → IfOk r (judging.Searches policy asker budget query) → IfOk r (Judges policy asker budget query found)
+  pub judged_result : {E : Type 0} → served ≡ None → (r : Result Judgement E) → IfOk r (judging.IsSearched policy asker budget query) → IfOk r (Judges policy asker budget query found)
   judged_result e (Ok judgement) h = judged_search judgement e h
   judged_result e (Err error) h = tt
 
@@ -178,7 +170,7 @@ records_fit law policy c d conforms context (it ∷ trace) queries answers =
     (records_fit law policy c d conforms context trace (All-tail (λ entry. IsQuery policy.schema (kinds_of policy.params) [] entry.query) it trace queries)
     (All-tail (λ entry. IsAnswer entry.query c d entry.rows) it trace answers))
 
-pub question_fits : AnswersAreRecords → (policy : Policy) (asker : Request) (query : Query) → IsChecked policy → IsAsker policy asker →
+pub question_fits : AnswersAreRecords → (policy : Policy) (asker : Request) (query : Query) → IsChecked policy → IsRequestOf policy asker →
     IsQuery policy.schema (kinds_of policy.params) [] query → QuestionFits policy asker.context asker.trace query
 question_fits law policy asker query checked is_asker asked = record {
   tables = checked.tables;
@@ -190,7 +182,7 @@ question_fits law policy asker query checked is_asker asked = record {
 }
 
 -- what is compliant, is released
-released : AnswerEverywhere → (policy : Policy) (asker : Request) (query : Query) (rows : List (List Value)) → IsAsker policy asker → IsCompliant policy asker query →
+released : AnswerEverywhere → (policy : Policy) (asker : Request) (query : Query) (rows : List (List Value)) → IsRequestOf policy asker → IsCompliant policy asker query →
     IsAnswer query asker.context asker.tables.rows rows → IsReleased policy asker query rows
 released law policy asker query rows is_asker strong answer = record {
   answer = answer;
@@ -209,7 +201,7 @@ covered_strong policy asker query fits seen_policy seen_query same_policy same_q
     here.after fits.policy_fits fits.context asker.trace
 
 module _ (policy : Policy) (asker : Request) (budget : ℕ) (query : Query) where
-  module _ (law : AnswerEverywhere) (is_asker : IsAsker policy asker) (strong : IsCompliant policy asker query) where
+  module _ (law : AnswerEverywhere) (is_asker : IsRequestOf policy asker) (strong : IsCompliant policy asker query) where
     -- the rows of what was told
     told_released : (other : Query) (rows : List (List Value)) → IsTold asker query other rows → IsReleased policy asker query rows
     told_released other rows told = released law policy asker query rows is_asker strong told.answer
@@ -268,7 +260,7 @@ module _ (policy : Policy) (asker : Request) (budget : ℕ) (query : Query) wher
       decides_proved proof none ends calls NoMemory h = h
 
   -- an answer by a proof
-  pub decides_answer : AnswerEverywhere → IsAsker policy asker → (found : List Kept) (proof : Proof) (reply : Reply) (old new : Passes) → Judges policy asker budget query found (Prove proof) →
+  pub decides_answer : AnswerEverywhere → IsRequestOf policy asker → (found : List Kept) (proof : Proof) (reply : Reply) (old new : Passes) → Judges policy asker budget query found (Prove proof) →
       ((calls : List ShelfCall) × AnswersByProof asker query proof calls reply × Makes (on_shelf query calls) old new) →
       (calls : List ShelfCall) × Decides policy asker budget query found calls reply × Makes (on_shelf query calls) old new
   decides_answer law is_asker found proof reply old new (none, (ends, strong)) (calls, answers, made) =
@@ -368,12 +360,12 @@ refused_same failure reply asker is = λ i. record asker { trace = sym (ap (λ z
 
 -- ---- the request after a reply
 
-module _ (policy : Policy) (old : Request) (is : IsAsker policy old) where
+module _ (policy : Policy) (old : Request) (is : IsRequestOf policy old) where
   abbrev HasQuery : TraceEntry → Type 0
   HasQuery entry = IsQuery policy.schema (kinds_of policy.params) [] entry.query
 
   asks_more : (more : List TraceEntry) → All HasQuery more → All (λ entry. IsAnswer entry.query old.context old.tables.rows entry.rows) more →
-      IsAsker policy (record old { trace = old.trace ++ more })
+      IsRequestOf policy (record old { trace = old.trace ++ more })
   asks_more more queries answers = record {
     context = is.context;
     schema = is.schema;
@@ -382,11 +374,11 @@ module _ (policy : Policy) (old : Request) (is : IsAsker policy old) where
     recorded = record { entries = All-append (λ entry. IsAnswer entry.query old.context old.tables.rows entry.rows) old.trace more is.recorded.entries answers };
   }
 
-  pub asks_same : IsAsker policy (record old { trace = old.trace ++ [] })
+  pub asks_same : IsRequestOf policy (record old { trace = old.trace ++ [] })
   asks_same = asks_more [] (All-nil HasQuery) (All-nil (λ entry. IsAnswer entry.query old.context old.tables.rows entry.rows))
 
   asks_on : (budget : ℕ) (query : Query) (made : ShelfCalls) (reply : Reply) → IsQuery policy.schema (kinds_of policy.params) [] query → Says policy old budget query made reply →
-      IsAsker policy (record old { trace = old.trace ++ answer_in reply })
+      IsRequestOf policy (record old { trace = old.trace ++ answer_in reply })
   asks_on budget query made (Answer other rows ground) asked (same, is_ground, is_released) =
       let entry : TraceEntry = record { query = other; rows = rows } in
       asks_more (entry ∷ [])
@@ -399,8 +391,8 @@ module _ (policy : Policy) (old : Request) (is : IsAsker policy old) where
   asks_on budget query made NoMemory asked h = asks_same
 
   pub asks_after : (budget : ℕ) (query : Query) (reply : Reply) (old_passes new_passes : Passes) (new : Request) → IsQuery policy.schema (kinds_of policy.params) [] query →
-      ((made : ShelfCalls) × Says policy old budget query made reply × Makes made old_passes new_passes) → new ≡ record old { trace = old.trace ++ answer_in reply } → IsAsker policy new
-  asks_after budget query reply old_passes new_passes new asked (made, says, makes) same = subst (IsAsker policy) (sym same) (asks_on budget query made reply asked says)
+      ((made : ShelfCalls) × Says policy old budget query made reply × Makes made old_passes new_passes) → new ≡ record old { trace = old.trace ++ answer_in reply } → IsRequestOf policy new
+  asks_after budget query reply old_passes new_passes new asked (made, says, makes) same = subst (IsRequestOf policy) (sym same) (asks_on budget query made reply asked says)
 
 -- ---- templates, one by one
 

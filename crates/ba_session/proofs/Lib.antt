@@ -1,4 +1,3 @@
-mod GivenLemmas
 mod JudgeLemmas
 mod KeepLemmas
 pub mod PassLemmas

@@ -69,15 +69,17 @@ begun (Err _) = version.Refused
 
 -- ---- answers
 
--- The user can't tell the database from the request's tables: it meets the schema, gives every view the same rows, and each
--- earlier answered query its printed rows.
+-- The user can't tell the database from the request's tables: it meets the schema, gives every view
+-- the same rows, and each earlier answered query its printed rows.
 pub record LooksAlike (policy : Policy) (asker : Request) (d : RowSet) : Type 0 where
   pub conforms : Conforms policy.schema d
   pub agrees : Agree policy asker.context asker.tables.rows d
   pub records : Records asker.trace asker.context d
 
--- The rows are the query's answer in the request's tables, and in every database that the user can't tell from them.
-pub record IsReleased (policy : Policy) (asker : Request) (query : Query) (rows : List (List Value)) : Type 0 where
+-- The rows are the query's answer in the request's tables, and in every database that the user
+-- can't tell from them.
+pub record IsReleased (policy : Policy) (asker : Request) (query : Query) (rows : List (List Value))
+    : Type 0 where
   pub answer : IsAnswer query asker.context asker.tables.rows rows
   pub everywhere : (d : RowSet) → LooksAlike policy asker d → IsAnswer query asker.context d rows
 
@@ -92,18 +94,22 @@ Uncovered policy asker query = Covered policy asker.context query → ⊥
 
 -- the call that looks at the question's shape and finds these
 abbrev pub look_at : Query → List Kept → ShelfCall
-look_at query found = Look (record { marker = record {}; value = shape_of [] query }) (record { marker = record {}; value = found })
+look_at query found =
+    Look (record { marker = record {}; value = shape_of [] query })
+    (record { marker = record {}; value = found })
 
 -- the template doesn't match the question
 abbrev pub IsNoMatch : Policy → Request → Query → Kept → Type 0
-IsNoMatch policy asker query it = ¬ (Matches it.template.problem policy asker.context asker.trace query)
+IsNoMatch policy asker query it =
+    ¬ (Matches it.template.problem policy asker.context asker.trace query)
 
 -- none of the templates matches the question
 abbrev pub NoneMatches : Policy → Request → Query → List Kept → Type 0
 NoneMatches policy asker query found = All (IsNoMatch policy asker query) found
 
 -- the template with this number is the first that matches the question, and this is its first match
-pub record IsFirstToMatch (policy : Policy) (asker : Request) (query : Query) (found : List Kept) (id : ℕ) (it : Match) : Type 0 where
+pub record IsFirstToMatch (policy : Policy) (asker : Request) (query : Query) (found : List Kept)
+    (id : ℕ) (it : Match) : Type 0 where
   pub before : List Kept
   pub template : kernel.Proof
   pub after : List Kept
@@ -116,53 +122,68 @@ pub record IsFirstToMatch (policy : Policy) (asker : Request) (query : Query) (f
 -- the steps are due ones, within the budget, and close the question's problem
 abbrev pub IsProof : Policy → Request → ℕ → Query → List Step → Type 0
 IsProof policy asker budget query steps =
-    EndsProved First (question policy asker query) budget (record { problem = question policy asker query; steps = steps })
+    EndsProved First (question policy asker query) budget
+    (record { problem = question policy asker query; steps = steps })
 
--- What becomes of a proof's template, and the calls on the shelf that this takes: it is admitted, with the shelf's answer; the proof is too wide for one; or there is
--- no memory for it, which the shelf may have told.
+-- What becomes of a proof's template, and the calls on the shelf that this takes: it is admitted,
+-- with the shelf's answer; the proof is too wide for one; or there is no memory for it, which the
+-- shelf may have told.
 abbrev pub IsKept : kernel.Proof → Keeping → List ShelfCall → Type 0
 IsKept proof (keeping.Stored answer) calls =
-    (template : kernel.Proof) × IsGeneralised proof template × (calls ≡ Admit (record { marker = record {}; value = template }) answer ∷ [])
+    (template : kernel.Proof) × IsGeneralised proof template ×
+    (calls ≡ Admit (record { marker = record {}; value = template }) answer ∷ [])
 IsKept proof keeping.Wide calls = IsTooWide proof × (calls ≡ [])
 IsKept proof keeping.NoMemory calls = (calls ≡ []) ⊎ (calls ≡ Refused ∷ [])
 
 -- ---- grounds
 
 -- It is the first of the templates found for the question's shape that matches it.
-pub record IsServed (policy : Policy) (asker : Request) (query : Query) (shard id : ℕ) (it : Match) (made : ShelfCalls) : Type 0 where
+pub record IsServed (policy : Policy) (asker : Request) (query : Query) (shard id : ℕ) (it : Match)
+    (made : ShelfCalls) : Type 0 where
   pub uncovered : Uncovered policy asker query
   pub found : List Kept
   pub first : IsFirstToMatch policy asker query found id it
   pub shard_is : shard ≡ shard_of (shape_of [] query)
   pub made_is : made ≡ on_shelf query (look_at query found ∷ [])
 
--- None of the templates found for the question's shape matches it, the steps prove it, and its template is kept, or not.
-pub record IsProved (policy : Policy) (asker : Request) (budget : ℕ) (query : Query) (steps : List Step) (keeping : Keeping) (made : ShelfCalls) : Type 0 where
+-- None of the templates found for the question's shape matches it, the steps prove it, and its
+-- template is kept, or not.
+pub record IsProved (policy : Policy) (asker : Request) (budget : ℕ) (query : Query)
+    (steps : List Step) (keeping : Keeping) (made : ShelfCalls) : Type 0 where
   pub uncovered : Uncovered policy asker query
   pub found : List Kept
   pub none : NoneMatches policy asker query found
   pub proof : IsProof policy asker budget query steps
   pub rest : List ShelfCall
-  pub kept_is : IsKept (record { problem = question policy asker query; steps = steps }) keeping rest
+  pub kept_is :
+      IsKept (record { problem = question policy asker query; steps = steps }) keeping rest
   pub made_is : made ≡ on_shelf query (look_at query found ∷ rest)
 
--- why the question is answered, and the calls on shelves that this takes: a cover, which takes none, or, where there is none, a template or a proof
+-- why the question is answered, and the calls on shelves that this takes: a cover, which takes
+-- none, or, where there is none, a template or a proof
 abbrev pub IsGround : Policy → Request → ℕ → Query → By → ShelfCalls → Type 0
-IsGround policy asker budget query (Cover cover) made = IsCover policy asker.context query cover × (made.calls ≡ [])
-IsGround policy asker budget query (Template shard id it) made = IsServed policy asker query shard id it made
-IsGround policy asker budget query (Proof steps keeping) made = IsProved policy asker budget query steps keeping made
+IsGround policy asker budget query (Cover cover) made =
+    IsCover policy asker.context query cover × (made.calls ≡ [])
+IsGround policy asker budget query (Template shard id it) made =
+    IsServed policy asker query shard id it made
+IsGround policy asker budget query (Proof steps keeping) made =
+    IsProved policy asker budget query steps keeping made
 
 -- ---- blocks
 
--- the due steps, within the budget, end at a saturated branch, and the pair is its image, which is a counterexample
-pub record IsRefuted (policy : Policy) (asker : Request) (budget : ℕ) (query : Query) (pair : Counterexample) : Type 0 where
+-- the due steps, within the budget, end at a saturated branch, and the pair is its image, which is
+-- a counterexample
+pub record IsRefuted (policy : Policy) (asker : Request) (budget : ℕ) (query : Query)
+    (pair : Counterexample) : Type 0 where
   pub leaf : Leaf
   pub saturated : EndsSaturated First (question policy asker query) budget leaf
   pub image_is : IsImage (question policy asker query) asker.context leaf.branch pair
   pub refutes : IsCounterexample policy asker.context asker.trace query pair
 
--- the due steps, within the budget, end at a saturated branch, and this is the first clause that its image doesn't meet
-pub record IsStuck (policy : Policy) (asker : Request) (budget : ℕ) (query : Query) (leaf : Leaf) (clause : Clause) : Type 0 where
+-- the due steps, within the budget, end at a saturated branch, and this is the first clause that
+-- its image doesn't meet
+pub record IsStuck (policy : Policy) (asker : Request) (budget : ℕ) (query : Query) (leaf : Leaf)
+    (clause : Clause) : Type 0 where
   pub saturated : EndsSaturated First (question policy asker query) budget leaf
   pub image : Counterexample
   pub image_is : IsImage (question policy asker query) asker.context leaf.branch image
@@ -171,11 +192,15 @@ pub record IsStuck (policy : Policy) (asker : Request) (budget : ℕ) (query : Q
 -- why the question is blocked
 abbrev pub IsReason : Policy → Request → ℕ → Query → Why → Type 0
 IsReason policy asker budget query (Refuted pair) = IsRefuted policy asker budget query pair
-IsReason policy asker budget query (Spent steps) = EndsSpent First (question policy asker query) budget steps
-IsReason policy asker budget query (Stuck leaf clause) = IsStuck policy asker budget query leaf clause
+IsReason policy asker budget query (Spent steps) =
+    EndsSpent First (question policy asker query) budget steps
+IsReason policy asker budget query (Stuck leaf clause) =
+    IsStuck policy asker budget query leaf clause
 
--- The question isn't covered, none of the templates found for its shape matches it, and it is blocked for this reason.
-pub record IsDenied (policy : Policy) (asker : Request) (budget : ℕ) (query : Query) (why : Why) (made : ShelfCalls) : Type 0 where
+-- The question isn't covered, none of the templates found for its shape matches it, and it is
+-- blocked for this reason.
+pub record IsDenied (policy : Policy) (asker : Request) (budget : ℕ) (query : Query) (why : Why)
+    (made : ShelfCalls) : Type 0 where
   pub uncovered : Uncovered policy asker query
   pub found : List Kept
   pub none : NoneMatches policy asker query found
@@ -193,22 +218,26 @@ abbrev pub HasFault : Policy → List ℕ → ReadQueryFault → Type 0
 HasFault policy text fault = query_of policy.schema policy.params text ≡ Err fault
 
 -- the text's query is answered by these rows, for this reason
-pub record IsAnswered (policy : Policy) (asker : Request) (budget : ℕ) (text : List ℕ) (query : Query) (rows : List (List Value)) (by : By) (made : ShelfCalls) : Type 0 where
+pub record IsAnswered (policy : Policy) (asker : Request) (budget : ℕ) (text : List ℕ)
+    (query : Query) (rows : List (List Value)) (by : By) (made : ShelfCalls) : Type 0 where
   pub reads : Reads policy text query
   pub ground : IsGround policy asker budget query by made
   pub released : IsReleased policy asker query rows
 
 -- the text's query is blocked for this reason
-pub record IsBlocked (policy : Policy) (asker : Request) (budget : ℕ) (text : List ℕ) (query : Query) (why : Why) (made : ShelfCalls) : Type 0 where
+pub record IsBlocked (policy : Policy) (asker : Request) (budget : ℕ) (text : List ℕ)
+    (query : Query) (why : Why) (made : ShelfCalls) : Type 0 where
   pub reads : Reads policy text query
   pub denied : IsDenied policy asker budget query why made
 
 -- a look at the question's shape was refused, or found these
 abbrev pub IsLook : Query → List ShelfCall → Type 0
-IsLook query calls = (calls ≡ Refused ∷ []) ⊎ ((found : List Kept) × (calls ≡ look_at query found ∷ []))
+IsLook query calls =
+    (calls ≡ Refused ∷ []) ⊎ ((found : List Kept) × (calls ≡ look_at query found ∷ []))
 
 -- memory ran out behind one look at the question's shape, which isn't covered
-pub record HasLooked (policy : Policy) (asker : Request) (query : Query) (made : ShelfCalls) : Type 0 where
+pub record HasLooked (policy : Policy) (asker : Request) (query : Query) (made : ShelfCalls)
+    : Type 0 where
   pub uncovered : Uncovered policy asker query
   pub calls : List ShelfCall
   pub look : IsLook query calls
@@ -216,13 +245,19 @@ pub record HasLooked (policy : Policy) (asker : Request) (query : Query) (made :
 
 -- where memory ran out: before any call, or behind a look
 abbrev pub IsInterrupted : Policy → Request → List ℕ → ShelfCalls → Type 0
-IsInterrupted policy asker text made = (made.calls ≡ []) ⊎ ((query : Query) × Reads policy text query × HasLooked policy asker query made)
+IsInterrupted policy asker text made =
+    (made.calls ≡ []) ⊎
+    ((query : Query) × Reads policy text query × HasLooked policy asker query made)
 
--- A question's reply, as the request stands, and the calls on shelves that this takes. Want of memory may stand in place of any other reply.
+-- A question's reply, as the request stands, and the calls on shelves that this takes. Want of
+-- memory may stand in place of any other reply.
 abbrev pub Replies : Policy → Request → ℕ → List ℕ → ShelfCalls → Reply → Type 0
-Replies policy asker budget text made (Answer query rows by) = IsAnswered policy asker budget text query rows by made
-Replies policy asker budget text made (Blocked query why) = IsBlocked policy asker budget text query why made
-Replies policy asker budget text made (Unread fault) = HasFault policy text fault × (made.calls ≡ [])
+Replies policy asker budget text made (Answer query rows by) =
+    IsAnswered policy asker budget text query rows by made
+Replies policy asker budget text made (Blocked query why) =
+    IsBlocked policy asker budget text query why made
+Replies policy asker budget text made (Unread fault) =
+    HasFault policy text fault × (made.calls ≡ [])
 Replies policy asker budget text made NoMemory = IsInterrupted policy asker text made
 
 -- what the reply adds to the trace
@@ -232,11 +267,12 @@ answer_in (Blocked query why) = []
 answer_in (Unread fault) = []
 answer_in NoMemory = []
 
--- The request's context is one for the policy, its tables are of the policy's schema and conform to it, its queries were checked, and their answers in the tables are
--- recorded.
-pub record IsAsker (policy : Policy) (asker : Request) : Type 0 where
+-- The request's context is one for the policy, its tables are of the policy's schema and conform to
+-- it, its queries were checked, and their answers in the tables are recorded.
+pub record IsRequestOf (policy : Policy) (asker : Request) : Type 0 where
   pub context : ContextFits (kinds_of policy.params) asker.context
   pub schema : asker.tables.schema ≡ policy.schema
   pub conforms : Conforms policy.schema asker.tables.rows
-  pub queries : All (λ entry. IsQuery policy.schema (kinds_of policy.params) [] entry.query) asker.trace
+  pub queries : All (λ entry. IsQuery policy.schema (kinds_of policy.params) [] entry.query)
+      asker.trace
   pub recorded : Records asker.trace asker.context asker.tables.rows

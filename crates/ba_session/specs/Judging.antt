@@ -4,13 +4,9 @@ use Rattle.ba_cache.specs.declared.call.Kept.{Kept}
 use Rattle.ba_cache.specs.declared.call.ShelfCall.{ShelfCall}
 use Rattle.ba_cache.specs.declared.call.ShelfCall.TheVariants.{Admit, Refused}
 use Rattle.ba_comply.specs.Comply.{Strong}
-use Rattle.ba_facts.specs.declared.branch.Branch.{Branch}
-use Rattle.ba_instant.specs.Dues.{EndsProved, IsSaturated}
+use Rattle.ba_instant.specs.Dues.{EndsProved}
 use Rattle.ba_instant.specs.declared.order.Pick.TheVariants.{First}
-use Rattle.ba_kernel.specs.Courses.{Runs, Slots}
 use Rattle.ba_kernel.specs.Tests as kernel
-use Rattle.ba_kernel.specs.declared.problem.Problem.{Problem}
-use Rattle.ba_kernel.specs.declared.step.Step.{Step}
 use Rattle.ba_model.specs.Meaning.{IsAnswer}
 use Rattle.ba_model.specs.declared.failure.Failure.{Failure}
 use Rattle.ba_model.specs.declared.failure.Failure.TheVariants as failures
@@ -32,14 +28,6 @@ use Rattle.ba_sql_query.specs.declared.fault.ReadQueryFault.{ReadQueryFault}
 use Rattle.ba_template.specs.Shapes.{shape_of, shard_of}
 use Rattle.ba_template.specs.declared.found.Match.{Match}
 
--- some steps from the problem's start leave the branch, which is saturated
-pub record IsLeft (p : Problem) (branch : Branch) : Type 0 where
-  pub taken : List Step
-  pub slots : Slots
-  pub runs : Runs p taken slots
-  pub number : ℕ
-  pub saturated : IsSaturated p slots number branch
-
 -- ---- judgements
 
 -- the first template that matches, with its first match, or that none does
@@ -51,16 +39,20 @@ abbrev pub IsCompliant : Policy → Request → Query → Type 0
 IsCompliant policy asker query = Strong policy asker.context asker.trace query
 
 -- what a search finds of the query
-abbrev pub Searches : Policy → Request → ℕ → Query → Judgement → Type 0
-Searches policy asker budget query (Serve id it) = ⊥
-Searches policy asker budget query (Prove proof) = EndsProved First (question policy asker query) budget proof × IsCompliant policy asker query
-Searches policy asker budget query (Deny why) = IsReason policy asker budget query why
+abbrev pub IsSearched : Policy → Request → ℕ → Query → Judgement → Type 0
+IsSearched policy asker budget query (Serve id it) = ⊥
+IsSearched policy asker budget query (Prove proof) =
+    EndsProved First (question policy asker query) budget proof × IsCompliant policy asker query
+IsSearched policy asker budget query (Deny why) = IsReason policy asker budget query why
 
 -- the judgement of the query after these templates were found for its shape
 abbrev pub Judges : Policy → Request → ℕ → Query → List Kept → Judgement → Type 0
-Judges policy asker budget query found (Serve id it) = IsFirstToMatch policy asker query found id it × IsCompliant policy asker query
-Judges policy asker budget query found (Prove proof) = NoneMatches policy asker query found × Searches policy asker budget query (Prove proof)
-Judges policy asker budget query found (Deny why) = NoneMatches policy asker query found × Searches policy asker budget query (Deny why)
+Judges policy asker budget query found (Serve id it) =
+    IsFirstToMatch policy asker query found id it × IsCompliant policy asker query
+Judges policy asker budget query found (Prove proof) =
+    NoneMatches policy asker query found × IsSearched policy asker budget query (Prove proof)
+Judges policy asker budget query found (Deny why) =
+    NoneMatches policy asker query found × IsSearched policy asker budget query (Deny why)
 
 -- ---- replies, and what was done for them
 
@@ -69,9 +61,11 @@ abbrev pub refusal_of : Failure ReadQueryFault → Reply
 refusal_of failures.NoMemory = NoMemory
 refusal_of (failures.Fault fault) = Unread fault
 
--- the template is admitted by this call, with its answer; or there is no memory for it, which the shelf may have told
+-- the template is admitted by this call, with its answer; or there is no memory for it, which the
+-- shelf may have told
 abbrev pub IsAdmitted : kernel.Proof → Keeping → List ShelfCall → Type 0
-IsAdmitted template (keeping.Stored answer) calls = calls ≡ Admit (record { marker = record {}; value = template }) answer ∷ []
+IsAdmitted template (keeping.Stored answer) calls =
+    calls ≡ Admit (record { marker = record {}; value = template }) answer ∷ []
 IsAdmitted template keeping.Wide calls = ⊥
 IsAdmitted template keeping.NoMemory calls = (calls ≡ []) ⊎ (calls ≡ Refused ∷ [])
 
@@ -93,34 +87,44 @@ IsByProof proof calls (by.Cover cover) = ⊥
 IsByProof proof calls (by.Template shard id it) = ⊥
 IsByProof proof calls (by.Proof steps keeping) = (steps ≡ proof.steps) × IsKept proof keeping calls
 
--- the query's answer by this proof, whose template is kept by these calls, or not; or want of memory, without a call
+-- the query's answer by this proof, whose template is kept by these calls, or not; or want of
+-- memory, without a call
 abbrev pub AnswersByProof : Request → Query → kernel.Proof → List ShelfCall → Reply → Type 0
-AnswersByProof asker query proof calls (Answer other rows basis) = IsTold asker query other rows × IsByProof proof calls basis
+AnswersByProof asker query proof calls (Answer other rows basis) =
+    IsTold asker query other rows × IsByProof proof calls basis
 AnswersByProof asker query proof calls (Blocked other why) = ⊥
 AnswersByProof asker query proof calls (Unread fault) = ⊥
 AnswersByProof asker query proof calls NoMemory = calls ≡ []
 
--- why the query is answered after these templates were found for its shape, and the further calls that this takes
+-- why the query is answered after these templates were found for its shape, and the further calls
+-- that this takes
 abbrev pub IsGroundAfter : Policy → Request → ℕ → Query → List Kept → By → List ShelfCall → Type 0
 IsGroundAfter policy asker budget query found (by.Cover cover) calls = ⊥
 IsGroundAfter policy asker budget query found (by.Template shard id it) calls =
-    IsFirstToMatch policy asker query found id it × (shard ≡ shard_of (shape_of [] query)) × (calls ≡ [])
+    IsFirstToMatch policy asker query found id it × (shard ≡ shard_of (shape_of [] query)) ×
+    (calls ≡ [])
 IsGroundAfter policy asker budget query found (by.Proof steps keeping) calls =
-    NoneMatches policy asker query found × IsProof policy asker budget query steps × IsKept (record { problem = question policy asker query; steps = steps }) keeping calls
+    NoneMatches policy asker query found × IsProof policy asker budget query steps ×
+    IsKept (record { problem = question policy asker query; steps = steps }) keeping calls
 
--- the reply to the query after these templates were found for its shape, and the further calls that this takes
+-- the reply to the query after these templates were found for its shape, and the further calls that
+-- this takes
 abbrev pub Decides : Policy → Request → ℕ → Query → List Kept → List ShelfCall → Reply → Type 0
 Decides policy asker budget query found calls (Answer other rows basis) =
-    (other ≡ query) × IsGroundAfter policy asker budget query found basis calls × IsReleased policy asker query rows
+    (other ≡ query) × IsGroundAfter policy asker budget query found basis calls ×
+    IsReleased policy asker query rows
 Decides policy asker budget query found calls (Blocked other why) =
-    (other ≡ query) × NoneMatches policy asker query found × IsReason policy asker budget query why × (calls ≡ [])
+    (other ≡ query) × NoneMatches policy asker query found ×
+    IsReason policy asker budget query why × (calls ≡ [])
 Decides policy asker budget query found calls (Unread fault) = ⊥
 Decides policy asker budget query found calls NoMemory = calls ≡ []
 
 -- the reply to the query, and the calls on shelves that this takes
 abbrev pub Says : Policy → Request → ℕ → Query → ShelfCalls → Reply → Type 0
 Says policy asker budget query made (Answer other rows basis) =
-    (other ≡ query) × IsGround policy asker budget query basis made × IsReleased policy asker query rows
-Says policy asker budget query made (Blocked other why) = (other ≡ query) × IsDenied policy asker budget query why made
+    (other ≡ query) × IsGround policy asker budget query basis made ×
+    IsReleased policy asker query rows
+Says policy asker budget query made (Blocked other why) =
+    (other ≡ query) × IsDenied policy asker budget query why made
 Says policy asker budget query made (Unread fault) = ⊥
 Says policy asker budget query made NoMemory = (made.calls ≡ []) ⊎ HasLooked policy asker query made

@@ -36,7 +36,8 @@ pub record HasRoom (calls : ℕ) (p : Passes) : Type 0 where
 
 -- ---- calls
 
--- The calls take what a pass knows from v to w: it has seen what it had seen and more, and of its number there are just these calls more.
+-- The calls take what a pass knows from v to w: it has seen what it had seen and more, and of its
+-- number there are just these calls more.
 pub record MakesCalls {S E : Type 0} (v w : Known S E) (calls : List E) : Type 0 where
   pub seen : IsPrefix v.seen w.seen
   pub made : w.made ≡ v.made ++ calls
@@ -67,7 +68,8 @@ LeavesVersions old new = known_by new.versions ≡ known_by old.versions
 -- these calls and no others take what the passes know from old to new
 pub record Makes (made : ShelfCalls) (old new : Passes) : Type 0 where
   pub versions : LeavesVersions old new
-  pub shelves : (k : ℕ) → k < shard_count → MakesCalls (known_on old.cache k) (known_on new.cache k) (calls_on k made)
+  pub shelves : (k : ℕ) → k < shard_count →
+      MakesCalls (known_on old.cache k) (known_on new.cache k) (calls_on k made)
 
 -- no call is made on a shelf
 pub record LeavesShelves (old new : Passes) : Type 0 where
@@ -104,7 +106,8 @@ pub record AreOpening (p : Passes) : Type 0 where
 
 -- of the old passes once the others were joined into them
 pub record AreJoined (old other new : Passes) : Type 0 where
-  pub versions : known_by new.versions ≡ after_join (known_by old.versions) (known_by other.versions)
+  pub versions : known_by new.versions ≡
+      after_join (known_by old.versions) (known_by other.versions)
   pub sums : SumsToAllowance (known_by new.versions)
   pub shelves : cache.AreJoined old.cache other.cache new.cache
 
@@ -112,17 +115,22 @@ pub record AreJoined (old other new : Passes) : Type 0 where
 
 -- all calls were made, or what is left of the allowances has come back
 pub record AreWhole (service : Service) (p : Passes) : Type 0 where
-  pub versions : (known_by p.versions).left + length (known_by p.versions).seen ≡ allowance_of service.versions
+  pub versions : (known_by p.versions).left + length (known_by p.versions).seen ≡
+      allowance_of service.versions
   pub shelves : cache.OnEach cache.IsWhole p.cache
 
--- What becomes of a history whose last pass knew this, begun at the opening tables: it is legal, has the calls of the numbers that were joined into this pass, and
--- all calls where these are all that were split off.
+-- What becomes of a history whose last pass knew this, begun at the opening tables: it is legal,
+-- has the calls of the numbers that were joined into this pass, and all calls where these are all
+-- that were split off.
 pub record AreClosed (service : Service) (p : Passes) (closed : Closed) : Type 0 where
-  pub opening : versions.opening_of closed.versions ≡ versions.opening_of (start_of service.versions)
+  pub opening : versions.opening_of closed.versions ≡
+      versions.opening_of (start_of service.versions)
   pub history : versions.calls_of closed.versions ≡ map entry_of (known_by p.versions).seen
   pub numbers : closed.numbers.items ≡ map number_of (known_by p.versions).seen
-  pub legal : ∥ Legal (versions.opening_of closed.versions) (versions.calls_of closed.versions) (versions.versions_of closed.versions) ∥₁
-  pub own : calls_by (known_by p.versions).number (known_by p.versions).seen ≡ (known_by p.versions).made
+  pub legal : ∥ Legal (versions.opening_of closed.versions) (versions.calls_of closed.versions)
+      (versions.versions_of closed.versions) ∥₁
+  pub own : calls_by (known_by p.versions).number (known_by p.versions).seen ≡
+      (known_by p.versions).made
   pub joined : HasCalls (known_by p.versions).seen (known_by p.versions).joined
   pub distinct : AreDistinct (numbers_of (known_by p.versions))
   pub whole : HasAllCalls (known_by p.versions)

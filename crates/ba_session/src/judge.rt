@@ -1,24 +1,23 @@
 //! Whether a request's query may be answered, where no views cover it.
-ghost use Rattle.std.specs.Prelude.{◌≤◌, ℕ, All, IfOk};
+ghost use Rattle.std.specs.Prelude.{◌≡◌, ◌≤◌, ℕ, All, IfOk};
 ghost use Rattle.ba_cache.specs.Rows.{IsSound};
-ghost use Rattle.ba_instant.specs.Dues.{EndsSaturated};
+ghost use Rattle.ba_instant.specs.Dues.{EndsSaturated, IsLeaf};
 ghost use Rattle.ba_instant.specs.declared.order.Pick.TheVariants.{First};
 ghost use Rattle.ba_kernel.specs.Asked.{QuestionFits};
 ghost use Rattle.ba_model.specs.Limits.{most_budget};
-ghost use Rattle.ba_refute.specs.Images.{TellsTried};
 ghost use Rattle.ba_session.specs.Asking.{IsReason, question};
-ghost use Rattle.ba_session.specs.Judging.{IsLeft, IsServing, Judges, Searches};
+ghost use Rattle.ba_session.specs.Judging.{IsSearched, IsServing, Judges};
 
 use crate::reply::Why;
 use crate::request::Request;
 use ba_cache::Kept;
-use ba_facts::Branch;
+use ba_instant::laws::ends_are_leaves;
 use ba_instant::{Leaf, Settled, settle};
-use ba_kernel::laws::{problem_is_question, question_is_problem, runs_are_tidy};
+use ba_kernel::laws::problem_is_question;
 use ba_kernel::{Problem, Proved};
 use ba_match::match_template;
 use ba_model::{Policy, Query, Shared};
-use ba_refute::{Tried, try_branch};
+use ba_refute::{Question, Refutal, try_pair};
 use ba_template::Match;
 use ba_template::laws::matched_is_strong;
 use std::alloc::{AllocError, Global};
@@ -33,8 +32,8 @@ pub(crate) enum Judgement {
 }
 
 impl Request {
-    /// Whether the query may be answered: by the first of the templates that matches it, or else by a
-    /// proof.
+    /// Whether the query may be answered: by the first of the templates that matches it, or else by
+    /// a proof.
     pub(crate) fn judge(
         &self,
         alloc: Global,
@@ -92,9 +91,10 @@ impl Request {
     ) -> Result<Judgement, AllocError>
         requires fits { QuestionFits policy.now self.now.context self.now.trace query.now }
         requires limit { budget ≤ most_budget }
-        ensures { IfOk result (Searches policy.now self.now budget query.now) }
+        ensures { IfOk result (IsSearched policy.now self.now budget query.now) }
     {
         problem_is_question();
+        ends_are_leaves();
         let problem = Problem::of(alloc, policy, &self.context, &self.trace, query)?;
         let settled = settle(alloc, problem, budget)?;
         match settled {
@@ -110,7 +110,7 @@ impl Request {
         }
     }
 
-    /// What the leaf's branch shows: a counterexample, or that the search is stuck there.
+    /// What the leaf shows: a counterexample, or that the search is stuck there.
     fn reason_of(
         &self,
         alloc: Global,
@@ -119,42 +119,22 @@ impl Request {
         leaf: Leaf,
     ) -> Result<Why, AllocError>
         requires fits { QuestionFits policy.now self.now.context self.now.trace query.now }
-        requires left { IsLeft (question policy.now self.now query.now) leaf.branch }
+        requires problem { leaf.problem ≡ question policy.now self.now query.now }
+        requires leaf { IsLeaf leaf }
         ensures { IfOk result (λ why. (budget : ℕ)
             → EndsSaturated First (question policy.now self.now query.now) budget leaf
             → IsReason policy.now self.now budget query.now why) }
     {
-        let tried = self.try_image(alloc, policy, query, &leaf.branch)?;
-        match tried {
-            Tried::Pair(pair) => Ok(Why::Refuted(pair)),
-            Tried::Stuck(clause) => Ok(Why::Stuck(leaf, clause)),
-        }
-    }
-
-    /// What the image of the saturated branch is.
-    fn try_image(
-        &self,
-        alloc: Global,
-        policy: &Shared<Policy>,
-        query: &Shared<Query>,
-        branch: &Branch,
-    ) -> Result<Tried, AllocError>
-        requires fits { QuestionFits policy.now self.now.context self.now.trace query.now }
-        requires left { IsLeft (question policy.now self.now query.now) branch.now }
-        ensures { IfOk result (TellsTried policy.now self.now.context self.now.trace query.now
-            (question policy.now self.now query.now) branch.now) }
-    {
-        runs_are_tidy();
-        question_is_problem();
-        let problem = Problem::of(alloc, policy, &self.context, &self.trace, query)?;
-        try_branch(
-            alloc,
+        let asked = Question {
             policy,
-            &self.context,
-            &self.trace,
+            context: &self.context,
+            trace: &self.trace,
             query,
-            &problem,
-            branch,
-        )
+        };
+        let refutal = try_pair(alloc, &asked, leaf)?;
+        match refutal {
+            Refutal::Pair(pair) => Ok(Why::Refuted(pair)),
+            Refutal::Stuck(leaf, clause) => Ok(Why::Stuck(leaf, clause)),
+        }
     }
 }

@@ -30,8 +30,7 @@ pub(crate) fn keep<R: Wait>(
     requires of { AreOf service.now passes.old }
     requires room { HasRoom 1 passes.old }
     ensures of { AreOf service.now passes.new }
-    ensures kept { (calls : List ShelfCall)
-        × IsKept proved.now result calls
+    ensures kept { (calls : List ShelfCall) × IsKept proved.now result calls
         × Makes (on_shelf proved.now.problem.goal calls) passes.old passes.new }
 {
     instance_has_shape();
@@ -53,9 +52,9 @@ fn admit<R: Wait>(
     requires of { AreOf service.now passes.old }
     requires room { HasRoom 1 passes.old }
     ensures of { AreOf service.now passes.new }
-    ensures admits { (calls : List ShelfCall)
-        × IsAdmitted template result calls
-        × Makes (record { shard = shard_of (shape_of_template template); calls = calls }) passes.old passes.new }
+    ensures admits { (calls : List ShelfCall) × IsAdmitted template result calls
+        × Makes (record { shard = shard_of (shape_of_template template); calls = calls }) passes.old
+        passes.new }
 {
     let Ok(template) = Shared::new(alloc, template) else {
         return Keeping::NoMemory;

@@ -1,5 +1,5 @@
-//! Requests: what a user is told, question after question, by threads that share versions of the tables and
-//! templates of proofs.
+//! Requests: what a user is told, question after question, by threads that share versions of the
+//! tables and templates of proofs.
 #![tactic(auto)]
 
 mod judge;

@@ -25,11 +25,11 @@ pub enum Keeping {
 pub enum By {
     /// Views cover the question: one for each part, with a pairing of the tables.
     Cover(Cover),
-    /// No views cover it, and of the templates that the shelf of its shard gave for its shape the one
-    /// with this number is the first that matches: this is its first match.
+    /// No views cover it, and of the templates that the shelf of its shard gave for its shape the
+    /// one with this number is the first that matches: this is its first match.
     Template { shard: u32, id: u32, found: Match },
-    /// No views cover it, none of the templates that were given matches, and these are the due steps,
-    /// at most as many as the budget, that leave no branch of its problem open.
+    /// No views cover it, none of the templates that were given matches, and these are the due
+    /// steps, at most as many as the budget, that leave no branch of its problem open.
     Proof(List<Step>, Keeping),
 }
 

@@ -8,7 +8,7 @@ ghost use Rattle.ba_model.specs.Fit.{ContextFits, IsQuery, kinds_of};
 ghost use Rattle.ba_model.specs.Meaning.{IsAnswer};
 ghost use Rattle.ba_model.specs.Readings.{Gives};
 ghost use Rattle.ba_model.specs.Limits.{most_budget};
-ghost use Rattle.ba_session.specs.Asking.{IsAsker, IsBegun, IsChecked, Reads, Replies, Uncovered, answer_in, begun};
+ghost use Rattle.ba_session.specs.Asking.{IsRequestOf, IsBegun, IsChecked, Reads, Replies, Uncovered, answer_in, begun};
 ghost use Rattle.ba_session.specs.Judging.{Answers, AnswersByProof, Decides, Says, refusal_of};
 ghost use Rattle.ba_session.specs.Passing.{AreOf, HasRoom, LeavesShelves, Makes, ShelfCalls, on_shelf};
 ghost use Rattle.ba_sql_query.specs.Texts.{query_of};
@@ -56,9 +56,9 @@ struct Looked {
 }
 
 impl Request {
-    /// A request that has asked nothing, over the last version of the tables, which it pins. It waits
-    /// for its turn, and costs one call of the allowance on the versions; a pin that is refused for want
-    /// of memory is told there as such, and there is no request.
+    /// A request that has asked nothing, over the last version of the tables, which it pins. It
+    /// waits for its turn, and costs one call of the allowance on the versions; a pin that is
+    /// refused for want of memory is told there as such, and there is no request.
     ///
     /// The context is one of the policy.
     pub fn begin<R: Wait>(
@@ -72,10 +72,11 @@ impl Request {
         requires of { AreOf service.now passes.old }
         requires left { 0 < (known_by passes.old.versions).left }
         ensures of { AreOf service.now passes.new }
-        ensures made { MakesCall (known_by passes.old.versions) (known_by passes.new.versions) (begun result) }
+        ensures made { MakesCall (known_by passes.old.versions) (known_by passes.new.versions)
+            (begun result) }
         ensures others { LeavesShelves passes.old passes.new }
         ensures begun { IfOk result (IsBegun context) }
-        ensures asker { IfOk result (IsAsker service.now.policy) }
+        ensures asker { IfOk result (IsRequestOf service.now.policy) }
     {
         let (version, tables) = pin(rt, &service.versions, &mut passes.versions)?;
         Ok(Request {
@@ -88,17 +89,18 @@ impl Request {
 
     /// What becomes of a question of the request.
     ///
-    /// A question is answered where single views cover it, or else by the first template that matches
-    /// of those that a look at its shape gives, or else where due steps, at most as many as the budget,
-    /// prove that it is strongly compliant after the request's trace: the template of such a proof is
-    /// admitted for others. Its answer joins the trace. Else it is blocked, with a reason that can be
-    /// checked ([`crate::Why`]). A text that is no query is told by its first fault. Want of memory is a
-    /// reply of its own, and of a proof's template it is told beside the answer. Only an answer changes
-    /// the trace, and nothing changes the rest of the request. It waits for its turns on the shelf of
-    /// the question's shard, for at most a look and an admit.
+    /// A question is answered where single views cover it, or else by the first template that
+    /// matches of those that a look at its shape gives, or else where due steps, at most as many as
+    /// the budget, prove that it is strongly compliant after the request's trace: the template of
+    /// such a proof is admitted for others. Its answer joins the trace. Else it is blocked, with a
+    /// reason that can be checked ([`crate::Why`]). A text that is no query is told by its first
+    /// fault. Want of memory is a reply of its own, and of a proof's template it is told beside the
+    /// answer. Only an answer changes the trace, and nothing changes the rest of the request. It
+    /// waits for its turns on the shelf of the question's shard, for at most a look and an admit.
     ///
-    /// The policy and its schema are checked ones, and the budget is at most [`ba_model::MAX_BUDGET`]
-    /// steps. The request stands as `begin` and `ask` leave it, for a service of the same policy.
+    /// The policy and its schema are checked ones, and the budget is at most
+    /// [`ba_model::MAX_BUDGET`] steps. The request stands as `begin` and `ask` leave it, for a
+    /// service of the same policy.
     pub fn ask<R: Wait>(
         &mut self,
         rt: &R,
@@ -109,16 +111,16 @@ impl Request {
         text: &str,
     ) -> Reply
         requires policy { IsChecked service.now.policy }
-        requires asker { IsAsker service.now.policy self.old }
+        requires asker { IsRequestOf service.now.policy self.old }
         requires limit { budget ≤ most_budget }
         requires of { AreOf service.now passes.old }
         requires room { HasRoom 2 passes.old }
         ensures of { AreOf service.now passes.new }
-        ensures replies { (made : ShelfCalls)
-            × Replies service.now.policy self.old budget text.now made result
-            × Makes made passes.old passes.new }
-        ensures request { self.new ≡ record self.old { trace = self.old.trace ++ answer_in result } }
-        ensures asker { IsAsker service.now.policy self.new }
+        ensures replies { (made : ShelfCalls) × Replies service.now.policy self.old budget text.now
+            made result × Makes made passes.old passes.new }
+        ensures request { self.new
+            ≡ record self.old { trace = self.old.trace ++ answer_in result } }
+        ensures asker { IsRequestOf service.now.policy self.new }
     {
         answers_are_records();
         match read(alloc, &service.policy, text) {
@@ -134,7 +136,8 @@ impl Request {
         self.trace
     }
 
-    /// The reply to the query: its answer where it is covered, else what a look at its shape leads to.
+    /// The reply to the query: its answer where it is covered, else what a look at its shape leads
+    /// to.
     fn reply_to<R: Wait>(
         &mut self,
         rt: &R,
@@ -145,15 +148,15 @@ impl Request {
         query: Shared<Query>,
     ) -> Reply
         requires fits { QuestionFits service.now.policy self.old.context self.old.trace query }
-        requires asker { IsAsker service.now.policy self.old }
+        requires asker { IsRequestOf service.now.policy self.old }
         requires limit { budget ≤ most_budget }
         requires of { AreOf service.now passes.old }
         requires room { HasRoom 2 passes.old }
         ensures of { AreOf service.now passes.new }
-        ensures says { (made : ShelfCalls)
-            × Says service.now.policy self.old budget query made result
-            × Makes made passes.old passes.new }
-        ensures request { self.new ≡ record self.old { trace = self.old.trace ++ answer_in result } }
+        ensures says { (made : ShelfCalls) × Says service.now.policy self.old budget query made
+            result × Makes made passes.old passes.new }
+        ensures request { self.new
+            ≡ record self.old { trace = self.old.trace ++ answer_in result } }
     {
         answer_everywhere();
         match cover(alloc, &service.policy, &self.context, &query) {
@@ -174,16 +177,16 @@ impl Request {
         query: Shared<Query>,
     ) -> Reply
         requires fits { QuestionFits service.now.policy self.old.context self.old.trace query }
-        requires asker { IsAsker service.now.policy self.old }
+        requires asker { IsRequestOf service.now.policy self.old }
         requires limit { budget ≤ most_budget }
         requires uncovered { Uncovered service.now.policy self.old query }
         requires of { AreOf service.now passes.old }
         requires room { HasRoom 2 passes.old }
         ensures of { AreOf service.now passes.new }
-        ensures says { (made : ShelfCalls)
-            × Says service.now.policy self.old budget query made result
-            × Makes made passes.old passes.new }
-        ensures request { self.new ≡ record self.old { trace = self.old.trace ++ answer_in result } }
+        ensures says { (made : ShelfCalls) × Says service.now.policy self.old budget query made
+            result × Makes made passes.old passes.new }
+        ensures request { self.new
+            ≡ record self.old { trace = self.old.trace ++ answer_in result } }
     {
         let Ok(shape) = Shape::of(alloc, &[], &query) else {
             return Reply::NoMemory;
@@ -202,8 +205,8 @@ impl Request {
         }
     }
 
-    /// The reply to the query after the look: its answer by the first template that matches, or else by
-    /// a proof, or a block.
+    /// The reply to the query after the look: its answer by the first template that matches, or
+    /// else by a proof, or a block.
     fn decide<R: Wait>(
         &mut self,
         rt: &R,
@@ -213,18 +216,20 @@ impl Request {
         budget: u32,
         looked: Looked,
     ) -> Reply
-        requires fits { QuestionFits service.now.policy self.old.context self.old.trace looked.query }
-        requires asker { IsAsker service.now.policy self.old }
+        requires fits { QuestionFits service.now.policy self.old.context self.old.trace
+            looked.query }
+        requires asker { IsRequestOf service.now.policy self.old }
         requires limit { budget ≤ most_budget }
         requires shard { looked.shard ≡ shard_of (shape_of [] looked.query) }
         requires sound { All IsSound looked.found.templates }
         requires of { AreOf service.now passes.old }
         requires room { HasRoom 1 passes.old }
         ensures of { AreOf service.now passes.new }
-        ensures decides { (calls : List ShelfCall)
-            × Decides service.now.policy self.old budget looked.query looked.found.templates calls result
+        ensures decides { (calls : List ShelfCall) × Decides service.now.policy self.old budget
+            looked.query looked.found.templates calls result
             × Makes (on_shelf looked.query calls) passes.old passes.new }
-        ensures request { self.new ≡ record self.old { trace = self.old.trace ++ answer_in result } }
+        ensures request { self.new
+            ≡ record self.old { trace = self.old.trace ++ answer_in result } }
     {
         answer_everywhere();
         let Looked {
@@ -265,10 +270,10 @@ impl Request {
         requires of { AreOf service.now passes.old }
         requires room { HasRoom 1 passes.old }
         ensures of { AreOf service.now passes.new }
-        ensures answers { (calls : List ShelfCall)
-            × AnswersByProof self.old query proved calls result
-            × Makes (on_shelf query calls) passes.old passes.new }
-        ensures request { self.new ≡ record self.old { trace = self.old.trace ++ answer_in result } }
+        ensures answers { (calls : List ShelfCall) × AnswersByProof self.old query proved calls
+            result × Makes (on_shelf query calls) passes.old passes.new }
+        ensures request { self.new
+            ≡ record self.old { trace = self.old.trace ++ answer_in result } }
     {
         match self.record(alloc, &query) {
             Ok(rows) => {
@@ -283,7 +288,8 @@ impl Request {
     /// The query's answer for this reason.
     fn answer(&mut self, alloc: Global, query: Shared<Query>, by: By) -> Reply
         ensures answers { Answers self.old query by result }
-        ensures request { self.new ≡ record self.old { trace = self.old.trace ++ answer_in result } }
+        ensures request { self.new
+            ≡ record self.old { trace = self.old.trace ++ answer_in result } }
     {
         match self.record(alloc, &query) {
             Ok(rows) => Reply::Answer { query, rows, by },
@@ -299,8 +305,8 @@ impl Request {
         query: &Shared<Query>,
     ) -> Result<Shared<List<Row>>, AllocError>
         ensures answer { IfOk result (IsAnswer query.now self.old.context self.old.tables.rows) }
-        ensures ok { IfOk result (λ rows. self.new
-            ≡ record self.old { trace = self.old.trace ++ record { query = query.now; rows = rows } ∷ [] }) }
+        ensures ok { IfOk result (λ rows. self.new ≡ record self.old
+            { trace = self.old.trace ++ record { query = query.now; rows = rows } ∷ [] }) }
         ensures err { OnErr result (self.new ≡ self.old) }
     {
         let found = answer_indexed(alloc, self.tables.indexed(), &self.context, query)?;

@@ -20,16 +20,16 @@ pub struct Service {
     ghost schema: { (opening_of (start_of versions)).schema ≡ policy.schema },
 }
 
-/// The right to make calls on a service: a pass on the turn of the versions, and one on that of each
-/// shelf. They go from thread to thread by value.
+/// The right to make calls on a service: a pass on the turn of the versions, and one on that of
+/// each shelf. They go from thread to thread by value.
 #[derive(Drop)]
 pub struct Passes {
     pub(crate) versions: Pass<Versions, VersionCall>,
     pub(crate) cache: CachePass,
 }
 
-/// What a service's objects were told: the versions, and each shelf in the order of the shards, each
-/// with the number of every call's pass.
+/// What a service's objects were told: the versions, and each shelf in the order of the shards,
+/// each with the number of every call's pass.
 #[derive(Drop)]
 pub struct Closed {
     pub versions: Versions,

@@ -14,9 +14,9 @@ use std::alloc::{AllocError, Global};
 use std::sync::Wait;
 
 impl Service {
-    /// The tables are version 0, and all shelves are empty: `calls` calls may be made on the versions,
-    /// and `looks` on each shelf. The opening passes have the number 0. All memory that the histories
-    /// will need is asked for here; where it is refused, nothing is left.
+    /// The tables are version 0, and all shelves are empty: `calls` calls may be made on the
+    /// versions, and `looks` on each shelf. The opening passes have the number 0. All memory that
+    /// the histories will need is asked for here; where it is refused, nothing is left.
     ///
     /// The tables are of the policy's schema.
     pub fn new(
@@ -54,8 +54,8 @@ impl Service {
         &self.policy
     }
 
-    /// Splits passes off the opening ones: they get this much of the allowances, and the next number
-    /// on each object. Where memory is refused, nothing is split.
+    /// Splits passes off the opening ones: they get this much of the allowances, and the next
+    /// number on each object. Where memory is refused, nothing is split.
     pub fn split(
         &self,
         alloc: Global,
@@ -75,8 +75,8 @@ impl Service {
         Ok(Passes { versions, cache })
     }
 
-    /// Joins passes into the opening ones, which keep of each object the longer history and the joined
-    /// number's calls.
+    /// Joins passes into the opening ones, which keep of each object the longer history and the
+    /// joined number's calls.
     pub fn join(&self, passes: &mut Passes, other: Passes)
         requires of { AreOf self.now passes.old }
         requires other { AreOf self.now other }
@@ -115,14 +115,16 @@ impl Service {
         })
     }
 
-    /// The tables, of the policy's schema, become the last version; the answer is its number. It waits
-    /// for its turn, and costs one call of the allowance on the versions. Requests keep theirs.
+    /// The tables, of the policy's schema, become the last version; the answer is its number. It
+    /// waits for its turn, and costs one call of the allowance on the versions. Requests keep
+    /// theirs.
     pub fn publish<R: Wait>(&self, rt: &R, passes: &mut Passes, tables: Shared<Tables>) -> u32
         requires of { AreOf self.now passes.old }
         requires left { 0 < (known_by passes.old.versions).left }
         requires schema { tables.schema ≡ self.now.policy.schema }
         ensures of { AreOf self.now passes.new }
-        ensures made { MakesCall (known_by passes.old.versions) (known_by passes.new.versions) (published tables result) }
+        ensures made { MakesCall (known_by passes.old.versions) (known_by passes.new.versions)
+            (published tables result) }
         ensures others { LeavesShelves passes.old passes.new }
     {
         publish(rt, &self.versions, &mut passes.versions, tables)

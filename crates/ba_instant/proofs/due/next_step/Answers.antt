@@ -1,12 +1,12 @@
 use Rattle.std.proofs.Common.{◌≤◌, arith, length, subst}
 use Rattle.std.proofs.lemmas.Grind.{common_steps}
 use Rattle.ba_instant.proofs.NextLemmas.{all_closed, all_taken, news_more}
-use Rattle.ba_instant.specs.Nexts.{IsFirstBelow, IsLooked, Passes}
+use Rattle.ba_instant.specs.Nexts.{IsFirstBelow, IsLooked, PassesBranch}
 use Rattle.ba_instant.proofs.due.next_step.Goals as goal
 
 pub loop-number-preserved : goal.loop-number-preserved
 loop-number-preserved c =
-    let passes : Passes c.args.pick c.args.search.now c.loop-number.number c.loop-number.first c.look_at.new.first =
+    let passes : PassesBranch c.args.pick c.args.search.now c.loop-number.number c.loop-number.first c.look_at.new.first =
     subst (λ it. IsLooked c.args.pick c.args.search.now c.loop-number.number it c.loop-number.first c.look_at.new.first) c.if-saturated.false c.in_ok-saturated.ensures.looked in
     record {
       news = news_more c.args.pick c.args.search.now c.loop-number.number c.loop-number.first c.look_at.new.first passes c.loop-number.invariant.news;

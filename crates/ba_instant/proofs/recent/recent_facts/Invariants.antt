@@ -1,4 +1,4 @@
-use Rattle.ba_instant.specs.Looks.{AreRecentBelow}
+use Rattle.ba_instant.specs.Scans.{AreRecentBelow}
 use Rattle.ba_instant.proofs.recent.recent_facts.Given as goal
 
 -- the recent facts so far

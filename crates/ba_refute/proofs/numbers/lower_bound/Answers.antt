@@ -7,7 +7,7 @@ use Rattle.ba_classes.specs.Image.{IsGreatest}
 use Rattle.ba_facts.specs.Known.{ShownGap}
 use Rattle.ba_facts.specs.declared.term.Term.{Term}
 use Rattle.ba_facts.specs.declared.term.Term.TheVariants.{Unknown}
-use Rattle.ba_refute.specs.Images.{IsAtLeast}
+use Rattle.ba_refute.specs.Images.{IsLowerBound}
 use Rattle.ba_refute.proofs.NumberLemmas.{least_same, least_more}
 use Rattle.ba_refute.proofs.numbers.lower_bound.Goals as goal
 use Rattle.ba_refute.proofs.numbers.lower_bound.Goals.{in-Some+in_ok-sum, in_default}
@@ -41,4 +41,4 @@ loop-other-preserved c =
 pub returns : goal.returns
 returns c =
     let whole : take c.loop-other.other-index c.args.valued.now ≡ c.args.valued.now = take_all c.loop-other.other-index c.args.valued.now c.loop-other-test.false in
-    subst (λ (vs : List (Term × ℤ)). IsGreatest (IsAtLeast c.args.known.now vs (Unknown c.args.n)) c.loop-other.bound) whole c.loop-other.invariant
+    subst (λ (vs : List (Term × ℤ)). IsGreatest (IsLowerBound c.args.known.now vs (Unknown c.args.n)) c.loop-other.bound) whole c.loop-other.invariant

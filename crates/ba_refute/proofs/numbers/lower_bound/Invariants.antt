@@ -1,8 +1,8 @@
 use Rattle.std.proofs.Common.{take}
 use Rattle.ba_classes.specs.Image.{IsGreatest}
 use Rattle.ba_facts.specs.declared.term.Term.TheVariants.{Unknown}
-use Rattle.ba_refute.specs.Images.{IsAtLeast}
+use Rattle.ba_refute.specs.Images.{IsLowerBound}
 use Rattle.ba_refute.proofs.numbers.lower_bound.Given as goal
 
 abbrev pub invariant-loop-other : goal.invariant-loop-other
-invariant-loop-other l = IsGreatest (IsAtLeast l.known (take l.other-index l.valued) (Unknown l.n)) l.bound
+invariant-loop-other l = IsGreatest (IsLowerBound l.known (take l.other-index l.valued) (Unknown l.n)) l.bound

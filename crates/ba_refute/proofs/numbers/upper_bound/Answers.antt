@@ -7,7 +7,7 @@ use Rattle.ba_classes.specs.Image.{IsGreatest, IsLeast}
 use Rattle.ba_facts.specs.Known.{ShownGap}
 use Rattle.ba_facts.specs.declared.term.Term.{Term}
 use Rattle.ba_facts.specs.declared.term.Term.TheVariants.{Unknown}
-use Rattle.ba_refute.specs.Images.{IsAtMost}
+use Rattle.ba_refute.specs.Images.{IsUpperBound}
 use Rattle.ba_refute.proofs.NumberLemmas.{most_same, most_more}
 use Rattle.ba_refute.proofs.numbers.upper_bound.Goals as goal
 use Rattle.ba_refute.proofs.numbers.upper_bound.Goals.{in-Some+in_ok-difference, in_default}
@@ -41,4 +41,4 @@ loop-other-preserved c =
 pub returns : goal.returns
 returns c =
     let whole : take c.loop-other.other-index c.args.valued.now ≡ c.args.valued.now = take_all c.loop-other.other-index c.args.valued.now c.loop-other-test.false in
-    subst (λ (vs : List (Term × ℤ)). IsLeast (IsAtMost c.args.known.now vs (Unknown c.args.n)) c.loop-other.bound) whole c.loop-other.invariant
+    subst (λ (vs : List (Term × ℤ)). IsLeast (IsUpperBound c.args.known.now vs (Unknown c.args.n)) c.loop-other.bound) whole c.loop-other.invariant

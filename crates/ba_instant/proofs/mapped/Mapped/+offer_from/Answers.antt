@@ -27,7 +27,7 @@ loop-fact-preserved t c =
       }
       | else-may_take w ↦ record {
         chosen = grind (arith, common_steps);
-        best = mapped_passed c.args.self.now.spot.now.search.now c.args.self.now.spot.now.pick c.args.self.now.spot.now.branch.now c.args.self.now.spot.now.number c.args.self.now.form c.args.self.now.side c.args.self.now.part.now c.args.self.now.spot.now.quiet c.args.self.now.spot.now.recent.now c.requires _ _ _ c.loop-fact.fact _ c.loop-fact.best _ (let e : c.if-may_take.best ≡ c.loop-fact.best = cc in e)
+        best = mapped_passed c.args.self.now.scan.now.search.now c.args.self.now.scan.now.pick c.args.self.now.scan.now.branch.now c.args.self.now.scan.now.number c.args.self.now.form c.args.self.now.side c.args.self.now.part.now c.args.self.now.scan.now.quiet c.args.self.now.scan.now.recent.now c.requires _ _ _ c.loop-fact.fact _ c.loop-fact.best _ (let e : c.if-may_take.best ≡ c.loop-fact.best = cc in e)
             (λ h. let t = c.may_take.ensures.1 h in cc) c.loop-fact.invariant.best;
       }
     ]
@@ -35,4 +35,4 @@ loop-fact-preserved t c =
 pub returns-clause-best : goal.returns-clause-best
 returns-clause-best t c =
     mapped_all _ _ _ _ _ _ _ _ _ _ _ c.loop-fact.fact _ _ c.in-Some.ensures.cases.0
-    (let e : length c.args.self.now.spot.now.branch.now.facts ≤ c.loop-fact.fact = grind (arith, common_steps) in e) c.loop-fact.invariant.best
+    (let e : length c.args.self.now.scan.now.branch.now.facts ≤ c.loop-fact.fact = grind (arith, common_steps) in e) c.loop-fact.invariant.best

@@ -10,7 +10,7 @@ decreases-offer_from l = length l.from.now
 abbrev pub invariant-loop-fact : goal.invariant-loop-fact
 invariant-loop-fact l = record {
   chosen : l.chosen.items ≡ l.fn.chosen.items;
-  best : Improves l.self.spot.now.search.now l.self.spot.now.pick
-      (Upto (By l.self.spot.now.search.now l.self.spot.now.pick l.self.spot.now.branch.now l.self.spot.now.number l.self.form l.self.side l.self.part.now l.table l.rest l.fn.chosen.items) l.fact)
+  best : Improves l.self.scan.now.search.now l.self.scan.now.pick
+      (Upto (By l.self.scan.now.search.now l.self.scan.now.pick l.self.scan.now.branch.now l.self.scan.now.number l.self.form l.self.side l.self.part.now l.table l.rest l.fn.chosen.items) l.fact)
       l.fn.best l.best;
 }

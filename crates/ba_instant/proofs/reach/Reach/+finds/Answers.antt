@@ -6,7 +6,7 @@ use Rattle.ba_facts.specs.declared.matches.search.Wanted.TheVariants.{Shown}
 use Rattle.ba_facts.specs.declared.term.Side.TheVariants.{Two}
 use Rattle.ba_instant.proofs.AlikeLemmas.{tried_more, tried_push}
 use Rattle.ba_instant.proofs.ReachLemmas.{reach_all, reach_end, reach_more, reach_passed}
-use Rattle.ba_instant.specs.Spreads.{IsPassed}
+use Rattle.ba_instant.specs.Spreads.{IsPassedOver}
 use Rattle.ba_instant.proofs.reach.Reach.+finds.Goals as goal
 use Rattle.ba_instant.proofs.reach.Reach.+finds.Goals.{then-may_lead+in_ok-push-2+in_ok-found, else-may_lead}
 
@@ -28,8 +28,8 @@ loop-fact-preserved t c =
         chosen = grind (arith, common_steps);
         tried = tried_more _ _ c.loop-fact.fact (cc (w.tried-is)) c.loop-fact.invariant.tried;
         none = reach_passed c.args.self.now.branch.now c.args.self.now.part.now c.args.self.now.row.now c.in-Some.table.now c.in-Some.rest.now c.args.chosen.now.items c.loop-fact.fact c.push.new.self.items c.loop-fact.tried.items
-            (subst (λ xs. IsPassed c.args.self.now.branch.now Two c.args.self.now.part.now Shown (Some c.args.self.now.row.now) c.in-Some.table.now xs c.loop-fact.tried.items c.loop-fact.fact) c.deref-in-loop-fact.ensures.value
-            (subst (λ xs. IsPassed c.args.self.now.branch.now Two c.args.self.now.part.now Shown (Some c.args.self.now.row.now) c.in-Some.table.now c.deref-in-loop-fact.result.now xs c.loop-fact.fact) c.deref-in-loop-fact-2.ensures.value
+            (subst (λ xs. IsPassedOver c.args.self.now.branch.now Two c.args.self.now.part.now Shown (Some c.args.self.now.row.now) c.in-Some.table.now xs c.loop-fact.tried.items c.loop-fact.fact) c.deref-in-loop-fact.ensures.value
+            (subst (λ xs. IsPassedOver c.args.self.now.branch.now Two c.args.self.now.part.now Shown (Some c.args.self.now.row.now) c.in-Some.table.now c.deref-in-loop-fact.result.now xs c.loop-fact.fact) c.deref-in-loop-fact-2.ensures.value
             (c.may_lead.ensures (λ h. let e = w.if-may_lead.false in cc))))
             (one_chosen _ _ _ _ c.in_ok-push.ensures.items c.loop-fact.invariant.chosen) c.loop-fact.invariant.tried c.loop-fact.invariant.none;
       }

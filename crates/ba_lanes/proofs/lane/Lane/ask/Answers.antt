@@ -1,5 +1,5 @@
 use Rattle.std.proofs.Common.{[], arith, refl, subst, sym}
-use Rattle.ba_session.specs.Asking.{IsAsker, Replies}
+use Rattle.ba_session.specs.Asking.{IsRequestOf, Replies}
 use Rattle.ba_session.specs.Passing.{Makes, ShelfCalls}
 use Rattle.ba_lanes.proofs.LaneLemmas.{ask_room, checked_of, lost_there, set_there, takes_asked, takes_lost, there}
 use Rattle.ba_lanes.proofs.lane.Lane.ask.Goals as goal
@@ -17,7 +17,7 @@ pub ask-reply-requires-clause-asker : goal.ask-reply-requires-clause-asker
 ask-reply-requires-clause-asker g c =
     let can = c.requires.can [] in
     let at = there c.args.self.now.requests.items c.args.number c.index_mut.result.now c.in-Some.asker can.comes c.index_mut.ensures.value c.in-Some.is in
-    subst (λ p. IsAsker p c.in-Some.asker) (sym c.requires.policy) (can.askers.each c.args.number c.in-Some.asker at)
+    subst (λ p. IsRequestOf p c.in-Some.asker) (sym c.requires.policy) (can.askers.each c.args.number c.in-Some.asker at)
 
 pub ask-reply-requires-clause-of : goal.ask-reply-requires-clause-of
 ask-reply-requires-clause-of g c = (c.requires.can []).of
@@ -33,7 +33,7 @@ returns-in-Some g c name =
     let asker = c.in-Some.asker in
     let next = c.ask-reply.new.self in
     let at = there old.requests.items c.args.number c.index_mut.result.now asker can.comes c.index_mut.ensures.value c.in-Some.is in
-    let may = subst (λ p. IsAsker p next) c.requires.policy c.ask-reply.ensures.asker in
+    let may = subst (λ p. IsRequestOf p next) c.requires.policy c.ask-reply.ensures.asker in
     let told = subst (λ t. (calls : ShelfCalls) × Replies c.args.service.now.policy asker input.budget t calls c.ask-reply.result × Makes calls old.passes c.ask-reply.new.passes) c.as_str.ensures
     c.ask-reply.ensures.replies in
     let replies = subst (λ p. (calls : ShelfCalls) × Replies p asker input.budget c.args.text.now calls c.ask-reply.result × Makes calls old.passes c.ask-reply.new.passes) c.requires.policy told in

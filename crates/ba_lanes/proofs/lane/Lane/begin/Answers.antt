@@ -1,6 +1,6 @@
 use Rattle.std.proofs.Common.{[], arith, refl, subst, sym}
 use Rattle.ba_model.specs.Fit.{ContextFits, kinds_of}
-use Rattle.ba_session.specs.Asking.{IsAsker, IsBegun}
+use Rattle.ba_session.specs.Asking.{IsRequestOf, IsBegun}
 use Rattle.ba_lanes.proofs.LaneLemmas.{begin_left, takes_begun, takes_refused, takes_unmade}
 use Rattle.ba_lanes.proofs.lane.Lane.begin.Goals as goal
 
@@ -41,7 +41,7 @@ pub returns-in-Ok-begin : goal.returns-in-Ok-begin
 returns-in-Ok-begin g c name =
     let asker = c.in-Ok-begin.asker in
     let begun = subst (λ z. IsBegun z asker) c.in-Ok.ensures c.in-Ok-begin.ensures.begun in
-    let may = subst (λ p. IsAsker p asker) c.requires.policy c.in-Ok-begin.ensures.asker in
+    let may = subst (λ p. IsRequestOf p asker) c.requires.policy c.in-Ok-begin.ensures.asker in
     takes_begun c.args.input.now c.args.service.now c.args.self.now _ c.in-Ok-begin.ensures.of refl c.push_reserved-in-Ok-begin.ensures.capacity c.args.number name c.args.context.now asker begun may
     c.push_reserved-in-Ok-begin.ensures.items c.in-Ok-begin.ensures.made c.in-Ok-begin.ensures.others
 

@@ -1,20 +1,23 @@
-use Rattle.ba_session.proofs.JudgeLemmas.{refuted, stuck}
-use Rattle.std.proofs.Common.{subst}
-use Rattle.ba_facts.specs.declared.branch.Branch.{Branch}
-use Rattle.ba_refute.specs.Images.{TellsTried}
-use Rattle.ba_session.specs.Asking.{question}
+use Rattle.ba_session.proofs.JudgeLemmas.{fits_seen, problem_seen, refutal_seen, refuted, stuck}
 use Rattle.ba_session.proofs.request.Request.reason_of.Goals as goal
+
+pub try_pair-requires-clause-fits : goal.try_pair-requires-clause-fits
+try_pair-requires-clause-fits c =
+    fits_seen c.args.policy.now c.deref-asked.result.now c.args.self.now c.args.query.now c.deref-asked-2.result.now c.deref-asked.ensures c.deref-asked-2.ensures c.requires.fits
+
+pub try_pair-requires-clause-problem : goal.try_pair-requires-clause-problem
+try_pair-requires-clause-problem c =
+    problem_seen c.args.policy.now c.deref-asked.result.now c.args.self.now c.args.query.now c.deref-asked-2.result.now c.deref-asked.ensures c.deref-asked-2.ensures
+    c.args.leaf.problem c.requires.problem
 
 pub returns-in-Pair : goal.returns-in-Pair
 returns-in-Pair c =
-    refuted c.args.policy.now c.args.self.now c.args.query.now c.args.leaf c.in_ok-tried.tried
-    (subst (λ (b : Branch). TellsTried c.args.policy.now c.args.self.now.context c.args.self.now.trace c.args.query.now
-    (question c.args.policy.now c.args.self.now c.args.query.now) b c.in_ok-tried.tried) c.deref.ensures c.in_ok-tried.ensures)
-    c.in-Pair.pair c.in-Pair.is
+    refuted c.args.policy.now c.args.self.now c.args.query.now c.args.leaf c.in_ok-refutal.refutal
+    (refutal_seen c.args.policy.now c.deref-asked.result.now c.args.self.now c.args.query.now c.deref-asked-2.result.now c.deref-asked.ensures c.deref-asked-2.ensures
+    c.args.leaf c.in_ok-refutal.refutal c.in_ok-refutal.ensures) c.in-Pair.pair c.in-Pair.is
 
 pub returns-in-Stuck : goal.returns-in-Stuck
 returns-in-Stuck c =
-    stuck c.args.policy.now c.args.self.now c.args.query.now c.args.leaf c.in_ok-tried.tried
-    (subst (λ (b : Branch). TellsTried c.args.policy.now c.args.self.now.context c.args.self.now.trace c.args.query.now
-    (question c.args.policy.now c.args.self.now c.args.query.now) b c.in_ok-tried.tried) c.deref.ensures c.in_ok-tried.ensures)
-    c.in-Stuck.clause c.in-Stuck.is
+    stuck c.args.policy.now c.args.self.now c.args.query.now c.args.leaf c.in_ok-refutal.refutal
+    (refutal_seen c.args.policy.now c.deref-asked.result.now c.args.self.now c.args.query.now c.deref-asked-2.result.now c.deref-asked.ensures c.deref-asked-2.ensures
+    c.args.leaf c.in_ok-refutal.refutal c.in_ok-refutal.ensures) c.in-Stuck.leaf c.in-Stuck.clause c.in-Stuck.is

@@ -1,7 +1,0 @@
-use Rattle.ba_instant.specs.Offers.{Improves, IsOfForm, Upto}
-use Rattle.ba_instant.specs.declared.mapped.Form.TheVariants.{OfView}
-use Rattle.ba_instant.proofs.found.Spot.offer_view.Given as goal
-
--- the parts so far were offered
-abbrev pub invariant-loop-part : goal.invariant-loop-part
-invariant-loop-part l = Improves l.self.search.now l.self.pick (Upto (λ part. IsOfForm l.self.number (OfView l.view part)) l.part) l.fn.best l.best
