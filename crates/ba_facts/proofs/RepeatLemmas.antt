@@ -1,18 +1,14 @@
 -- The walk that looks for a row that some facts give, and what it passes over.
-use Rattle.std.proofs.Common.{◌≡◌, ℕ, ◌<◌, ◌⊎◌, inl, inr, List, [], ◌∷◌, ◌++◌, ap, length, map, refl, sym, subst}
-use Rattle.std.specs.List.{AllZip, Any}
+use Rattle.std.proofs.Common.{◌≡◌, ℕ, ◌⊎◌, inl, inr, List, [], ◌∷◌, ◌++◌, length, refl, sym, subst}
+use Rattle.std.specs.List.{AllZip}
 use Rattle.std.specs.Prelude.{Option}
-use Rattle.ba_model.specs.declared.query.Part.{Part}
 use Rattle.ba_facts.proofs.AlikeLemmas.{completes_instead, fact_alike, head_instead, instead}
 use Rattle.ba_facts.proofs.FrontLemmas.{front_lost}
 use Rattle.ba_facts.proofs.WalkLemmas.{answered_from, by_cases, by_every, by_last, by_one, completes_last, composes_by, earlier_in, is_answered, last_completes, meets_last, next_completes, pruned}
-use Rattle.ba_facts.specs.Matches.{AreTheSame, IsAnswered, IsFactOf, row_of, terms_at}
-use Rattle.ba_facts.specs.Walks.{AreMet, CantGive, Completes, CompletesBy, Composes, FailsAt, HasEarlier, IsAnsweredFrom, IsSpared, NoneAnswers, every}
-use Rattle.ba_facts.specs.declared.branch.Branch.{Branch}
-use Rattle.ba_facts.specs.declared.term.Side.{Side}
+use Rattle.ba_facts.specs.Matches.{AreTheSame, IsAnswered, IsFactOf, row_of}
+use Rattle.ba_facts.specs.Walks.{AreMet, CantGive, Completes, CompletesBy, Composes, HasEarlier, IsAnsweredFrom, IsSpared, NoneAnswers, every}
 use Rattle.ba_facts.specs.declared.term.Term.{Term}
 use Rattle.ba_facts.specs.declared.walk.Walk.{Walk}
-use Rattle.ba_facts.specs.declared.walk.Wanted.{Wanted}
 use Rattle.ba_facts.specs.declared.walk.Wanted.TheVariants.{Shown}
 
 module _ (w : Walk) (row : List (Option Term)) where

@@ -1,10 +1,9 @@
 -- The walk for the least round, and what it passes over.
-use Rattle.std.proofs.Common.{◌≡◌, ◌∙◌, ℕ, ◌+◌, ◌<◌, ◌≤◌, ◌⊎◌, inl, inr, List, [], ◌∷◌, ◌++◌, length, map, refl, sym, ap, subst}
+use Rattle.std.proofs.Common.{◌≡◌, ◌∙◌, ℕ, ◌<◌, ◌≤◌, ◌⊎◌, inl, inr, List, [], ◌∷◌, ◌++◌, length, map, refl, sym, ap, subst}
 use Rattle.std.proofs.Common.{arith}
 use Rattle.std.proofs.lemmas.Bool.{cases_lt}
-use Rattle.std.specs.List.{All, Any}
+use Rattle.std.specs.List.{All}
 use Rattle.std.specs.Prelude.{Option, Some, None, min}
-use Rattle.ba_model.specs.declared.query.Part.{Part}
 use Rattle.ba_facts.proofs.AlikeLemmas.{at_most_round, completes_instead, fact_alike, has_instead, instead, round_instead}
 use Rattle.ba_facts.proofs.FrontLemmas.{atom_lost, row_lost}
 use Rattle.ba_facts.proofs.WalkLemmas.{by_cases, by_every, by_last, by_more, by_one, completes_last, composes_by, earlier_in, last_completes, meets_last, pruned}

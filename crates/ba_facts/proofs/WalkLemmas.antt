@@ -6,7 +6,7 @@ use Rattle.std.proofs.lemmas.List.Elements.{All-append, All-contains, All-nil, A
 use Rattle.std.proofs.lemmas.List.Elements.{Contains-append_cases, Contains-append_right, Contains-push, Contains-push_cases}
 use Rattle.std.proofs.lemmas.List.FromFn.{get_or-range_with_len, length-range_with_len}
 use Rattle.std.proofs.lemmas.Option.{slice_get_within}
-use Rattle.std.specs.List.{Any, All, AllZip, Contains, range_with_len}
+use Rattle.std.specs.List.{Any, All, Contains, range_with_len}
 use Rattle.std.specs.List.Sorted.{IsStrictlySortedBy}
 use Rattle.std.specs.Cmp.Lexicographic.{slice_cmp}
 use Rattle.std.specs.Ordering.{nat_cmp}
@@ -19,7 +19,7 @@ use Rattle.ba_model.specs.declared.query.Operand.TheVariants.{Col, Val, Param, V
 use Rattle.ba_model.specs.declared.query.Part.{Part}
 use Rattle.ba_facts.proofs.OrderOfListsLemmas.{less_at, rising_append}
 use Rattle.ba_facts.specs.Walks.{AddsThose, AreRising, AreThose, BeginsIn, Completes, CompletesBy, Composes, FailsAt, Gathers, IsAnsweredFrom, IsSpared, IsThat, IsWanted, every}
-use Rattle.ba_facts.specs.Matches.{AreMatches, AreTheSame, IsAnswered, IsFactOf, IsMapping, IsMatch, IsLiveMapping, IsUndecided, Under, row_of}
+use Rattle.ba_facts.specs.Matches.{AreMatches, IsAnswered, IsFactOf, IsMapping, IsMatch, IsLiveMapping, IsUndecided, Under}
 use Rattle.ba_facts.specs.Matches.{term_of, terms_at}
 use Rattle.ba_facts.specs.declared.branch.Branch.{Branch}
 use Rattle.ba_facts.specs.declared.walk.Wanted.{Wanted}

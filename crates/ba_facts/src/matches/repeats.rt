@@ -26,7 +26,7 @@ impl Branch {
     }
 
     /// The round of the fact of the number, or 0.
-    pub(crate) fn round_at(&self, number: usize) -> u32
+    pub fn round_at(&self, number: usize) -> u32
         ensures { result ≡ round_at self.now number }
     {
         match self.facts.find(number) {

@@ -201,7 +201,7 @@ fn is_term(own: TermRef<'_>, term: &Term) -> bool
 
 impl Branch {
     /// The greatest round of the facts of these numbers.
-    fn round_of(&self, numbers: &[usize]) -> u32
+    pub fn round_of(&self, numbers: &[usize]) -> u32
         ensures { result ≡ round_of self.now numbers.now }
     {
         let mut round = 0;

@@ -1,4 +1,4 @@
-use Rattle.std.proofs.Common.{[], ◌∙◌, subst, sym}
+use Rattle.std.proofs.Common.{◌∙◌, subst, sym}
 use Rattle.ba_facts.proofs.WalkLemmas.{gathers_all, gathers_compose, gathers_nothing}
 use Rattle.ba_facts.specs.Matches.{AreMatches}
 use Rattle.ba_facts.specs.declared.walk.Wanted.TheVariants.{Live}

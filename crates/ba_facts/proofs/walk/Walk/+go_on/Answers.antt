@@ -1,4 +1,4 @@
-use Rattle.std.proofs.Common.{◌≡◌, ◌∙◌, ℕ, ◌<◌, ◌+◌, ◌++◌, ◌∷◌, [], length, take, drop, suc, All, Contains, List, ap, set, sym, subst, arith, rules}
+use Rattle.std.proofs.Common.{◌≡◌, ◌∙◌, ℕ, ◌<◌, ◌+◌, ◌++◌, ◌∷◌, [], length, take, drop, suc, All, Contains, List, ap, set, sym, subst, arith}
 use Rattle.std.proofs.lemmas.List.{length-set, take-set}
 use Rattle.ba_facts.specs.Walks.{every, listed}
 use Rattle.ba_facts.proofs.WalkLemmas.{chosen_more, fronts_same, one_more, parted, tried_more, tried_on, visited_on}

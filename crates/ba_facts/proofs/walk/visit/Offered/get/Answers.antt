@@ -1,6 +1,5 @@
-use Rattle.std.proofs.Common.{◌≡◌, ◌∙◌, length, sym, subst, ap, get_or, ◌<◌, zero-add}
+use Rattle.std.proofs.Common.{◌∙◌, length, sym, subst, ap, get_or, ◌<◌, zero-add}
 use Rattle.std.proofs.lemmas.List.FromFn.{get_or-range_with_len, length-range_with_len}
-use Rattle.std.specs.List.{range_with_len}
 use Rattle.ba_facts.specs.Walks.{listed}
 use Rattle.ba_facts.proofs.walk.visit.Offered.get.Goals as goal
 
