@@ -198,7 +198,14 @@ abbrev pub IsNoFront : Branch → List Operand → List (Option Term) → List �
 IsNoFront b operands row chosen = (rest : List ℕ) →
     ¬ (AllZip (AreTheSame b.known) (row_of b (chosen ++ rest) operands) row)
 
--- whatever facts follow the chosen ones, some atom isn't what is wanted, or the head isn't the row
+-- whatever facts follow the chosen ones, some atom isn't what is wanted, or the head isn't the same
+-- as the row, where there is one
+abbrev pub IsLost : Branch → Part → Wanted → Option (List Term) → List ℕ → Type 0
+IsLost b part wanted row chosen =
+    Any (FailsAt b.known wanted (map (terms_at b) chosen)) part.conds ⊎
+    ((rest : List ℕ) → ¬ (HeadIs b part (chosen ++ rest) row))
+
+-- so it is of a row that is given as its terms
 abbrev pub CantGive : Walk → List (Option Term) → List ℕ → Type 0
 CantGive w row chosen = IsHopeless w chosen ⊎ IsNoFront w.branch.now w.part.now.head row chosen
 

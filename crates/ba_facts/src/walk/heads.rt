@@ -2,7 +2,7 @@
 ghost use Rattle.std.specs.Prelude.{◌↔◌, ◌++◌, ℕ, List, IsTrue, Some, map, option_copied};
 ghost use Rattle.std.specs.List.{AllZip};
 ghost use Rattle.ba_facts.specs.Matches.{AreTheSame, HeadIs, row_of};
-ghost use Rattle.ba_facts.specs.Walks.{IsNoFront, IsOther, term_in};
+ghost use Rattle.ba_facts.specs.Walks.{IsLost, IsNoFront, IsOther, term_in};
 
 use crate::term::Term;
 use crate::walk::Walk;
@@ -47,6 +47,15 @@ impl<'a> Walk<'a> {
             Some(row) => self.is_no_front(self.part.head.as_slice(), chosen, row.as_slice()),
             None => false,
         }
+    }
+
+    /// Whether no facts that complete the chosen ones meet the atoms and give the row, if one is
+    /// given.
+    pub fn is_lost(&self, chosen: &[usize], row: Option<&List<Term>>) -> bool
+        ensures { IsTrue result → IsLost self.now.branch.now self.now.part.now self.now.wanted
+            (option_copied row.entry) chosen.now }
+    {
+        self.has_other(chosen, row) || self.is_hopeless(chosen)
     }
 
     fn is_no_front(&self, head: &'a [Operand], chosen: &[usize], row: &[Term]) -> bool
