@@ -14,10 +14,10 @@ use Rattle.ba_facts.proofs.ClassMoves.{live_moves, same_moves, shown_moves}
 use Rattle.ba_facts.specs.Alike.{AreAlike}
 use Rattle.ba_facts.specs.Known.{Known, OneClass}
 use Rattle.ba_facts.specs.Matches.{AreTheSame, GivesAtom, HeadIs, IsFactOf, Under, round_of, row_of, term_of, terms_at}
-use Rattle.ba_facts.specs.Searching.{Completes, HasAtom, HasEither, IsWanted, round_at}
+use Rattle.ba_facts.specs.Walks.{Completes, HasAtom, HasEither, IsWanted, round_at}
 use Rattle.ba_facts.specs.declared.branch.Branch.{Branch}
-use Rattle.ba_facts.specs.declared.matches.search.Wanted.{Wanted}
-use Rattle.ba_facts.specs.declared.matches.search.Wanted.TheVariants.{Live, Shown}
+use Rattle.ba_facts.specs.declared.walk.Wanted.{Wanted}
+use Rattle.ba_facts.specs.declared.walk.Wanted.TheVariants.{Live, Shown}
 use Rattle.ba_facts.specs.declared.term.Fact.{Fact}
 use Rattle.ba_facts.specs.declared.term.Side.{Side}
 use Rattle.ba_facts.specs.declared.term.Term.{Term}

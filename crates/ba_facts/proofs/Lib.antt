@@ -4,7 +4,7 @@ pub mod DecideLemmas
 pub mod LawLemmas
 pub mod OrderOfListsLemmas
 pub mod PlaceLemmas
-pub mod SearchingLemmas
+pub mod WalkLemmas
 pub mod RoundLemmas
 pub mod FrontLemmas
 pub mod StrongLemmas

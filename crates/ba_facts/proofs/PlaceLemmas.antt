@@ -50,6 +50,26 @@ module _ {X Y : Type 0} (R : Y → Y → Type 0) (f g : X → Y) (xs ys : List X
         let inside : i < length (map f xs) = subst (λ n. i < n) (sym (length-map xs f)) left in
         fails (subst (λ a. R a (g y)) left_is (subst (R (get_or (map f xs) i (f x))) right_is (AllZip-get_or R (map f xs) (map g ys) i (f x) (g y) h inside)))
 
+-- ---- two lists of two kinds, place by place
+
+module _ {X Y Z : Type 0} (R : Z → Z → Type 0) (f : X → Z) (g : Y → Z) (xs : List X) (ys : List Y) (i : ℕ) (x : X) (y : Y) (left : i < length xs)
+    (right : i < length ys) (x_is : x ≡ get_or xs i x) (y_is : y ≡ get_or ys i y) where
+  pub pair_more : R (f x) (g y) → AllZip R (map f (take i xs)) (map g (take i ys)) → AllZip R (map f (take (i + 1) xs)) (map g (take (i + 1) ys))
+  pair_more here before =
+      let more_left : map f (take (i + 1) xs) ≡ map f (take i xs) ++ f x ∷ [] =
+      map_more f xs i x left ∙ ap (λ z. map f (take i xs) ++ f z ∷ []) (sym x_is) in
+      let more_right : map g (take (i + 1) ys) ≡ map g (take i ys) ++ g y ∷ [] =
+      map_more g ys i y right ∙ ap (λ z. map g (take i ys) ++ g z ∷ []) (sym y_is) in
+      subst (λ zs. AllZip R zs (map g (take (i + 1) ys))) (sym more_left)
+      (subst (AllZip R (map f (take i xs) ++ f x ∷ [])) (sym more_right) (AllZip-push R (map f (take i xs)) (map g (take i ys)) (f x) (g y) before here))
+
+  pub pair_fails : (R (f x) (g y) → ⊥) → AllZip R (map f xs) (map g ys) → ⊥
+  pair_fails fails h =
+      let left_is : get_or (map f xs) i (f x) ≡ f x = get_or-map f xs i x (f x) left ∙ ap f (sym x_is) in
+      let right_is : get_or (map g ys) i (g y) ≡ g y = get_or-map g ys i y (g y) right ∙ ap g (sym y_is) in
+      let inside : i < length (map f xs) = subst (λ n. i < n) (sym (length-map xs f)) left in
+      fails (subst (λ z. R z (g y)) left_is (subst (R (get_or (map f xs) i (f x))) right_is (AllZip-get_or R (map f xs) (map g ys) i (f x) (g y) h inside)))
+
 -- ---- a search through a list, where a test tells P
 element_at : {X : Type 0} (xs : List X) (k : ℕ) → k < length xs → (x : X) × (get_or xs k x ≡ x)
 element_at [] k below = absurd (omega arith)

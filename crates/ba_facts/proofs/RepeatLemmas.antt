@@ -1,148 +1,103 @@
--- What a search may pass over.
-use Rattle.std.proofs.Common.{◌≡◌, ℕ, ◌+◌, ◌<◌, ◌≤◌, ◌⊎◌, inl, inr, List, [], ◌∷◌, ◌++◌, map, sym, subst, arith}
-use Rattle.std.specs.List.{Any}
-use Rattle.std.specs.Prelude.{Option, Some, None}
-use Rattle.ba_model.specs.declared.query.Part.{Part}
-use Rattle.ba_facts.proofs.AlikeLemmas.{at_most_round, completes_instead, fact_alike, has_instead, head_instead, instead, round_instead}
-use Rattle.ba_facts.proofs.PlaceLemmas.{upto}
-use Rattle.ba_facts.proofs.SearchingLemmas.{none_more, not_answered, pruned}
-use Rattle.ba_facts.specs.Matches.{IsFactOf, LeastRound, round_of, terms_at}
-use Rattle.ba_facts.specs.Searching.{Completes, FailsAt, HasAtomBelow, HasAtomFrom, HasEarlier, HasEither, IsAnsweredBelow, IsLate, round_at}
-use Rattle.ba_facts.specs.declared.branch.Branch.{Branch}
-use Rattle.ba_facts.specs.declared.matches.search.Wanted.{Wanted}
-use Rattle.ba_facts.specs.declared.term.Side.{Side}
+-- The walk that looks for a row that some facts give, and what it passes over.
+use Rattle.std.proofs.Common.{◌≡◌, ℕ, ◌⊎◌, inl, inr, List, [], ◌∷◌, ◌++◌, length, refl, sym, subst}
+use Rattle.std.specs.List.{AllZip}
+use Rattle.std.specs.Prelude.{Option}
+use Rattle.ba_facts.proofs.AlikeLemmas.{completes_instead, fact_alike, head_instead, instead}
+use Rattle.ba_facts.proofs.FrontLemmas.{front_lost}
+use Rattle.ba_facts.proofs.WalkLemmas.{answered_from, by_cases, by_every, by_last, by_one, completes_last, composes_by, earlier_in, is_answered, last_completes, meets_last, next_completes, pruned}
+use Rattle.ba_facts.specs.Matches.{AreTheSame, IsAnswered, IsFactOf, row_of}
+use Rattle.ba_facts.specs.Walks.{AreMet, CantGive, Completes, CompletesBy, Composes, HasEarlier, IsAnsweredFrom, IsSpared, NoneAnswers, every}
 use Rattle.ba_facts.specs.declared.term.Term.{Term}
-use Rattle.ba_facts.specs.declared.term.TermAtom.{TermAtom}
+use Rattle.ba_facts.specs.declared.walk.Walk.{Walk}
+use Rattle.ba_facts.specs.declared.walk.Wanted.TheVariants.{Shown}
 
-module _ (b : Branch) (side : Side) (part : Part) (wanted : Wanted) (table : ℕ) (from chosen : List ℕ) (number : ℕ) where
-  -- some atom fails over the chosen facts and this one
-  abbrev IsHopeless : Type 0
-  IsHopeless = Any (FailsAt b.known wanted (map (terms_at b) (chosen ++ number ∷ []))) part.conds
+module _ (w : Walk) (row : List (Option Term)) where
+  abbrev Gives : List ℕ → Type 0
+  Gives facts = AllZip (AreTheSame w.branch.now.known) (row_of w.branch.now facts w.part.now.head) row
 
-  -- ---- a row that is there already
-  module _ (row : List (Option Term)) where
-    abbrev Answered : ℕ → Type 0
-    Answered = IsAnsweredBelow b side part wanted row table from chosen
+  abbrev By : List ℕ → List ℕ → List ℕ → List ℕ → Type 0
+  By = CompletesBy w.branch.now w.side w.part.now w.wanted
 
-    none_repeated : HasEarlier b number → (Answered number → ⊥) → Answered (number + 1) → ⊥
-    none_repeated e before h = elim (upto h.completes.number number h.completes.below) [
-      | inl less ↦
-          before (
-          record {
-            facts = h.facts;
-            completes = record { number = h.completes.number; below = less; fact = h.completes.fact; completes = h.completes.completes };
-            head = h.head;
-          })
-      | inr same ↦
-          let here : Completes b side part wanted from (chosen ++ number ∷ []) h.facts =
-          subst (λ n. Completes b side part wanted from (chosen ++ n ∷ []) h.facts) same h.completes.completes in
-          before (
-          record {
-            facts = instead b number e.other e.as_well.alike side part wanted from chosen h.facts here;
-            completes = record {
-              number = e.other;
-              below = e.below;
-              fact = fact_alike b number e.other e.as_well.alike side table (subst (IsFactOf b side table) same h.completes.fact);
-              completes = completes_instead b number e.other e.as_well.alike side part wanted from chosen h.facts here;
-            };
-            head = head_instead b number e.other e.as_well.alike side part wanted from chosen h.facts here row h.head;
-          })
-    ]
+  abbrev Nowhere : List ℕ → List ℕ → List ℕ → Type 0
+  Nowhere = NoneAnswers w.branch.now w.side w.part.now w.wanted row
 
-    pub none_needless : (deeper : List ℕ) → deeper ≡ chosen ++ number ∷ [] →
-        Any (FailsAt b.known wanted (map (terms_at b) deeper)) part.conds ⊎ HasEarlier b number → (Answered number → ⊥) → Answered (number + 1) → ⊥
-    none_needless deeper are (inl fails) before h =
-        none_more b side part wanted table from chosen row number deeper are (not_answered b side part wanted row from deeper fails) before h
-    none_needless deeper are (inr e) before h = none_repeated e before h
+  pub answers_compose : {S E : Type 0} →
+      Composes {S = S} {E = E} w.branch.now w.side (λ from chosen numbers. numbers ≡ every w.branch.now)
+      (λ from chosen numbers old new. NoneAnswers w.branch.now w.side w.part.now w.wanted row from chosen numbers)
+      (λ from chosen stop. IsAnsweredFrom w.branch.now w.side w.part.now w.wanted row from chosen)
+  answers_compose {S} {E} =
+      composes_by {S = S} {E = E} w.branch.now w.side w.part.now w.wanted (λ P old new. (facts : List ℕ) → P facts → Gives facts → ⊥)
+      (λ P now none facts p. absurd (none facts p))
+      (λ P Q T old now new to too cases p q facts t. elim (cases facts t) [ inl it ↦ p facts it | inr it ↦ q facts it ])
+      (λ from chosen stop. IsAnsweredFrom w.branch.now w.side w.part.now w.wanted row from chosen)
+      (λ table rest chosen n stop fact h.
+      record { facts = h.facts; completes = next_completes w.branch.now w.side w.part.now w.wanted table rest chosen n h.facts fact h.completes; head = h.head })
 
-  -- ---- the least round
-  module _ (row : Option (List Term)) (atom : TermAtom) where
-    abbrev Below : ℕ → List ℕ → Type 0
-    Below = HasAtomBelow b side part wanted row atom table from chosen
+  -- the row can't be given by facts that complete the chosen ones
+  pub lost : (from chosen facts : List ℕ) → CantGive w row chosen → Completes w.branch.now w.side w.part.now w.wanted from chosen facts → Gives facts → ⊥
+  lost from chosen facts (inl fails) h head = pruned w.branch.now w.side w.part.now w.wanted from chosen fails facts h
+  lost from chosen facts (inr other) h head = front_lost w.branch.now w.side w.part.now w.wanted from chosen facts h row other head
 
-    abbrev At : List ℕ → Type 0
-    At = HasAtomFrom b side part wanted row atom from (chosen ++ number ∷ [])
+  module _ (number : ℕ) (from chosen front before after : List ℕ) (split : chosen ≡ front ++ number ∷ [])
+      (offered : before ++ number ∷ after ≡ every w.branch.now) where
+    repeated : (table : ℕ) → HasEarlier w.branch.now number → Nowhere (table ∷ from) front before → (facts : List ℕ) →
+        IsFactOf w.branch.now w.side table number → Completes w.branch.now w.side w.part.now w.wanted from (front ++ number ∷ []) facts → Gives facts → ⊥
+    repeated table e none facts fact here head =
+        none (instead w.branch.now number e.other e.as_well.alike w.side w.part.now w.wanted from front facts here)
+        (by_one w.branch.now w.side w.part.now w.wanted table from front before e.other
+        (instead w.branch.now number e.other e.as_well.alike w.side w.part.now w.wanted from front facts here)
+        (earlier_in before after (length w.branch.now.facts) number e.other offered e.below)
+        (fact_alike w.branch.now number e.other e.as_well.alike w.side table fact)
+        (completes_instead w.branch.now number e.other e.as_well.alike w.side w.part.now w.wanted from front facts here))
+        (head_instead w.branch.now number e.other e.as_well.alike w.side w.part.now w.wanted from front facts here row head)
 
-    wider : (facts : List ℕ) → Below number facts → Below (number + 1) facts
-    wider facts h =
-        let below : h.number < number = h.below in
-        record { number = h.number; below = omega arith; fact = h.fact; has = h.has }
+    passed : (table : ℕ) → CantGive w row chosen ⊎ HasEarlier w.branch.now number → Nowhere (table ∷ from) front before → (facts : List ℕ) →
+        IsFactOf w.branch.now w.side table number → Completes w.branch.now w.side w.part.now w.wanted from (front ++ number ∷ []) facts → Gives facts → ⊥
+    passed table (inl cant) none facts fact here head = lost from (front ++ number ∷ []) facts (subst (CantGive w row) split cant) here head
+    passed table (inr e) none facts fact here head = repeated table e none facts fact here head
 
-    -- those of the bound, or this fact is in them
-    before_or_here : (facts : List ℕ) → Below (number + 1) facts → Below number facts ⊎ (IsFactOf b side table number × At facts)
-    before_or_here facts h = elim (upto h.number number h.below) [
-      | inl below ↦ inl (let it : Below number facts = record { number = h.number; below = below; fact = h.fact; has = h.has } in it)
-      | inr same ↦
-          inr (subst (IsFactOf b side table) same h.fact, subst (λ n. HasAtomFrom b side part wanted row atom from (chosen ++ n ∷ []) facts) same h.has)
-    ]
+  pub row_spared : {S : Type 0} (from chosen : List ℕ) (number : ℕ) (tried : List ℕ) (now : S) → CantGive w row chosen ⊎ HasEarlier w.branch.now number →
+      IsSpared (λ front numbers. numbers ≡ every w.branch.now)
+      (λ front numbers old new. NoneAnswers w.branch.now w.side w.part.now w.wanted row from front numbers) chosen number tried now
+  row_spared from chosen number tried now why front before after start split offered among none = at from none
+    where
+      at : (from : List ℕ) → Nowhere from front before → Nowhere from front (before ++ number ∷ [])
+      at [] none facts h = none facts (by_last w.branch.now w.side w.part.now w.wanted front (before ++ number ∷ []) facts h before)
+      at (table ∷ from) none facts h = elim (by_cases w.branch.now w.side w.part.now w.wanted table from front before number facts h) [
+        | inl old ↦ none facts old
+        | inr here ↦ passed number from chosen front before after split offered table why none facts here.0 (here.1).completes
+      ]
 
-    -- others without this fact are of no later a round
-    record IsMatched (facts : List ℕ) : Type 0 where
-      others : List ℕ
-      before : Below number others
-      no_later : round_of b others ≤ round_of b facts
+  pub none_here : (chosen numbers : List ℕ) → (IsAnsweredFrom w.branch.now w.side w.part.now w.wanted row [] chosen → ⊥) → Nowhere [] chosen numbers
+  none_here chosen numbers fails facts h head = fails (record { facts = facts; completes = h.completes; head = head })
 
-    least_passed : ((facts : List ℕ) → IsFactOf b side table number → At facts → IsMatched facts) → (least : Option ℕ) → LeastRound b (Below number) least →
-        LeastRound b (Below (number + 1)) least
-    least_passed matched None h = λ facts below. elim (before_or_here facts below) [
-      | inl before ↦ h facts before
-      | inr here ↦ let it = matched facts here.0 here.1 in h it.others it.before
-    ]
-    least_passed matched (Some n) h = record {
-      facts = h.facts;
-      holds = wider h.facts h.holds;
-      round_is = h.round_is;
-      least = λ facts below. elim (before_or_here facts below) [
-        | inl before ↦ h.least facts before
-        | inr here ↦
-            let it = matched facts here.0 here.1 in
-            let least : n ≤ round_of b it.others = h.least it.others it.before in
-            let most : round_of b it.others ≤ round_of b facts = it.no_later in
-            omega arith
-      ];
-    }
+  pub answered_here : (chosen : List ℕ) → Gives chosen → AreMet w chosen → IsAnsweredFrom w.branch.now w.side w.part.now w.wanted row [] chosen
+  answered_here chosen head meets =
+      record { facts = chosen; completes = last_completes w.branch.now w.side w.part.now w.wanted chosen meets; head = head }
 
-    least_repeated : HasEarlier b number → (HasEither b atom number → ⊥) → (facts : List ℕ) → IsFactOf b side table number → At facts → IsMatched facts
-    least_repeated e none facts fact here = record {
-      others = instead b number e.other e.as_well.alike side part wanted from chosen facts here.completes;
-      before = record {
-        number = e.other;
-        below = e.below;
-        fact = fact_alike b number e.other e.as_well.alike side table fact;
-        has = record {
-          completes = completes_instead b number e.other e.as_well.alike side part wanted from chosen facts here.completes;
-          has = has_instead b number e.other e.as_well.alike side part wanted from chosen facts here.completes atom none row here.has;
-        };
-      };
-      no_later = round_instead b number e.other e.as_well.alike side part wanted from chosen facts here.completes e.as_well.no_later;
-    }
+  pub gives_here : (chosen : List ℕ) → IsAnsweredFrom w.branch.now w.side w.part.now w.wanted row [] chosen → Gives chosen
+  gives_here chosen h = subst Gives (completes_last w.branch.now w.side w.part.now w.wanted chosen h.facts h.completes) h.head
 
-    pub least_needless : (deeper : List ℕ) (least last : Option ℕ) → last ≡ least → deeper ≡ chosen ++ number ∷ [] →
-        Any (FailsAt b.known wanted (map (terms_at b) deeper)) part.conds ⊎ (HasEarlier b number × (HasEither b atom number → ⊥)) →
-        LeastRound b (Below number) least → LeastRound b (Below (number + 1)) last
-    least_needless deeper least last same are (inl fails) h =
-        let here : IsHopeless = subst (λ xs. Any (FailsAt b.known wanted (map (terms_at b) xs)) part.conds) are fails in
-        subst (LeastRound b (Below (number + 1))) (sym same)
-        (least_passed (λ facts fact has. absurd (pruned b side part wanted from (chosen ++ number ∷ []) here facts has.completes)) least h)
-    least_needless deeper least last same are (inr (e, none)) h =
-        subst (LeastRound b (Below (number + 1))) (sym same) (least_passed (least_repeated e none) least h)
+  pub met_here : (chosen : List ℕ) → IsAnsweredFrom w.branch.now w.side w.part.now w.wanted row [] chosen → AreMet w chosen
+  met_here chosen h = meets_last w.branch.now w.side w.part.now w.wanted chosen h.facts h.completes
 
-    -- the fact is of no round before the least so far
-    pub least_late : (least last : Option ℕ) → last ≡ least → IsLate b least number → LeastRound b (Below number) least →
-        LeastRound b (Below (number + 1)) last
-    least_late None last same late h = absurd late
-    least_late (Some n) last same late h =
-        subst (LeastRound b (Below (number + 1))) (sym same)
-        (record {
-          facts = h.facts;
-          holds = wider h.facts h.holds;
-          round_is = h.round_is;
-          least = λ facts below. elim (before_or_here facts below) [
-            | inl before ↦ h.least facts before
-            | inr here ↦
-                let most : round_at b number ≤ round_of b facts =
-                subst (λ xs. round_at b number ≤ round_of b xs) (sym (here.1).completes.facts_are) (at_most_round b chosen (here.1).completes.rest number) in
-                let less : n ≤ round_at b number = late in
-                omega arith
-          ];
-        })
+-- the walk from the start
+module _ (w : Walk) (row : List (Option Term)) (shown : w.wanted ≡ Shown) where
+  from_answered : IsAnswered w.branch.now w.side w.part.now row → IsAnsweredFrom w.branch.now w.side w.part.now w.wanted row w.part.now.from []
+  from_answered h =
+      subst (λ wanted. IsAnsweredFrom w.branch.now w.side w.part.now wanted row w.part.now.from []) (sym shown)
+      (answered_from w.branch.now w.side w.part.now row w.part.now.from [] refl refl h)
+
+  pub answered_so : IsAnsweredFrom w.branch.now w.side w.part.now w.wanted row w.part.now.from [] → IsAnswered w.branch.now w.side w.part.now row
+  answered_so h =
+      is_answered w.branch.now w.side w.part.now row w.part.now.from [] refl refl
+      (subst (λ wanted. IsAnsweredFrom w.branch.now w.side w.part.now wanted row w.part.now.from []) shown h)
+
+  pub not_lost : CantGive w row [] → IsAnswered w.branch.now w.side w.part.now row → ⊥
+  not_lost cant h = let it = from_answered h in lost w row w.part.now.from [] it.facts cant it.completes it.head
+
+  pub not_nowhere : NoneAnswers w.branch.now w.side w.part.now w.wanted row w.part.now.from [] (every w.branch.now) →
+      IsAnswered w.branch.now w.side w.part.now row → ⊥
+  not_nowhere none h =
+      let it = from_answered h in
+      none it.facts (by_every w.branch.now w.side w.part.now w.wanted w.part.now.from [] it.facts it.completes) it.head

@@ -1,43 +1,19 @@
--- What each step of the search for the least round finds.
-use Rattle.std.proofs.Common.{◌≡◌, ◌∙◌, ℕ, ◌+◌, ◌<◌, ◌≤◌, ◌⊎◌, inl, inr, List, [], ◌∷◌, ◌++◌, length, map, sym, ap, subst}
-use Rattle.std.proofs.Common.{append_assoc, arith, get_or, take}
+-- The walk for the least round, and what it passes over.
+use Rattle.std.proofs.Common.{◌≡◌, ◌∙◌, ℕ, ◌<◌, ◌≤◌, ◌⊎◌, inl, inr, List, [], ◌∷◌, ◌++◌, length, map, refl, sym, ap, subst}
+use Rattle.std.proofs.Common.{arith}
 use Rattle.std.proofs.lemmas.Bool.{cases_lt}
-use Rattle.std.proofs.lemmas.List.{get_or-map, length-map, map_more}
-use Rattle.std.proofs.lemmas.List.Elements.{AllZip-get_or, AllZip-push}
-use Rattle.std.proofs.lemmas.Option.{slice_get_within}
-use Rattle.std.specs.List.{All, AllZip}
+use Rattle.std.specs.List.{All}
 use Rattle.std.specs.Prelude.{Option, Some, None, min}
-use Rattle.ba_model.specs.declared.query.Part.{Part}
-use Rattle.ba_facts.proofs.PlaceLemmas.{upto}
-use Rattle.ba_facts.proofs.SearchingLemmas.{completes_last, last_completes}
+use Rattle.ba_facts.proofs.AlikeLemmas.{at_most_round, completes_instead, fact_alike, has_instead, instead, round_instead}
+use Rattle.ba_facts.proofs.FrontLemmas.{atom_lost, row_lost}
+use Rattle.ba_facts.proofs.WalkLemmas.{by_cases, by_every, by_last, by_more, by_one, completes_last, composes_by, earlier_in, last_completes, meets_last, pruned}
 use Rattle.ba_facts.specs.Matches.{IsFactOf, IsLeastRound, IsLiveAtom, IsMapping, LeastRound, Under, round_of, terms_at}
-use Rattle.ba_facts.specs.Searching.{HasAtom, HasAtomBelow, HasAtomFrom, IsWanted, lesser}
+use Rattle.ba_facts.specs.Walks.{AreMet, Completes, Composes, HasAtom, HasAtomBy, IsAtMostRound, IsLate, IsPastHope, IsRepeated, IsRoundOf, IsSpared, IsWanted, Lowers, every, lesser, round_at}
 use Rattle.ba_facts.specs.declared.branch.Branch.{Branch}
-use Rattle.ba_facts.specs.declared.matches.search.Wanted.{Wanted}
-use Rattle.ba_facts.specs.declared.matches.search.Wanted.TheVariants.{Live}
-use Rattle.ba_facts.specs.declared.term.Side.{Side}
+use Rattle.ba_facts.specs.declared.walk.Walk.{Walk}
+use Rattle.ba_facts.specs.declared.walk.Wanted.TheVariants.{Live}
 use Rattle.ba_facts.specs.declared.term.Term.{Term}
 use Rattle.ba_facts.specs.declared.term.TermAtom.{TermAtom}
-
--- ---- a head and a row, place by place
-
-module _ {X Y Z : Type 0} (R : Z → Z → Type 0) (f : X → Z) (g : Y → Z) (xs : List X) (ys : List Y) (i : ℕ) (x : X) (y : Y) (left : i < length xs)
-    (right : i < length ys) (x_is : x ≡ get_or xs i x) (y_is : y ≡ get_or ys i y) where
-  pub pair_more : R (f x) (g y) → AllZip R (map f (take i xs)) (map g (take i ys)) → AllZip R (map f (take (i + 1) xs)) (map g (take (i + 1) ys))
-  pair_more here before =
-      let more_left : map f (take (i + 1) xs) ≡ map f (take i xs) ++ f x ∷ [] =
-      map_more f xs i x left ∙ ap (λ z. map f (take i xs) ++ f z ∷ []) (sym x_is) in
-      let more_right : map g (take (i + 1) ys) ≡ map g (take i ys) ++ g y ∷ [] =
-      map_more g ys i y right ∙ ap (λ z. map g (take i ys) ++ g z ∷ []) (sym y_is) in
-      subst (λ zs. AllZip R zs (map g (take (i + 1) ys))) (sym more_left)
-      (subst (AllZip R (map f (take i xs) ++ f x ∷ [])) (sym more_right) (AllZip-push R (map f (take i xs)) (map g (take i ys)) (f x) (g y) before here))
-
-  pub pair_fails : (R (f x) (g y) → ⊥) → AllZip R (map f xs) (map g ys) → ⊥
-  pair_fails fails h =
-      let left_is : get_or (map f xs) i (f x) ≡ f x = get_or-map f xs i x (f x) left ∙ ap f (sym x_is) in
-      let right_is : get_or (map g ys) i (g y) ≡ g y = get_or-map g ys i y (g y) right ∙ ap g (sym y_is) in
-      let inside : i < length (map f xs) = subst (λ n. i < n) (sym (length-map xs f)) left in
-      fails (subst (λ z. R z (g y)) left_is (subst (R (get_or (map f xs) i (f x))) right_is (AllZip-get_or R (map f xs) (map g ys) i (f x) (g y) h inside)))
 
 -- ---- the least of rounds
 
@@ -52,179 +28,223 @@ module _ (b : Branch) (P Q : List ℕ → Type 0) (to : (facts : List ℕ) → P
     least = λ others q. h.least others (back others q);
   }
 
--- the least of two kinds is the lesser of the least of each
-module _ (b : Branch) (P Q R : List ℕ → Type 0) (first : (facts : List ℕ) → P facts → R facts) (second : (facts : List ℕ) → Q facts → R facts)
-    (cases : (facts : List ℕ) → R facts → P facts ⊎ Q facts) where
-  least_of_two : (n m : ℕ) → IsLeastRound b P n → IsLeastRound b Q m → (n < m) ⊎ (m ≤ n) → IsLeastRound b R (min n m)
-  least_of_two n m h k (inl less) = record {
-    facts = h.facts;
-    holds = first h.facts h.holds;
-    round_is = let e : round_of b h.facts ≡ n = h.round_is in omega arith;
-    least = λ others r. elim (cases others r) [
-      | inl p ↦ let e : n ≤ round_of b others = h.least others p in omega arith
-      | inr q ↦ let e : m ≤ round_of b others = k.least others q in omega arith
+pub at_most_less : (o : Option ℕ) (n m : ℕ) → IsAtMostRound o n → n ≤ m → IsAtMostRound o m
+at_most_less None n m h less = h
+at_most_less (Some k) n m h less = let below : k ≤ n = h in omega arith
+
+at_most_kept : (now new : Option ℕ) (n : ℕ) → ((round : ℕ) → now ≡ Some round → IsAtMostRound new round) → IsAtMostRound now n → IsAtMostRound new n
+at_most_kept None new n keeps h = absurd h
+at_most_kept (Some k) new n keeps h = at_most_less new k n (keeps k refl) h
+
+late_most : (b : Branch) (o : Option ℕ) (number most : ℕ) → IsLate b o number → round_at b number ≤ most → IsAtMostRound o most
+late_most b None number most late less = late
+late_most b (Some k) number most late less = let below : k ≤ round_at b number = late in omega arith
+
+module _ (b : Branch) where
+  round_kept : (P Q : List ℕ → Type 0) → ((facts : List ℕ) → P facts → Q facts) → (o : Option ℕ) → IsRoundOf b P o → IsRoundOf b Q o
+  round_kept P Q to None h = h
+  round_kept P Q to (Some n) (facts, p, is) = (facts, to facts p, is)
+
+  pub lowers_none : (P : List ℕ → Type 0) (now : Option ℕ) → ((facts : List ℕ) → P facts → ⊥) → Lowers b P now now
+  lowers_none P now none = record {
+    from = inl refl;
+    keeps = λ round is. subst (λ o. IsAtMostRound o round) (sym is) (let same : round ≤ round = omega arith in same);
+    reaches = λ facts p. absurd (none facts p);
+  }
+
+  pub lowers_both : (P Q T : List ℕ → Type 0) (old now new : Option ℕ) → ((facts : List ℕ) → P facts → T facts) → ((facts : List ℕ) → Q facts → T facts) →
+      ((facts : List ℕ) → T facts → P facts ⊎ Q facts) → Lowers b P old now → Lowers b Q now new → Lowers b T old new
+  lowers_both P Q T old now new to too cases h k = record {
+    from = at h.from k.from;
+    keeps = λ round is. at_most_kept now new round k.keeps (h.keeps round is);
+    reaches = λ facts t. elim (cases facts t) [
+      | inl p ↦ at_most_kept now new (round_of b facts) k.keeps (h.reaches facts p)
+      | inr q ↦ k.reaches facts q
     ];
   }
-  least_of_two n m h k (inr most) = record {
-    facts = k.facts;
-    holds = second k.facts k.holds;
-    round_is = let e : round_of b k.facts ≡ m = k.round_is in omega arith;
-    least = λ others r. elim (cases others r) [
-      | inl p ↦ let e : n ≤ round_of b others = h.least others p in omega arith
-      | inr q ↦ let e : m ≤ round_of b others = k.least others q in omega arith
+    where
+      at : (now ≡ old) ⊎ IsRoundOf b P now → (new ≡ now) ⊎ IsRoundOf b Q new → (new ≡ old) ⊎ IsRoundOf b T new
+      at p (inr of) = inr (round_kept Q T too new of)
+      at (inl before) (inl same) = inl (same ∙ before)
+      at (inr of) (inl same) = inr (subst (IsRoundOf b T) (sym same) (round_kept P T to now of))
+
+  -- what is added is of no lesser a round than the round now, or than others that are P
+  pub lowers_on : (P T : List ℕ → Type 0) (old now : Option ℕ) → ((facts : List ℕ) → P facts → T facts) →
+      ((facts : List ℕ) → T facts → ((others : List ℕ) × P others × (round_of b others ≤ round_of b facts)) ⊎ IsAtMostRound now (round_of b facts)) →
+      Lowers b P old now → Lowers b T old now
+  lowers_on P T old now to matched h = record {
+    from = elim h.from [ inl same ↦ inl same | inr of ↦ inr (round_kept P T to now of) ];
+    keeps = h.keeps;
+    reaches = λ facts t. elim (matched facts t) [
+      | inl (others, p, less) ↦ at_most_less now (round_of b others) (round_of b facts) (h.reaches others p) less
+      | inr most ↦ most
     ];
   }
 
-  pub least_of_both : (o p : Option ℕ) → LeastRound b P o → LeastRound b Q p → LeastRound b R (lesser o p)
-  least_of_both None None h k = λ facts r. elim (cases facts r) [ inl p ↦ h facts p | inr q ↦ k facts q ]
-  least_of_both None (Some m) h k = record {
-    facts = k.facts;
-    holds = second k.facts k.holds;
-    round_is = k.round_is;
-    least = λ others r. elim (cases others r) [ inl p ↦ absurd (h others p) | inr q ↦ k.least others q ];
-  }
-  least_of_both (Some n) None h k = record {
-    facts = h.facts;
-    holds = first h.facts h.holds;
-    round_is = h.round_is;
-    least = λ others r. elim (cases others r) [ inl p ↦ h.least others p | inr q ↦ absurd (k others q) ];
-  }
-  least_of_both (Some n) (Some m) h k = least_of_two n m h k (cases_lt n m)
+  lesser_from : (P : List ℕ → Type 0) (facts : List ℕ) → P facts → (n m : ℕ) → m ≡ round_of b facts → (n < m) ⊎ (m ≤ n) →
+      (Some (min n m) ≡ Some n) ⊎ ((facts : List ℕ) × P facts × (round_of b facts ≡ min n m))
+  lesser_from P facts p n m is (inl less) = inl (ap Some (omega arith))
+  lesser_from P facts p n m is (inr most) = inr (facts, p, omega (arith, is, most))
 
--- ---- the search
-
-module _ (b : Branch) (side : Side) (part : Part) (wanted : Wanted) (row : Option (List Term)) (atom : TermAtom) where
-  -- no table is left
-  pub least_chosen : (chosen : List ℕ) (round : ℕ) → round ≡ round_of b chosen →
-      All (Under (IsWanted b.known wanted) (map (terms_at b) chosen)) part.conds → HasAtom b part row atom chosen →
-      IsLeastRound b (HasAtomFrom b side part wanted row atom [] chosen) round
-  least_chosen chosen round is meets has = record {
-    facts = chosen;
-    holds = record { completes = last_completes b side part wanted chosen meets; has = has };
-    round_is = sym is;
-    least = λ others h.
-        subst (λ xs. round ≤ round_of b xs) (sym (completes_last b side part wanted chosen others h.completes))
-        (let e : round ≤ round_of b chosen = omega arith in e);
-  }
-
-  -- a table is left: one of its facts is chosen
-  module _ (table : ℕ) (from chosen : List ℕ) where
-    abbrev Below : ℕ → List ℕ → Type 0
-    Below = HasAtomBelow b side part wanted row atom table from chosen
-
-    abbrev At : ℕ → List ℕ → Type 0
-    At number = HasAtomFrom b side part wanted row atom from (chosen ++ number ∷ [])
-
-    abbrev From : List ℕ → Type 0
-    From = HasAtomFrom b side part wanted row atom (table ∷ from) chosen
-
-    -- none is below 0
-    pub least_start : (facts : List ℕ) → Below 0 facts → ⊥
-    least_start facts h = let none : h.number < 0 = h.below in absurd (omega arith)
-
-    wider : (number : ℕ) (facts : List ℕ) → Below number facts → Below (number + 1) facts
-    wider number facts h =
-        let below : h.number < number = h.below in
-        record { number = h.number; below = omega arith; fact = h.fact; has = h.has }
-
-    -- the fact isn't one of the table
-    narrower : (number : ℕ) → (IsFactOf b side table number → ⊥) → (facts : List ℕ) → Below (number + 1) facts → Below number facts
-    narrower number other facts h = elim (upto h.number number h.below) [
-      | inl below ↦ record { number = h.number; below = below; fact = h.fact; has = h.has }
-      | inr same ↦ absurd (other (subst (IsFactOf b side table) same h.fact))
-    ]
-
-    pub least_skipped : (number : ℕ) (least last : Option ℕ) → last ≡ least → (IsFactOf b side table number → ⊥) → LeastRound b (Below number) least →
-        LeastRound b (Below (number + 1)) last
-    least_skipped number least last same other h =
-        subst (LeastRound b (Below (number + 1))) (sym same)
-        (least_same b (Below number) (Below (number + 1)) (wider number) (narrower number other) least h)
-
-    -- the fact is one of the table
-    here : (number : ℕ) → IsFactOf b side table number → (facts : List ℕ) → At number facts → Below (number + 1) facts
-    here number fact facts h = record { number = number; below = omega arith; fact = fact; has = h }
-
-    before_or_here : (number : ℕ) (facts : List ℕ) → Below (number + 1) facts → Below number facts ⊎ At number facts
-    before_or_here number facts h = elim (upto h.number number h.below) [
-      | inl below ↦ inl (let it : Below number facts = record { number = h.number; below = below; fact = h.fact; has = h.has } in it)
-      | inr same ↦ inr (subst (λ n. At n facts) same h.has)
-    ]
-
-    pub least_more : (number : ℕ) (deeper : List ℕ) (least found last : Option ℕ) → last ≡ lesser least found → IsFactOf b side table number →
-        deeper ≡ chosen ++ number ∷ [] → LeastRound b (Below number) least →
-        LeastRound b (HasAtomFrom b side part wanted row atom from deeper) found → LeastRound b (Below (number + 1)) last
-    least_more number deeper least found last same fact are before now =
-        subst (LeastRound b (Below (number + 1))) (sym same)
-        (least_of_both b (Below number) (At number) (Below (number + 1)) (wider number) (here number fact) (before_or_here number) least found before
-        (subst (λ xs. LeastRound b (HasAtomFrom b side part wanted row atom from xs) found) are now))
-
-    -- all facts are looked at
-    from_below : (facts : List ℕ) → Below (length b.facts) facts → From facts
-    from_below facts h =
-        let it = h.has.completes in
-        record {
-          completes = record {
-            rest = h.number ∷ it.rest;
-            facts_are = it.facts_are ∙ append_assoc chosen (h.number ∷ []) it.rest;
-            facts_of = (h.fact, it.facts_of);
-            meets = it.meets;
-          };
-          has = h.has.has;
-        }
-
-    below_from : (facts : List ℕ) → From facts → Below (length b.facts) facts
-    below_from facts h = at h.completes.rest h.completes.facts_are h.completes.facts_of
-      where
-        at : (rest : List ℕ) → facts ≡ chosen ++ rest → IsMapping b side (table ∷ from) rest → Below (length b.facts) facts
-        at [] are of = absurd of
-        at (number ∷ rest) are of = record {
-          number = number;
-          below = slice_get_within b.facts number (of.0).fact (of.0).there;
-          fact = of.0;
-          has = record {
-            completes = record {
-              rest = rest;
-              facts_are = are ∙ sym (append_assoc chosen (number ∷ []) rest);
-              facts_of = of.1;
-              meets = h.completes.meets;
-            };
-            has = h.has;
-          };
-        }
-
-    pub least_all : (whole : List ℕ) (bound : ℕ) (least : Option ℕ) → whole ≡ table ∷ from → bound ≡ length b.facts →
-        LeastRound b (Below bound) least → LeastRound b (HasAtomFrom b side part wanted row atom whole chosen) least
-    least_all whole bound least split all h =
-        subst (λ xs. LeastRound b (HasAtomFrom b side part wanted row atom xs chosen) least) (sym split)
-        (least_same b (Below (length b.facts)) From from_below below_from least (subst (λ n. LeastRound b (Below n) least) all h))
-
--- the search from the start
-module _ (b : Branch) (side : Side) (part : Part) (row : Option (List Term)) (atom : TermAtom) (from chosen : List ℕ) (whole : from ≡ part.from)
-    (none : chosen ≡ []) where
-  live : (facts : List ℕ) → HasAtomFrom b side part Live row atom from chosen facts → IsLiveAtom b side part row atom facts
-  live facts h =
-      let it = h.completes in
-      record {
-        live = record {
-          facts_of = subst (IsMapping b side part.from) (sym (it.facts_are ∙ ap (λ xs. xs ++ it.rest) none))
-              (subst (λ xs. IsMapping b side xs it.rest) whole it.facts_of);
-          live = it.meets;
-        };
-        head = h.has.head;
-        stands = h.has.stands;
+  pub lowers_one : (P : List ℕ → Type 0) (chosen : List ℕ) (old new : Option ℕ) (round : ℕ) → new ≡ lesser old round → round ≡ round_of b chosen → P chosen →
+      ((facts : List ℕ) → P facts → facts ≡ chosen) → Lowers b P old new
+  lowers_one P chosen old new round is round_is p only = subst (Lowers b P old) (sym is) (at old)
+    where
+      at : (old : Option ℕ) → Lowers b P old (lesser old round)
+      at None = record {
+        from = inr (chosen, p, sym round_is);
+        keeps = λ n e. cc;
+        reaches = λ facts q. subst (λ xs. round ≤ round_of b xs) (sym (only facts q)) (let same : round ≤ round_of b chosen = omega (arith, round_is) in same);
+      }
+      at (Some n) = record {
+        from = lesser_from P chosen p n round round_is (cases_lt n round);
+        keeps = λ m e. let same : n ≡ m = cc in (let less : min n round ≤ m = omega (arith, same) in less);
+        reaches = λ facts q.
+            subst (λ xs. min n round ≤ round_of b xs) (sym (only facts q)) (let less : min n round ≤ round_of b chosen = omega (arith, round_is) in less);
       }
 
-  found : (facts : List ℕ) → IsLiveAtom b side part row atom facts → HasAtomFrom b side part Live row atom from chosen facts
-  found facts h = record {
-    completes = record {
-      rest = facts;
-      facts_are = sym (ap (λ xs. xs ++ facts) none);
-      facts_of = subst (λ xs. IsMapping b side xs facts) (sym whole) h.live.facts_of;
-      meets = h.live.live;
-    };
-    has = record { head = h.head; stands = h.stands };
-  }
+  pub least_lowered : (P : List ℕ → Type 0) (new : Option ℕ) → Lowers b P None new → LeastRound b P new
+  least_lowered P None h = h.reaches
+  least_lowered P (Some n) h = at h.from
+    where
+      at : (Some n ≡ None) ⊎ IsRoundOf b P (Some n) → IsLeastRound b P n
+      at (inl same) = cc
+      at (inr of) = record { facts = of.0; holds = of.1; round_is = of.2; least = h.reaches }
 
-  pub least_live : (least : Option ℕ) → LeastRound b (HasAtomFrom b side part Live row atom from chosen) least →
-      LeastRound b (IsLiveAtom b side part row atom) least
-  least_live least h = least_same b (HasAtomFrom b side part Live row atom from chosen) (IsLiveAtom b side part row atom) live found least h
+-- ---- the walk
+
+module _ (w : Walk) (row : Option (List Term)) (atom : TermAtom) where
+  abbrev By : List ℕ → List ℕ → List ℕ → List ℕ → Type 0
+  By = HasAtomBy w.branch.now w.side w.part.now w.wanted row atom
+
+  abbrev Has : List ℕ → Type 0
+  Has = HasAtom w.branch.now w.part.now row atom
+
+  pub rounds_compose : {E : Type 0} →
+      Composes {S = Option ℕ} {E = E} w.branch.now w.side (λ from chosen numbers. numbers ≡ every w.branch.now)
+      (λ from chosen numbers old new. Lowers w.branch.now (HasAtomBy w.branch.now w.side w.part.now w.wanted row atom from chosen numbers) old new)
+      (λ from chosen stop. ⊥)
+  rounds_compose {E} =
+      composes_by {S = Option ℕ} {E = E} w.branch.now w.side w.part.now w.wanted (λ P old new. Lowers w.branch.now (λ facts. P facts × Has facts) old new)
+      (λ P now none. lowers_none w.branch.now (λ facts. P facts × Has facts) now (λ facts p. none facts p.0))
+      (λ P Q T old now new to too cases h k.
+      lowers_both w.branch.now (λ facts. P facts × Has facts) (λ facts. Q facts × Has facts) (λ facts. T facts × Has facts) old now new
+      (λ facts p. (to facts p.0, p.1)) (λ facts q. (too facts q.0, q.1))
+      (λ facts t. elim (cases facts t.0) [ inl p ↦ inl (p, t.1) | inr q ↦ inr (q, t.1) ]) h k)
+      (λ from chosen stop. ⊥) (λ table rest chosen n stop fact h. h)
+
+  -- facts that complete the chosen ones can't have the row and the atom
+  pub past_hope : (from chosen facts : List ℕ) → IsPastHope w row atom chosen → Completes w.branch.now w.side w.part.now w.wanted from chosen facts → Has facts → ⊥
+  past_hope from chosen facts (inl fails) h has = pruned w.branch.now w.side w.part.now w.wanted from chosen fails facts h
+  past_hope from chosen facts (inr (inl other)) h has = row_lost w.branch.now w.side w.part.now w.wanted from chosen facts h row other has.head
+  past_hope from chosen facts (inr (inr none)) h has = atom_lost w.branch.now w.side w.part.now w.wanted from chosen facts h atom none has.stands
+
+  abbrev IsPassed : Option ℕ → ℕ → List ℕ → Type 0
+  IsPassed now number chosen = IsLate w.branch.now now number ⊎ (IsPastHope w row atom chosen ⊎ IsRepeated w.branch.now atom number)
+
+  module _ (number : ℕ) (now : Option ℕ) (chosen front before after : List ℕ) (split : chosen ≡ front ++ number ∷ [])
+      (offered : before ++ number ∷ after ≡ every w.branch.now) (table : ℕ) (from facts : List ℕ) (fact : IsFactOf w.branch.now w.side table number)
+      (h : Completes w.branch.now w.side w.part.now w.wanted from (front ++ number ∷ []) facts) (has : Has facts) where
+    abbrev IsMatched : Type 0
+    IsMatched =
+        ((others : List ℕ) × By (table ∷ from) front before others × (round_of w.branch.now others ≤ round_of w.branch.now facts)) ⊎
+        IsAtMostRound now (round_of w.branch.now facts)
+
+    matched : IsPassed now number chosen → IsMatched
+    matched (inl late) =
+        inr (late_most w.branch.now now number (round_of w.branch.now facts) late
+        (subst (λ xs. round_at w.branch.now number ≤ round_of w.branch.now xs) (sym h.facts_are) (at_most_round w.branch.now front h.rest number)))
+    matched (inr (inl past)) = absurd (past_hope from (front ++ number ∷ []) facts (subst (IsPastHope w row atom) split past) h has)
+    matched (inr (inr (e, none))) =
+        inl (
+          instead w.branch.now number e.other e.as_well.alike w.side w.part.now w.wanted from front facts h,
+          (
+            by_one w.branch.now w.side w.part.now w.wanted table from front before e.other
+                (instead w.branch.now number e.other e.as_well.alike w.side w.part.now w.wanted from front facts h)
+                (earlier_in before after (length w.branch.now.facts) number e.other offered e.below)
+                (fact_alike w.branch.now number e.other e.as_well.alike w.side table fact)
+                (completes_instead w.branch.now number e.other e.as_well.alike w.side w.part.now w.wanted from front facts h),
+            has_instead w.branch.now number e.other e.as_well.alike w.side w.part.now w.wanted from front facts h atom none row has,
+          ),
+          round_instead w.branch.now number e.other e.as_well.alike w.side w.part.now w.wanted from front facts h e.as_well.no_later,
+        )
+
+  pub atom_spared : (from chosen : List ℕ) (number : ℕ) (tried : List ℕ) (now : Option ℕ) → IsPassed now number chosen →
+      IsSpared (λ front numbers. numbers ≡ every w.branch.now)
+      (λ front numbers old new. Lowers w.branch.now (HasAtomBy w.branch.now w.side w.part.now w.wanted row atom from front numbers) old new) chosen number tried now
+  atom_spared from chosen number tried now why front before after start split offered among h = at from h
+    where
+      itself : (xs : List ℕ) → round_of w.branch.now xs ≤ round_of w.branch.now xs
+      itself xs = omega arith
+
+      at : (from : List ℕ) → Lowers w.branch.now (By from front before) start now → Lowers w.branch.now (By from front (before ++ number ∷ [])) start now
+      at [] h =
+          lowers_on w.branch.now (By [] front before) (By [] front (before ++ number ∷ [])) start now
+          (λ facts p. (by_last w.branch.now w.side w.part.now w.wanted front before facts p.0 (before ++ number ∷ []), p.1))
+          (λ facts t. inl (facts, (by_last w.branch.now w.side w.part.now w.wanted front (before ++ number ∷ []) facts t.0 before, t.1), itself facts)) h
+      at (table ∷ from) h =
+          lowers_on w.branch.now (By (table ∷ from) front before) (By (table ∷ from) front (before ++ number ∷ [])) start now
+          (λ facts p. (by_more w.branch.now w.side w.part.now w.wanted table from front before number facts p.0, p.1))
+          (λ facts t. elim (by_cases w.branch.now w.side w.part.now w.wanted table from front before number facts t.0) [
+            | inl old ↦ inl (facts, (old, t.1), itself facts)
+            | inr here ↦ matched number now chosen front before after split offered table from facts here.0 (here.1).completes t.1 why
+          ]) h
+
+  -- no table is left
+  pub lowers_here : (chosen numbers : List ℕ) (old new : Option ℕ) (round : ℕ) → new ≡ lesser old round → round ≡ round_of w.branch.now chosen → AreMet w chosen →
+      Has chosen → Lowers w.branch.now (By [] chosen numbers) old new
+  lowers_here chosen numbers old new round is round_is meets has =
+      lowers_one w.branch.now (By [] chosen numbers) chosen old new round is round_is (
+        by_last w.branch.now w.side w.part.now w.wanted chosen (every w.branch.now) chosen
+            (by_every w.branch.now w.side w.part.now w.wanted [] chosen chosen (last_completes w.branch.now w.side w.part.now w.wanted chosen meets)) numbers,
+        has,
+      )
+      (λ facts it. completes_last w.branch.now w.side w.part.now w.wanted chosen facts (it.0).completes)
+
+  pub lowers_not_met : (chosen numbers : List ℕ) (now : Option ℕ) → (AreMet w chosen → ⊥) → Lowers w.branch.now (By [] chosen numbers) now now
+  lowers_not_met chosen numbers now fails =
+      lowers_none w.branch.now (By [] chosen numbers) now
+      (λ facts it. fails (meets_last w.branch.now w.side w.part.now w.wanted chosen facts (it.0).completes))
+
+  pub lowers_not_had : (chosen numbers : List ℕ) (now : Option ℕ) → (Has chosen → ⊥) → Lowers w.branch.now (By [] chosen numbers) now now
+  lowers_not_had chosen numbers now fails =
+      lowers_none w.branch.now (By [] chosen numbers) now
+      (λ facts it. fails (subst Has (completes_last w.branch.now w.side w.part.now w.wanted chosen facts (it.0).completes) it.1))
+
+-- the walk from the start
+module _ (w : Walk) (row : Option (List Term)) (atom : TermAtom) (live : w.wanted ≡ Live) where
+  abbrev From : List ℕ → Type 0
+  From = HasAtomBy w.branch.now w.side w.part.now w.wanted row atom w.part.now.from [] (every w.branch.now)
+
+  abbrev OfLive : List ℕ → Type 0
+  OfLive = IsLiveAtom w.branch.now w.side w.part.now row atom
+
+  to_live : (facts : List ℕ) → From facts → OfLive facts
+  to_live facts (by, has) =
+      let it = by.completes in
+      record {
+        live = record {
+          facts_of = subst (IsMapping w.branch.now w.side w.part.now.from) (sym it.facts_are) it.facts_of;
+          live = subst (λ wanted. All (Under (IsWanted w.branch.now.known wanted) (map (terms_at w.branch.now) facts)) w.part.now.conds) live it.meets;
+        };
+        head = has.head;
+        stands = has.stands;
+      }
+
+  from_live : (facts : List ℕ) → OfLive facts → From facts
+  from_live facts h = (
+    by_every w.branch.now w.side w.part.now w.wanted w.part.now.from [] facts (
+        record {
+          rest = facts;
+          facts_are = refl;
+          facts_of = h.live.facts_of;
+          meets = subst (λ wanted. All (Under (IsWanted w.branch.now.known wanted) (map (terms_at w.branch.now) facts)) w.part.now.conds) (sym live) h.live.live;
+        }),
+    record { head = h.head; stands = h.stands },
+  )
+
+  pub least_live : (least : Option ℕ) → Lowers w.branch.now From None least → LeastRound w.branch.now OfLive least
+  least_live least h = least_same w.branch.now From OfLive to_live from_live least (least_lowered w.branch.now From least h)
+
+  pub least_lost : IsPastHope w row atom [] → LeastRound w.branch.now OfLive None
+  least_lost past facts h = let it = from_live facts h in past_hope w row atom w.part.now.from [] facts past (it.0).completes it.1

@@ -14,7 +14,8 @@ IsApart (Holds atom) = atom.op ≡ Ne
 
 -- the place of each inequality is one of these
 abbrev pub AreListed : List Lesson → List ℕ → Type 0
-AreListed lessons places = (n : ℕ) (lesson : Lesson) → slice_get lessons n ≡ Some lesson → IsApart lesson → Contains places n
+AreListed lessons places = (n : ℕ) (lesson : Lesson) → slice_get lessons n ≡ Some lesson →
+    IsApart lesson → Contains places n
 
 -- the lesson at the place is an `x <> y` of the two
 pub record TellsApartAt (k : Known) (place : ℕ) (a b : Term) : Type 0 where

@@ -66,13 +66,16 @@ database_of d e One = d
 database_of d e Two = e
 
 -- the terms' values are a row of the fact's table on its side
-pub record FactHolds (i : Instance) (values : List Value) (d e : RowSet) (fact : Fact) : Type 0 where
+pub record FactHolds (i : Instance) (values : List Value) (d e : RowSet)
+    (fact : Fact) : Type 0 where
   pub row : List Value
   pub terms : map (value_of_term i values) fact.terms ≡ map Some row
   pub there : Contains (rows_of (database_of d e fact.side) fact.table) row
 
--- both databases conform, and with these values for the unknowns the facts are rows of theirs, what was learned is true, and the goal row is r
-pub record FitsAt (s : Schema) (b : Branch) (i : Instance) (d e : RowSet) (r values : List Value) : Type 0 where
+-- both databases conform, and with these values for the unknowns the facts are rows of theirs, what
+-- was learned is true, and the goal row is r
+pub record FitsAt (s : Schema) (b : Branch) (i : Instance) (d e : RowSet)
+    (r values : List Value) : Type 0 where
   pub one : Conforms s d
   pub two : Conforms s e
   pub params : ContextFits b.params i.context
@@ -86,9 +89,10 @@ pub record FitsAt (s : Schema) (b : Branch) (i : Instance) (d e : RowSet) (r val
 abbrev pub Fits : Schema → Branch → Instance → RowSet → RowSet → List Value → Type 0
 Fits s b i d e r = (values : List Value) × FitsAt s b i d e r values
 
--- Two databases and a row that break strong compliance: both conform, e has the views' rows of d, d shows the trace, and the row is one of the query in d and not
--- in e.
-pub record Violation (policy : Policy) (c : Context) (trace : List TraceEntry) (q : Query) (d e : RowSet) (r : List Value) : Type 0 where
+-- Two databases and a row that break strong compliance: both conform, e has the views' rows of d, d
+-- shows the trace, and the row is one of the query in d and not in e.
+pub record Violation (policy : Policy) (c : Context) (trace : List TraceEntry) (q : Query)
+    (d e : RowSet) (r : List Value) : Type 0 where
   pub one : Conforms policy.schema d
   pub two : Conforms policy.schema e
   pub within : Within policy c d e

@@ -52,7 +52,8 @@ IsComparison NotNull = ⊥
 
 -- the term isn't NULL: by itself, or since it was recorded so
 pub data NotNullTerm (k : Known) : Term → Type 0 where
-  column : {n : ℕ} {sort : Sort} → slice_get k.unknowns n ≡ Some sort → sort.nullable ≡ false → NotNullTerm k (Unknown n)
+  column : {n : ℕ} {sort : Sort} → slice_get k.unknowns n ≡ Some sort → sort.nullable ≡ false →
+      NotNullTerm k (Unknown n)
   literal : {v : Value} → v ≢ Null → NotNullTerm k (Val v)
   param : {n : ℕ} → NotNullTerm k (Param n)
   var : {n : ℕ} → NotNullTerm k (Var n)
@@ -78,8 +79,8 @@ pub record DifferentLiterals (k : Known) (a b : Term) : Type 0 where
   pub right_in : OneClass k b (Val right)
   pub differ : left ≢ right
 
--- a step from one term to another that is at least so much greater: to one of its class, to one that it was learned to be at most or less than, or from one whole
--- number to another
+-- a step from one term to another that is at least so much greater: to one of its class, to one
+-- that it was learned to be at most or less than, or from one whole number to another
 pub data Rise (k : Known) : Term → ℤ → Term → Type 0 where
   within : {a b : Term} → OneClass k a b → Rise k a (pos 0) b
   at_most : {a b : Term} → Learned k Le a b → Rise k a (pos 0) b

@@ -13,7 +13,8 @@ unknowns_from start count = map Unknown (range_with_len start count)
 -- the facts' terms are the unknowns from the start up to the end
 abbrev pub AreLaid : ℕ → List Fact → ℕ → Type 0
 AreLaid start [] end = start ≡ end
-AreLaid start (fact ∷ facts) end = (fact.terms ≡ unknowns_from start (length fact.terms)) × AreLaid (start + length fact.terms) facts end
+AreLaid start (fact ∷ facts) end = (fact.terms ≡ unknowns_from start (length fact.terms))
+    × AreLaid (start + length fact.terms) facts end
 
 -- the terms of the branch's facts are its unknowns, fact by fact
 abbrev pub IsLaid : Branch → Type 0

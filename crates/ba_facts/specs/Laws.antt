@@ -60,43 +60,58 @@ pub record ValuesFit (i : Instance) (values : List Value) (atom : TermAtom) : Ty
 
 -- what is shown is true in every fit, where the sides' values fit
 abbrev pub ShownIsTrueOfValues : Type 0
-ShownIsTrueOfValues = (s : Schema) (b : Branch) (i : Instance) (d e : RowSet) (r values : List Value) (atom : TermAtom) →
-    FitsAt s b i d e r values → ValuesFit i values atom → Shows b.known atom → TermAtomHolds i values atom
+ShownIsTrueOfValues = (s : Schema) (b : Branch) (i : Instance) (d e : RowSet)
+    (r values : List Value) (atom : TermAtom) →
+    FitsAt s b i d e r values → ValuesFit i values atom → Shows b.known atom →
+    TermAtomHolds i values atom
 
 -- a term that is shown not null has no NULL as its value in a fit
 abbrev pub NotNullIsTrue : Type 0
-NotNullIsTrue = (s : Schema) (b : Branch) (i : Instance) (d e : RowSet) (r values : List Value) (x : Term) →
+NotNullIsTrue = (s : Schema) (b : Branch) (i : Instance) (d e : RowSet) (r values : List Value)
+    (x : Term) →
     FitsAt s b i d e r values → ShownNotNull b.known x → value_of_term i values x ≢ Some Null
 
 -- what is shown is true in every fit
 abbrev pub ShownIsTrue : Type 0
-ShownIsTrue = (s : Schema) (b : Branch) (i : Instance) (d e : RowSet) (r values : List Value) (atom : TermAtom) →
-    FitsAt s b i d e r values → TermAtomFits b atom → Shows b.known atom → TermAtomHolds i values atom
+ShownIsTrue = (s : Schema) (b : Branch) (i : Instance) (d e : RowSet) (r values : List Value)
+    (atom : TermAtom) →
+    FitsAt s b i d e r values → TermAtomFits b atom → Shows b.known atom →
+    TermAtomHolds i values atom
 
 -- what is refuted is false in every fit
 abbrev pub RefutedIsFalse : Type 0
-RefutedIsFalse = (s : Schema) (b : Branch) (i : Instance) (d e : RowSet) (r values : List Value) (atom : TermAtom) →
+RefutedIsFalse = (s : Schema) (b : Branch) (i : Instance) (d e : RowSet) (r values : List Value)
+    (atom : TermAtom) →
     FitsAt s b i d e r values → Refutes b.known atom → ¬ (TermAtomHolds i values atom)
 
 -- terms that are the same have one value in every fit
 abbrev pub SameIsTrue : Type 0
-SameIsTrue = (s : Schema) (b : Branch) (i : Instance) (d e : RowSet) (r values : List Value) (x y : Term) →
-    FitsAt s b i d e r values → TheSame b.known x y → value_of_term i values x ≡ value_of_term i values y
+SameIsTrue = (s : Schema) (b : Branch) (i : Instance) (d e : RowSet) (r values : List Value)
+    (x y : Term) →
+    FitsAt s b i d e r values → TheSame b.known x y →
+    value_of_term i values x ≡ value_of_term i values y
 
 -- an absurd branch has no fit
 abbrev pub AbsurdHasNoFit : Type 0
-AbsurdHasNoFit = (s : Schema) (b : Branch) (i : Instance) (d e : RowSet) (r : List Value) → Absurd b.known → ¬ (Fits s b i d e r)
+AbsurdHasNoFit = (s : Schema) (b : Branch) (i : Instance) (d e : RowSet) (r : List Value) →
+    Absurd b.known → ¬ (Fits s b i d e r)
 
 -- the branch with one thing more that was learned
 abbrev pub with_lesson : Branch → Lesson → Branch
-with_lesson b lesson = record b { known = record b.known { learned = b.known.learned ++ lesson ∷ [] } }
+with_lesson b lesson = record b {
+  known = record b.known
+      { learned = b.known.learned ++ lesson ∷ [] };
+}
 
 -- learning what is true keeps a fit
 abbrev pub TrueLessonKeepsFit : Type 0
-TrueLessonKeepsFit = (s : Schema) (b : Branch) (i : Instance) (d e : RowSet) (r values : List Value) (lesson : Lesson) →
-    FitsAt s b i d e r values → LessonHolds i values lesson → FitsAt s (with_lesson b lesson) i d e r values
+TrueLessonKeepsFit = (s : Schema) (b : Branch) (i : Instance) (d e : RowSet) (r values : List Value)
+    (lesson : Lesson) →
+    FitsAt s b i d e r values → LessonHolds i values lesson →
+    FitsAt s (with_lesson b lesson) i d e r values
 
 -- a query is strongly compliant exactly where no two databases and no row break that
 abbrev pub StrongHasNoViolation : Type 0
 StrongHasNoViolation = (policy : Policy) (c : Context) (trace : List TraceEntry) (q : Query) →
-    Strong policy c trace q ↔ ((d e : RowSet) (r : List Value) → ¬ (Violation policy c trace q d e r))
+    Strong policy c trace q ↔ ((d e : RowSet) (r : List Value) →
+    ¬ (Violation policy c trace q d e r))

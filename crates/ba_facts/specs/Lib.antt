@@ -5,7 +5,7 @@ pub mod Fits
 pub mod Laws
 pub mod Matches
 pub mod Alike
-pub mod Searching
+pub mod Walks
 pub mod Naming
 pub mod Grouping
 pub mod Marks

@@ -52,7 +52,12 @@ own_place (Param n) = None
 own_place (Var n) = None
 
 abbrev pub own_mark : List Sort → ℕ → Term → Mark
-own_mark unknowns number t = record { literals = own_literals number t; not_null = own_not_null unknowns t; place = own_place t }
+own_mark unknowns number t = record {
+  literals = own_literals number t;
+  not_null = own_not_null
+      unknowns t;
+  place = own_place t;
+}
 
 -- ---- of two classes that become one
 
@@ -76,7 +81,12 @@ both_places None b = b
 both_places (Some p) b = Some p
 
 abbrev pub both_marks : Mark → Mark → Mark
-both_marks a b = record { literals = both_literals a.literals b.literals; not_null = a.not_null || b.not_null; place = both_places a.place b.place }
+both_marks a b = record {
+  literals = both_literals a.literals b.literals;
+  not_null = a.not_null ||
+      b.not_null;
+  place = both_places a.place b.place;
+}
 
 -- ---- what a mark says of a term
 

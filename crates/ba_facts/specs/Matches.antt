@@ -27,13 +27,15 @@ terms_at b n = unwrap_or (option_map (λ fact. fact.terms) (slice_get b.facts n)
 
 -- the term that an operand stands for, where each place of a part has the terms of a fact
 abbrev pub term_of : List (List Term) → Operand → Option Term
-term_of rows (operands.Col place column) = option_and_then (λ row. slice_get row column) (slice_get rows place)
+term_of rows (operands.Col place column) = option_and_then (λ row. slice_get row column)
+    (slice_get rows place)
 term_of rows (operands.Val v) = Some (terms.Val v)
 term_of rows (operands.Param n) = Some (terms.Param n)
 term_of rows (operands.Var n) = Some (terms.Var n)
 
 -- of the atom's two terms this holds
-pub record Under (P : Op → Term → Term → Type 0) (rows : List (List Term)) (atom : Atom) : Type 0 where
+pub record Under (P : Op → Term → Term → Type 0) (rows : List (List Term))
+    (atom : Atom) : Type 0 where
   pub left : Term
   pub right : Term
   pub left_is : term_of rows atom.left ≡ Some left
@@ -57,11 +59,13 @@ abbrev pub IsLive : Known → List (List Term) → Atom → Type 0
 IsLive k rows atom = Under (IsLiveOf k) rows atom
 
 -- the first atom that isn't shown, if there is one
-pub record IsFirstHidden (k : Known) (rows : List (List Term)) (conds : List Atom) (n : ℕ) : Type 0 where
+pub record IsFirstHidden (k : Known) (rows : List (List Term)) (conds : List Atom)
+    (n : ℕ) : Type 0 where
   pub atom : Atom
   pub there : slice_get conds n ≡ Some atom
   pub hidden : ¬ (IsShown k rows atom)
-  pub before : (m : ℕ) (other : Atom) → m < n → slice_get conds m ≡ Some other → IsShown k rows other
+  pub before : (m : ℕ) (other : Atom) → m < n → slice_get conds m ≡ Some other →
+      IsShown k rows other
 
 abbrev pub IsUndecided : Known → List (List Term) → List Atom → Option ℕ → Type 0
 IsUndecided k rows conds None = All (IsShown k rows) conds
@@ -92,7 +96,8 @@ pub record IsMatch (b : Branch) (side : Side) (part : Part) (it : Mapping) : Typ
 pub record AreMatches (b : Branch) (side : Side) (part : Part) (found : List Mapping) : Type 0 where
   pub rising : IsStrictlySortedBy (slice_cmp nat_cmp) (map (λ it. it.facts) found)
   pub sound : All (IsMatch b side part) found
-  pub complete : (facts : List ℕ) → IsLiveMapping b side part facts → Contains (map (λ it. it.facts) found) facts
+  pub complete : (facts : List ℕ) → IsLiveMapping b side part facts →
+      Contains (map (λ it. it.facts) found) facts
 
 -- ---- rows that are there already
 
@@ -109,7 +114,8 @@ pub record AreTheSame (k : Known) (a b : Option Term) : Type 0 where
   pub same : TheSame k left right
 
 -- some facts of the side show all atoms of the part, and its head is the same as the row
-pub record IsAnswered (b : Branch) (side : Side) (part : Part) (row : List (Option Term)) : Type 0 where
+pub record IsAnswered (b : Branch) (side : Side) (part : Part)
+    (row : List (Option Term)) : Type 0 where
   pub facts : List ℕ
   pub facts_of : IsMapping b side part.from facts
   pub shown : All (IsShown b.known (map (terms_at b) facts)) part.conds
@@ -120,7 +126,8 @@ pub record IsAnswered (b : Branch) (side : Side) (part : Part) (row : List (Opti
 -- the greatest round of the facts of these numbers
 abbrev pub round_of : Branch → List ℕ → ℕ
 round_of b [] = 0
-round_of b (n ∷ facts) = max (unwrap_or (option_map (λ fact. fact.round) (slice_get b.facts n)) 0) (round_of b facts)
+round_of b (n ∷ facts) = max (unwrap_or (option_map (λ fact. fact.round) (slice_get b.facts n)) 0)
+    (round_of b facts)
 
 -- of the facts' terms the part's atom is this one
 pub record GivesAtom (rows : List (List Term)) (atom : TermAtom) (cond : Atom) : Type 0 where
@@ -131,10 +138,13 @@ pub record GivesAtom (rows : List (List Term)) (atom : TermAtom) (cond : Atom) :
 -- the part's head is the same as the row, where there is one
 abbrev pub HeadIs : Branch → Part → List ℕ → Option (List Term) → Type 0
 HeadIs b part facts None = Unit {0}
-HeadIs b part facts (Some row) = AllZip (AreTheSame b.known) (row_of b facts part.head) (map Some row)
+HeadIs b part facts (Some row) = AllZip (AreTheSame b.known) (row_of b facts part.head)
+    (map Some row)
 
--- a live mapping of the part to the side, with the row for its head, of which the atom is one of the atoms
-pub record IsLiveAtom (b : Branch) (side : Side) (part : Part) (row : Option (List Term)) (atom : TermAtom) (facts : List ℕ) : Type 0 where
+-- a live mapping of the part to the side, with the row for its head, of which the atom is one of
+-- the atoms
+pub record IsLiveAtom (b : Branch) (side : Side) (part : Part) (row : Option (List Term))
+    (atom : TermAtom) (facts : List ℕ) : Type 0 where
   pub live : IsLiveMapping b side part facts
   pub head : HeadIs b part facts row
   pub stands : Any (GivesAtom (map (terms_at b) facts) atom) part.conds

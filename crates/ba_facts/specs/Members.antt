@@ -23,4 +23,5 @@ pub record IsMemberBelow (terms : List Term) (merges : List (ℕ × ℕ)) (x end
 
 -- they are the unknowns with such numbers
 abbrev pub AreMembersBelow : List Term → List (ℕ × ℕ) → ℕ → ℕ → List ℕ → Type 0
-AreMembersBelow terms merges x end members = (u : ℕ) → Contains members u ↔ IsMemberBelow terms merges x end u
+AreMembersBelow terms merges x end members = (u : ℕ) → Contains members u
+    ↔ IsMemberBelow terms merges x end u

@@ -11,7 +11,8 @@ rise_fact p g q = record { low = p.node; gap = (g +ℤ p.offset) -ℤ q.offset; 
 -- the new facts are the old ones, and maybe that the two places are equal, which they show
 pub record Agrees (old new : List Difference) (p q : Place) : Type 0 where
   pub kept : (f : Difference) → Contains old f → Contains new f
-  pub only : (f : Difference) → Contains new f → Contains old f ⊎ ((f ≡ rise_fact p (pos 0) q) ⊎ (f ≡ rise_fact q (pos 0) p))
+  pub only : (f : Difference) → Contains new f → Contains old f
+      ⊎ ((f ≡ rise_fact p (pos 0) q) ⊎ (f ≡ rise_fact q (pos 0) p))
   pub equal : AreEqualPlaces new p q
 
 abbrev pub IsAgreed : List Difference → List Difference → Option Place → Option Place → Type 0

@@ -75,7 +75,8 @@ Shows k atom = ShowsOf k atom.op atom.left atom.right
 abbrev pub Refutes : Known → TermAtom → Type 0
 Refutes k atom = RefutesOf k atom.op atom.left atom.right
 
--- what is known can't be true: a class has two different literals, a class is null and not null, an inequality is of the same, or a chain rises back to where it began
+-- what is known can't be true: a class has two different literals, a class is null and not null, an
+-- inequality is of the same, or a chain rises back to where it began
 pub data Absurd (k : Known) : Type 0 where
   literals : {a : Term} → DifferentLiterals k a a → Absurd k
   null : {a : Term} → ShownNull k a → ShownNotNull k a → Absurd k

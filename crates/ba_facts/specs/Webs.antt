@@ -1,4 +1,5 @@
--- Numbered terms with their classes, marks and order, that they say what is known, and what else may come to be known.
+-- Numbered terms with their classes, marks and order, that they say what is known, and what else
+-- may come to be known.
 use Rattle.std.specs.Prelude.{◌≡◌, ◌≢◌, ℕ, ◌<◌, ◌≤◌, ◌^◌, ℤ, pos, ◌+ℤ◌, ◌-ℤ◌, ◌↔◌, ◌⊎◌, IsTrue, Bool, List, Contains, Some, slice_get, length}
 use Rattle.ba_model.specs.declared.query.Op.TheVariants.{Lt, Le}
 use Rattle.ba_model.specs.declared.value.Value.TheVariants.{Int}
@@ -21,11 +22,13 @@ pub record IsNumbered (terms : List Term) (t : Term) : Type 0 where
   pub there : slice_get terms number ≡ Some t
 
 -- the numbered terms are different and are there, and there are a class and a mark for each
-pub record IsNaming (k : Known) (terms : List Term) (classes : Merged) (marks : List Mark) : Type 0 where
+pub record IsNaming (k : Known) (terms : List Term) (classes : Merged)
+    (marks : List Mark) : Type 0 where
   pub few : length terms < 2 ^ 32
   pub roomy : length terms ≤ classes.terms
   pub marked : length terms ≤ length marks
-  pub distinct : (n m : ℕ) (t : Term) → slice_get terms n ≡ Some t → slice_get terms m ≡ Some t → n ≡ m
+  pub distinct : (n m : ℕ) (t : Term) → slice_get terms n ≡ Some t → slice_get terms m ≡ Some t →
+      n ≡ m
   pub there : (n : ℕ) (t : Term) → slice_get terms n ≡ Some t → IsThere k t
 
 -- ---- classes
@@ -57,13 +60,16 @@ abbrev pub HasTwoLiterals : Known → Type 0
 HasTwoLiterals k = (a : Term) × DifferentLiterals k a a
 
 -- each number's mark is that of its term's class, and what else isn't NULL is numbered
-pub record IsMarked (k : Known) (terms : List Term) (merges : List (ℕ × ℕ)) (marks : List Mark) (several : Bool) : Type 0 where
-  pub exact : (n : ℕ) (t : Term) (m : Mark) → slice_get terms n ≡ Some t → HasMark merges marks n m → IsMarkOf k terms t m
+pub record IsMarked (k : Known) (terms : List Term) (merges : List (ℕ × ℕ)) (marks : List Mark)
+    (several : Bool) : Type 0 where
+  pub exact : (n : ℕ) (t : Term) (m : Mark) → slice_get terms n ≡ Some t →
+      HasMark merges marks n m → IsMarkOf k terms t m
   pub noted : (t : Term) → NotNullTerm k t → IsTrue (own_not_null k.unknowns t) ⊎ IsNumbered terms t
   pub flag : IsTrue several ↔ HasTwoLiterals k
 
 -- the mark is that of the term's class, and the term is numbered
-pub record IsClassMark (terms : List Term) (merges : List (ℕ × ℕ)) (marks : List Mark) (a : Term) (m : Mark) : Type 0 where
+pub record IsClassMark (terms : List Term) (merges : List (ℕ × ℕ)) (marks : List Mark) (a : Term)
+    (m : Mark) : Type 0 where
   pub number : ℕ
   pub there : slice_get terms number ≡ Some a
   pub has_mark : HasMark merges marks number m
@@ -94,13 +100,15 @@ pub record IsShownFact (k : Known) (terms : List Term) (f : Difference) : Type 0
   pub chain : Chain k low f.gap high
 
 -- the number's class has a place equal to this one
-pub record IsPlacedAs (merges : List (ℕ × ℕ)) (marks : List Mark) (facts : List Difference) (n : ℕ) (p : Place) : Type 0 where
+pub record IsPlacedAs (merges : List (ℕ × ℕ)) (marks : List Mark) (facts : List Difference) (n : ℕ)
+    (p : Place) : Type 0 where
   pub place : Place
   pub has_place : HasPlace merges marks n place
   pub equal : AreEqualPlaces facts p place
 
 -- the two terms have numbers and places, and the facts show this of them
-pub record IsRaised (terms : List Term) (merges : List (ℕ × ℕ)) (marks : List Mark) (facts : List Difference) (a : Term) (g : ℤ) (b : Term) : Type 0 where
+pub record IsRaised (terms : List Term) (merges : List (ℕ × ℕ)) (marks : List Mark)
+    (facts : List Difference) (a : Term) (g : ℤ) (b : Term) : Type 0 where
   pub low : ℕ
   pub high : ℕ
   pub low_is : slice_get terms low ≡ Some a
@@ -112,21 +120,27 @@ pub record IsRaised (terms : List Term) (merges : List (ℕ × ℕ)) (marks : Li
   pub rises : RisesBy facts from g to
 
 -- the facts are of chains, and show the whole numbers and what was learned to be at most or less
-pub record IsOrdered (k : Known) (terms : List Term) (merges : List (ℕ × ℕ)) (marks : List Mark) (facts : List Difference) : Type 0 where
+pub record IsOrdered (k : Known) (terms : List Term) (merges : List (ℕ × ℕ)) (marks : List Mark)
+    (facts : List Difference) : Type 0 where
   pub shown : (f : Difference) → Contains facts f → IsShownFact k terms f
-  pub numbers : (n : ℕ) (c : ℤ) → slice_get terms n ≡ Some (Val (Int c)) → IsPlacedAs merges marks facts n (number_place c)
+  pub numbers : (n : ℕ) (c : ℤ) → slice_get terms n ≡ Some (Val (Int c)) →
+      IsPlacedAs merges marks facts n (number_place c)
   pub at_most : (a b : Term) → Learned k Le a b → IsRaised terms merges marks facts a (pos 0) b
   pub less : (a b : Term) → Learned k Lt a b → IsRaised terms merges marks facts a (pos 1) b
 
 -- ---- the place of any term
 
 -- a term has its class's place where it has a number, and else its own
-pub data PlaceOf (terms : List Term) (merges : List (ℕ × ℕ)) (marks : List Mark) : Term → Place → Type 0 where
-  by_class : {a : Term} {p : Place} (n : ℕ) → slice_get terms n ≡ Some a → HasPlace merges marks n p → PlaceOf terms merges marks a p
-  by_itself : {a : Term} {p : Place} → ((n : ℕ) → slice_get terms n ≢ Some a) → own_place a ≡ Some p → PlaceOf terms merges marks a p
+pub data PlaceOf (terms : List Term) (merges : List (ℕ × ℕ)) (marks : List Mark) : Term → Place →
+    Type 0 where
+  by_class : {a : Term} {p : Place} (n : ℕ) → slice_get terms n ≡ Some a →
+      HasPlace merges marks n p → PlaceOf terms merges marks a p
+  by_itself : {a : Term} {p : Place} → ((n : ℕ) → slice_get terms n ≢ Some a) →
+      own_place a ≡ Some p → PlaceOf terms merges marks a p
 
 -- the two terms have places, and the facts show this of them
-pub record AnyRise (terms : List Term) (merges : List (ℕ × ℕ)) (marks : List Mark) (facts : List Difference) (a : Term) (g : ℤ) (b : Term) : Type 0 where
+pub record AnyRise (terms : List Term) (merges : List (ℕ × ℕ)) (marks : List Mark)
+    (facts : List Difference) (a : Term) (g : ℤ) (b : Term) : Type 0 where
   pub from : Place
   pub to : Place
   pub low : PlaceOf terms merges marks a from
@@ -134,7 +148,8 @@ pub record AnyRise (terms : List Term) (merges : List (ℕ × ℕ)) (marks : Lis
   pub rises : RisesBy facts from g to
 
 -- the two terms have places, and each is shown to be at most the other
-pub record IsLevel (terms : List Term) (merges : List (ℕ × ℕ)) (marks : List Mark) (facts : List Difference) (a b : Term) : Type 0 where
+pub record IsLevel (terms : List Term) (merges : List (ℕ × ℕ)) (marks : List Mark)
+    (facts : List Difference) (a b : Term) : Type 0 where
   pub one : Place
   pub other : Place
   pub first : PlaceOf terms merges marks a one
@@ -145,13 +160,15 @@ pub record IsLevel (terms : List Term) (merges : List (ℕ × ℕ)) (marks : Lis
 -- ---- all of it
 
 -- the numbers, the classes and the marks say what is known
-pub record IsTerms (k : Known) (terms : List Term) (classes : Merged) (marks : List Mark) (several : Bool) : Type 0 where
+pub record IsTerms (k : Known) (terms : List Term) (classes : Merged) (marks : List Mark)
+    (several : Bool) : Type 0 where
   pub naming : IsNaming k terms classes marks
   pub linked : IsLinked k terms classes.merges
   pub marked : IsMarked k terms classes.merges marks several
 
 -- and the order too
-pub record IsWhole (k : Known) (terms : List Term) (classes : Merged) (marks : List Mark) (order : List Difference) (several : Bool) : Type 0 where
+pub record IsWhole (k : Known) (terms : List Term) (classes : Merged) (marks : List Mark)
+    (order : List Difference) (several : Bool) : Type 0 where
   pub terms_are : IsTerms k terms classes marks several
   pub ordered : IsOrdered k terms classes.merges marks order
 
@@ -200,5 +217,6 @@ pub record Raises (k l : Known) (a : Term) (g : ℤ) (b : Term) : Type 0 where
   pub extends : Extends k l
   pub equated : (t u : Term) → Equated l t u → Equated k t u
   pub new : Rise l a g b
-  pub at_most : (t u : Term) → Learned l Le t u → Learned k Le t u ⊎ ((t ≡ a) × (u ≡ b) × (g ≡ pos 0))
+  pub at_most : (t u : Term) → Learned l Le t u → Learned k Le t u
+      ⊎ ((t ≡ a) × (u ≡ b) × (g ≡ pos 0))
   pub less : (t u : Term) → Learned l Lt t u → Learned k Lt t u ⊎ ((t ≡ a) × (u ≡ b) × (g ≡ pos 1))

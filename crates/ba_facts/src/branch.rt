@@ -29,7 +29,13 @@ pub struct Branch {
 impl Branch {
     /// A branch without facts, of which nothing is known, and with an empty goal row.
     pub fn new(alloc: Global, params: List<Kind>, vars: List<Kind>) -> Result<Branch, AllocError>
-        ensures { IfOk result (λ it. it ≡ record { params = params; vars = vars; known = record { unknowns = []; learned = [] }; facts = []; goal = [] }) }
+        ensures { IfOk result (λ it. it ≡ record {
+          params = params;
+          vars = vars;
+          known = record { unknowns = []; learned = [] };
+          facts = [];
+          goal = [];
+        }) }
     {
         Ok(Branch {
             params: Shared::new(alloc, params)?,
@@ -51,8 +57,16 @@ impl Branch {
         round: u32,
     ) -> Result<(), AllocError>
         ensures ok { OnOk result (self.new ≡ record self.old {
-          known = record self.old.known { unknowns = self.old.known.unknowns ++ map sort_of columns.now };
-          facts = self.old.facts ++ record { side = side; table = table; terms = map Term.Unknown (range_with_len (length self.old.known.unknowns) (length columns.now)); round = round } ∷ [];
+          known = record self.old.known {
+            unknowns = self.old.known.unknowns ++ map sort_of columns.now;
+          };
+          facts = self.old.facts ++ record {
+            side = side;
+            table = table;
+            terms = map Term.Unknown
+                (range_with_len (length self.old.known.unknowns) (length columns.now));
+            round = round;
+          } ∷ [];
         }) }
         ensures err { OnErr result (self.new ≡ self.old) }
     {
@@ -75,8 +89,8 @@ impl Branch {
         }
     }
 
-    /// The number of the fact that the unknown is a term of, if it is one of a fact's. The newest facts
-    /// are looked at first.
+    /// The number of the fact that the unknown is a term of, if it is one of a fact's. The newest
+    /// facts are looked at first.
     pub fn holder(&self, unknown: u32) -> Option<usize>
         requires { IsLaid self.now }
         ensures { IsHolder self.now.facts unknown result }
@@ -93,7 +107,8 @@ impl Branch {
     }
 
     fn drop_last_fact(&mut self, alloc: Global)
-        ensures { self.new ≡ record self.old { facts = take (length self.old.facts - 1) self.old.facts } }
+        ensures { self.new ≡
+            record self.old { facts = take (length self.old.facts - 1) self.old.facts } }
     {
         let mut facts = mem::replace(&mut self.facts, List::new(alloc)).into_vec();
         facts.pop();
@@ -155,7 +170,8 @@ impl Branch {
         self.known.least_of(unknown)
     }
 
-    /// The greatest number by which the one term is shown to be less than the other, if any is shown.
+    /// The greatest number by which the one term is shown to be less than the other, if any is
+    /// shown.
     pub fn bound(&self, low: &Term, high: &Term) -> Option<i128>
         requires { ¬ (Absurd self.now.known) }
         ensures { IsBound self.now.known low.now high.now result }

@@ -21,7 +21,8 @@ pub(crate) enum Found<'a> {
 /// Those of a term alone.
 pub(crate) fn own_found<'a>(a: TermRef<'a>) -> Found<'a>
     ensures { (k : Known) →
-        ((b : Term) → OneClass k (seen a.entry) b → seen a.entry ≡ b) → AreFound k (seen a.entry) result }
+        ((b : Term) → OneClass k (seen a.entry) b → seen a.entry ≡ b) →
+        AreFound k (seen a.entry) result }
 {
     match a {
         TermRef::Val(value) => Found::One(value),

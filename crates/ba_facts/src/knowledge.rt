@@ -34,7 +34,8 @@ impl Model for Knowledge {
 
     ghost view = { λ k. record { unknowns = k.unknowns.items; learned = k.learned } };
 
-    ghost invariant = { λ k. IsWeb (record { unknowns = k.unknowns.items; learned = k.learned }) k.web };
+    ghost invariant = { λ k. IsWeb (record { unknowns = k.unknowns.items; learned = k.learned })
+        k.web };
 }
 
 impl Knowledge {
@@ -73,7 +74,8 @@ impl Knowledge {
     /// New unknowns, one for each column, numbered on from those that were there. Without memory
     /// nothing changes.
     pub fn add_unknowns(&mut self, columns: &[Column]) -> Result<(), AllocError>
-        ensures ok { OnOk result (self.new ≡ record self.old { unknowns = self.old.unknowns ++ map sort_of columns.now }) }
+        ensures ok { OnOk result (self.new ≡ record self.old
+            { unknowns = self.old.unknowns ++ map sort_of columns.now }) }
         ensures err { OnErr result (self.new ≡ self.old) }
     {
         let alloc = *self.unknowns.allocator();
@@ -85,7 +87,8 @@ impl Knowledge {
     /// Adds what was learned, with all that follows from it. Without memory nothing changes.
     pub fn learn(&mut self, lesson: Lesson) -> Result<(), AllocError>
         requires { LessonIsThere self.old lesson }
-        ensures ok { OnOk result (self.new ≡ record self.old { learned = self.old.learned ++ lesson ∷ [] }) }
+        ensures ok { OnOk result (self.new ≡ record self.old
+            { learned = self.old.learned ++ lesson ∷ [] }) }
         ensures err { OnErr result (self.new ≡ self.old) }
     {
         let alloc = *self.unknowns.allocator();
@@ -122,8 +125,8 @@ impl Knowledge {
         self.web.members(alloc, a)
     }
 
-    /// Whether what is the same as the term is sure to be of its class. It may be even where this says
-    /// no.
+    /// Whether what is the same as the term is sure to be of its class. It may be even where this
+    /// says no.
     pub fn is_only_class(&self, a: TermRef<'_>) -> bool
         ensures { IsTrue result → IsOnlyClass self.now (seen a.entry) }
     {
@@ -177,7 +180,8 @@ impl Knowledge {
         unknown
     }
 
-    /// The greatest number by which the one term is shown to be less than the other, if any is shown.
+    /// The greatest number by which the one term is shown to be less than the other, if any is
+    /// shown.
     pub fn bound(&self, low: TermRef<'_>, high: TermRef<'_>) -> Option<i128>
         requires { ¬ (IsRising self.now) }
         ensures { IsBound self.now (seen low.entry) (seen high.entry) result }

@@ -24,10 +24,12 @@ mod same;
 mod shared_order;
 mod shown;
 mod term;
+mod walk;
 mod web;
 
 pub use branch::Branch;
 pub use knowledge::Knowledge;
-pub use matches::is_due;
+pub use matches::numbers_of;
 pub use number::{number_after, number_of};
 pub use term::{Fact, Lesson, Mapping, Side, Sort, Term, TermAtom, TermRef};
+pub use walk::{Offered, Visit, Walk, Wanted};

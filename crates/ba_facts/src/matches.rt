@@ -3,18 +3,19 @@ ghost use Rattle.ba_model.specs.Limits.{most_part_tables};
 ghost use Rattle.ba_facts.specs.Known.{seen};
 ghost use Rattle.ba_facts.specs.Matches.{AreMatches, IsAnswered, IsLiveAtom, IsLiveOf, IsShown, IsUndecided, LeastRound, row_of, term_of, terms_at};
 
-mod atoms;
+mod answered;
+mod gather;
 mod repeats;
 mod rounds;
-mod search;
 
 use crate::branch::Branch;
+use crate::matches::answered::{Answered, GivenRow};
+use crate::matches::gather::Gather;
 use crate::matches::rounds::GivenAtom;
-use crate::matches::search::{GivenRow, Search, Wanted};
 use crate::term::{Mapping, Side, Term, TermAtom, TermRef};
-use arrayvec::ArrayVec;
-pub use atoms::is_due;
-use ba_model::{Atom, List, Op, Operand, Part};
+use crate::walk::{Walk, Wanted};
+use ba_model::{Atom, List, MAX_PART_TABLES, Op, Operand, Part};
+pub use gather::numbers_of;
 use std::alloc::{AllocError, Global};
 
 impl Branch {
@@ -30,15 +31,18 @@ impl Branch {
     ) -> Result<List<Mapping>, AllocError>
         ensures { IfOk result (AreMatches self.now side part.now) }
     {
-        let search = Search {
+        let walk = Walk {
             branch: self,
             side,
             part,
             wanted: Wanted::Live,
         };
-        let mut chosen = Vec::new(alloc);
         let mut found = Vec::new(alloc);
-        search.gather(alloc, part.from.as_slice(), &mut chosen, &mut found)?;
+        if walk.is_hopeless(&[]) {
+            return Ok(List::from_vec(found));
+        }
+        let mut chosen = vec![in alloc; 0; part.from.len()]?;
+        walk.visit(&Gather { alloc }, &mut chosen, &mut found)?;
         Ok(List::from_vec(found))
     }
 
@@ -59,7 +63,7 @@ impl Branch {
     }
 
     /// The term in a column of the fact of a number, if it is there.
-    fn term_at(&self, number: usize, column: u32) -> Option<TermRef<'_>>
+    pub(crate) fn term_at(&self, number: usize, column: u32) -> Option<TermRef<'_>>
         ensures { option_map seen result ≡ slice_get (terms_at self.now number) column }
     {
         match self.facts.find(number) {
@@ -73,7 +77,8 @@ impl Branch {
 
     /// The part's first atom that isn't shown of the facts' terms, by its number.
     pub fn undecided(&self, part: &Part, facts: &[u32]) -> Option<usize>
-        ensures { IsUndecided self.now.known (map (terms_at self.now) facts.now) part.now.conds result }
+        ensures { IsUndecided self.now.known (map (terms_at self.now) facts.now) part.now.conds
+            result }
     {
         self.first_hidden(part.conds.as_slice(), facts)
     }
@@ -92,7 +97,8 @@ impl Branch {
 
     /// Whether the atom is shown of the facts' terms.
     fn shows_of(&self, facts: &[u32], atom: &Atom) -> bool
-        ensures { IsTrue result ↔ IsShown self.now.known (map (terms_at self.now) facts.now) atom.now }
+        ensures { IsTrue result ↔ IsShown self.now.known
+            (map (terms_at self.now) facts.now) atom.now }
     {
         match (
             self.term_of(facts, &atom.left),
@@ -103,8 +109,8 @@ impl Branch {
         }
     }
 
-    /// Whether an `=` is shown of the two terms, or another comparison isn't refuted: the condition of
-    /// a live mapping for each atom.
+    /// Whether an `=` is shown of the two terms, or another comparison isn't refuted: the condition
+    /// of a live mapping for each atom.
     pub fn is_live(&self, op: Op, left: TermRef<'_>, right: TermRef<'_>) -> bool
         ensures { IsTrue result ↔ IsLiveOf self.now.known op (seen left.entry) (seen right.entry) }
     {
@@ -122,16 +128,24 @@ impl Branch {
     /// as a row, which is given as operands over other facts.
     pub fn is_answered(&self, part: &Part, side: Side, operands: &[Operand], facts: &[u32]) -> bool
         requires { length part.now.from ≤ most_part_tables }
-        ensures { IsTrue result ↔ IsAnswered self.now side part.now (row_of self.now facts.now operands.now) }
+        ensures { IsTrue result ↔ IsAnswered self.now side part.now
+            (row_of self.now facts.now operands.now) }
     {
-        let search = Search {
+        let walk = Walk {
             branch: self,
             side,
             part,
             wanted: Wanted::Shown,
         };
         let row = GivenRow { operands, facts };
-        search.finds(part.from.as_slice(), &mut ArrayVec::new(), &row)
+        if row.is_lost(&walk, &[]) {
+            return false;
+        }
+        let mut chosen = [0; MAX_PART_TABLES];
+        match walk.visit(&row, &mut chosen[..part.from.len()], &mut ()) {
+            Ok(()) => false,
+            Err(Answered) => true,
+        }
     }
 
     /// The least round of the live mappings of the part to facts of the side of which the atom is
@@ -145,15 +159,24 @@ impl Branch {
         atom: &TermAtom,
     ) -> Option<u32>
         requires { length part.now.from ≤ most_part_tables }
-        ensures { LeastRound self.now (IsLiveAtom self.now side part.now (option_copied row.entry) atom.now) result }
+        ensures { LeastRound self.now (IsLiveAtom self.now side part.now
+            (option_copied row.entry) atom.now) result }
     {
-        let search = Search {
+        let walk = Walk {
             branch: self,
             side,
             part,
             wanted: Wanted::Live,
         };
         let given = GivenAtom { row, atom };
-        search.least_from(part.from.as_slice(), &mut ArrayVec::new(), &given)
+        if given.is_lost(&walk, &[]) {
+            return None;
+        }
+        let mut least = None;
+        let mut chosen = [0; MAX_PART_TABLES];
+        match walk.visit(&given, &mut chosen[..part.from.len()], &mut least) {
+            Ok(()) => least,
+            Err(never) => match never {},
+        }
     }
 }

@@ -177,7 +177,8 @@ impl Names {
     /// The value of a number's term, if it is a literal.
     pub(crate) fn value(&self, n: u32) -> Option<&Value>
         requires { n < length self.now }
-        ensures { (v : Value) → slice_get self.now n ≡ Some (Term.Val v) → option_copied result ≡ Some v }
+        ensures { (v : Value) → slice_get self.now n ≡ Some (Term.Val v) →
+            option_copied result ≡ Some v }
     {
         match &self.terms[n as usize] {
             Term::Val(value) => Some(value),

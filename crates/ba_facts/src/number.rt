@@ -1,5 +1,5 @@
-//! Numbers of 32 bits. No memory is taken for them: exactly a number past 32 bits is told as want of
-//! memory.
+//! Numbers of 32 bits. No memory is taken for them: exactly a number past 32 bits is told as want
+//! of memory.
 ghost use Rattle.std.specs.Prelude.{◌≡◌, ◌+◌, ◌≤◌, ◌^◌, IfErr, IfOk};
 
 use std::alloc::AllocError;

@@ -20,7 +20,8 @@ pub(crate) fn rises(order: &SharedOrder, low: Place, gap: u32, high: Place) -> b
 
 /// Whether what is at the one place is shown to be at most what is at the other, and back.
 pub(crate) fn are_level(order: &SharedOrder, one: Place, other: Place) -> bool
-    ensures { IsTrue result ↔ (RisesBy order.now one (pos 0) other × RisesBy order.now other (pos 0) one) }
+    ensures { IsTrue result ↔
+        (RisesBy order.now one (pos 0) other × RisesBy order.now other (pos 0) one) }
 {
     rises(order, one, 0, other) && rises(order, other, 0, one)
 }

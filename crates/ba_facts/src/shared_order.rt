@@ -58,7 +58,8 @@ impl SharedOrder {
     ) -> Result<(), AllocError>
         requires above { neg_ℤ (pos (2 ^ 65)) ≤ℤ gap }
         requires below { gap ≤ℤ pos (2 ^ 65) }
-        ensures ok { OnOk result (self.new ≡ self.old ++ record { low = low; gap = gap; high = high } ∷ []) }
+        ensures ok { OnOk result (self.new ≡ self.old
+            ++ record { low = low; gap = gap; high = high } ∷ []) }
         ensures err { OnErr result (self.new ≡ self.old) }
     {
         match &mut self.filled {
@@ -97,7 +98,8 @@ fn add_to(
 ) -> Result<(), AllocError>
     requires above { neg_ℤ (pos (2 ^ 65)) ≤ℤ gap }
     requires below { gap ≤ℤ pos (2 ^ 65) }
-    ensures ok { OnOk result (order.new ≡ order.old ++ record { low = low; gap = gap; high = high } ∷ []) }
+    ensures ok { OnOk result (order.new ≡ order.old
+        ++ record { low = low; gap = gap; high = high } ∷ []) }
     ensures err { OnErr result (order.new ≡ order.old) }
 {
     match order.get_mut() {

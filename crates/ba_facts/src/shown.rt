@@ -71,7 +71,8 @@ impl Knowledge {
 
     // Whether `x` and `y` are the same as the two, one way or the other.
     fn are_the_two(&self, x: TermRef<'_>, y: TermRef<'_>, a: TermRef<'_>, b: TermRef<'_>) -> bool
-        ensures { IsTrue result ↔ AreTheTwo self.now (seen x.entry) (seen y.entry) (seen a.entry) (seen b.entry) }
+        ensures { IsTrue result ↔ AreTheTwo self.now (seen x.entry) (seen y.entry) (seen a.entry)
+            (seen b.entry) }
     {
         (self.same(a, x) && self.same(b, y)) || (self.same(a, y) && self.same(b, x))
     }

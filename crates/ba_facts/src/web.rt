@@ -100,7 +100,8 @@ impl Web {
         ensures numbers { (n : ℕ) (t : Term) →
             slice_get self.old.names n ≡ Some t → slice_get self.new.names n ≡ Some t }
         ensures kept { (k : Known) →
-            k.unknowns ≡ unknowns.now → IsThere k (seen term.entry) → IsWeb k self.old → IsWeb k self.new }
+            k.unknowns ≡ unknowns.now → IsThere k (seen term.entry) → IsWeb k self.old →
+            IsWeb k self.new }
     {
         match self.names.find(term) {
             Some(number) => Ok(number),
@@ -119,7 +120,8 @@ impl Web {
         ensures numbers { (n : ℕ) (t : Term) →
             slice_get self.old.names n ≡ Some t → slice_get self.new.names n ≡ Some t }
         ensures kept { (k : Known) →
-            k.unknowns ≡ unknowns.now → IsThere k (seen term.entry) → IsWeb k self.old → IsWeb k self.new }
+            k.unknowns ≡ unknowns.now → IsThere k (seen term.entry) → IsWeb k self.old →
+            IsWeb k self.new }
     {
         let number = next_number(self.names.len())?;
         self.classes.make_room(alloc, number)?;
@@ -170,7 +172,8 @@ impl Web {
         requires numbered { x < length self.old.names }
         ensures names { self.new.names ≡ self.old.names }
         ensures place { HasPlace self.new.classes.merges self.new.marks.items x result }
-        ensures places { (n : ℕ) (p : Place) → HasPlace self.old.classes.merges self.old.marks.items n p →
+        ensures places { (n : ℕ) (p : Place) → HasPlace self.old.classes.merges self.old.marks.items
+            n p →
             HasPlace self.new.classes.merges self.new.marks.items n p }
         ensures kept { (k : Known) → IsWeb k self.old → IsWeb k self.new }
     {
@@ -200,7 +203,8 @@ impl Web {
         requires right { y < length self.old.names }
         ensures ok { OnOk result ((k h l : Known) (a b : Term) →
             slice_get self.old.names x ≡ Some a → slice_get self.old.names y ≡ Some b →
-            Denies k h a → Denies h l b → Raises k l a (pos gap) b → IsWeb k self.old → IsWeb l self.new) }
+            Denies k h a → Denies h l b → Raises k l a (pos gap) b → IsWeb k self.old →
+            IsWeb l self.new) }
         ensures err { OnErr result ((k : Known) → IsWeb k self.old → IsWeb k self.new) }
     {
         let low = self.place(x);
@@ -221,10 +225,12 @@ impl Web {
     ) -> Result<(), AllocError>
         requires { AreThere self.old unknowns.now (seen a) (seen b) }
         ensures ok { OnOk result ((k l : Known) → k.unknowns ≡ unknowns.now →
-            IsThere k (seen a.entry) → IsThere k (seen b.entry) → Joins k l (seen a.entry) (seen b.entry) →
+            IsThere k (seen a.entry) → IsThere k (seen b.entry) →
+            Joins k l (seen a.entry) (seen b.entry) →
             IsWeb k self.old → IsWeb l self.new) }
         ensures err { OnErr result ((k : Known) → k.unknowns ≡ unknowns.now →
-            IsThere k (seen a.entry) → IsThere k (seen b.entry) → IsWeb k self.old → IsWeb k self.new) }
+            IsThere k (seen a.entry) → IsThere k (seen b.entry) → IsWeb k self.old →
+            IsWeb k self.new) }
     {
         let x = self.number(alloc, unknowns, a)?;
         let y = self.number(alloc, unknowns, b)?;
@@ -245,7 +251,8 @@ impl Web {
             IsThere k (seen a.entry) → IsThere k (seen b.entry) → IsWeb k self.old →
             IsWeb (told k (atom Op.Eq (seen a.entry) (seen b.entry))) self.new) }
         ensures err { OnErr result ((k : Known) → k.unknowns ≡ unknowns.now →
-            IsThere k (seen a.entry) → IsThere k (seen b.entry) → IsWeb k self.old → IsWeb k self.new) }
+            IsThere k (seen a.entry) → IsThere k (seen b.entry) → IsWeb k self.old →
+            IsWeb k self.new) }
     {
         let x = self.number(alloc, unknowns, a)?;
         let y = self.number(alloc, unknowns, b)?;
@@ -268,7 +275,8 @@ impl Web {
             Denies k h (seen a.entry) → Denies h l (seen b.entry) → KeepsOrder k l →
             IsWeb k self.old → IsWeb l self.new) }
         ensures err { OnErr result ((k : Known) → k.unknowns ≡ unknowns.now →
-            IsThere k (seen a.entry) → IsThere k (seen b.entry) → IsWeb k self.old → IsWeb k self.new) }
+            IsThere k (seen a.entry) → IsThere k (seen b.entry) → IsWeb k self.old →
+            IsWeb k self.new) }
     {
         let x = self.number(alloc, unknowns, a)?;
         let y = self.number(alloc, unknowns, b)?;
@@ -292,7 +300,8 @@ impl Web {
             Raises k l (seen a.entry) (pos gap) (seen b.entry) →
             IsWeb k self.old → IsWeb l self.new) }
         ensures err { OnErr result ((k : Known) → k.unknowns ≡ unknowns.now →
-            IsThere k (seen a.entry) → IsThere k (seen b.entry) → IsWeb k self.old → IsWeb k self.new) }
+            IsThere k (seen a.entry) → IsThere k (seen b.entry) → IsWeb k self.old →
+            IsWeb k self.new) }
     {
         let x = self.number(alloc, unknowns, a)?;
         let y = self.number(alloc, unknowns, b)?;
@@ -308,9 +317,11 @@ impl Web {
         lesson: &Lesson,
     ) -> Result<(), AllocError>
         requires { CanTell self.old unknowns.now lesson.now }
-        ensures ok { OnOk result ((k : Known) → k.unknowns ≡ unknowns.now → LessonIsThere k lesson.now →
+        ensures ok { OnOk result ((k : Known) → k.unknowns ≡ unknowns.now →
+            LessonIsThere k lesson.now →
             IsWeb k self.old → IsWeb (told k lesson.now) self.new) }
-        ensures err { OnErr result ((k : Known) → k.unknowns ≡ unknowns.now → LessonIsThere k lesson.now →
+        ensures err { OnErr result ((k : Known) → k.unknowns ≡ unknowns.now →
+            LessonIsThere k lesson.now →
             IsWeb k self.old → IsWeb k self.new) }
     {
         match lesson {
@@ -330,7 +341,8 @@ impl Web {
             IsThere k atom.now.left → IsThere k atom.now.right →
             IsWeb k self.old → IsWeb (told k (Lesson.Holds atom.now)) self.new) }
         ensures err { OnErr result ((k : Known) → k.unknowns ≡ unknowns.now →
-            IsThere k atom.now.left → IsThere k atom.now.right → IsWeb k self.old → IsWeb k self.new) }
+            IsThere k atom.now.left → IsThere k atom.now.right → IsWeb k self.old →
+            IsWeb k self.new) }
     {
         let left = atom.left.by_ref();
         let right = atom.right.by_ref();
@@ -371,7 +383,8 @@ impl Web {
     /// The unknowns of the term's class, by number.
     pub(crate) fn members(&self, alloc: Global, a: TermRef<'_>) -> Result<Vec<u32>, AllocError>
         requires { IsSomeWeb self.now }
-        ensures { IfOk result (λ it. (k : Known) → IsWeb k self.now → AreMembers k (seen a.entry) it.items) }
+        ensures { IfOk result (λ it. (k : Known) → IsWeb k self.now →
+            AreMembers k (seen a.entry) it.items) }
     {
         match self.names.find(a) {
             Some(x) => self.members_of(alloc, x),
@@ -383,7 +396,8 @@ impl Web {
     fn members_of(&self, alloc: Global, x: u32) -> Result<Vec<u32>, AllocError>
         requires some { IsSomeWeb self.now }
         requires numbered { x < length self.now.names }
-        ensures { IfOk result (λ it. AreMembersBelow self.now.names self.now.classes.merges x (length self.now.names) it.items) }
+        ensures { IfOk result (λ it. AreMembersBelow self.now.names self.now.classes.merges x
+            (length self.now.names) it.items) }
     {
         let mut members = Vec::new(alloc);
         for n in self.classes.label(x)..self.names.len() as u32 {
@@ -418,7 +432,8 @@ impl Web {
     // Whether the two terms' places are shown to be one.
     fn is_level(&self, a: TermRef<'_>, b: TermRef<'_>) -> bool
         requires { IsSomeWeb self.now }
-        ensures { IsTrue result ↔ IsLevel self.now.names self.now.classes.merges self.now.marks.items self.now.order
+        ensures { IsTrue result ↔ IsLevel self.now.names self.now.classes.merges
+            self.now.marks.items self.now.order
             (seen a.entry) (seen b.entry) }
     {
         match (self.place_of(a), self.place_of(b)) {
@@ -431,7 +446,8 @@ impl Web {
     fn class_mark(&self, a: TermRef<'_>) -> Option<Mark>
         requires { IsSomeWeb self.now }
         ensures { MatchOption result ((n : ℕ) → slice_get self.now.names n ≢ Some (seen a.entry))
-            (IsClassMark self.now.names self.now.classes.merges self.now.marks.items (seen a.entry)) }
+            (IsClassMark self.now.names self.now.classes.merges self.now.marks.items
+            (seen a.entry)) }
     {
         match self.names.find(a) {
             Some(x) => Some(mark_of(&self.classes, &self.marks, x)),
@@ -489,7 +505,8 @@ impl Web {
     /// A literal of the term's class, if it has one.
     pub(crate) fn literal<'a>(&'a self, a: TermRef<'a>) -> Option<&'a Value>
         requires { IsSomeWeb self.now }
-        ensures { (k : Known) → IsWeb k self.now → IsLiteralIn k (seen a.entry) (option_copied result) }
+        ensures { (k : Known) → IsWeb k self.now →
+            IsLiteralIn k (seen a.entry) (option_copied result) }
     {
         match self.class_mark(a) {
             Some(mark) => self.one_of(mark.literals),
@@ -509,11 +526,13 @@ impl Web {
         }
     }
 
-    /// The greatest number by which the one term is shown to be less than the other, if any is shown.
+    /// The greatest number by which the one term is shown to be less than the other, if any is
+    /// shown.
     pub(crate) fn bound(&self, low: TermRef<'_>, high: TermRef<'_>) -> Option<i128>
         requires some { IsSomeWeb self.now }
         requires order { ¬ (IsAbsurd self.now.order) }
-        ensures { (k : Known) → IsWeb k self.now → IsBound k (seen low.entry) (seen high.entry) result }
+        ensures { (k : Known) → IsWeb k self.now →
+            IsBound k (seen low.entry) (seen high.entry) result }
     {
         if self.one_class(low, high) {
             Some(0)
@@ -525,7 +544,8 @@ impl Web {
     fn bound_of_places(&self, low: TermRef<'_>, high: TermRef<'_>) -> Option<i128>
         requires some { IsSomeWeb self.now }
         requires order { ¬ (IsAbsurd self.now.order) }
-        ensures { IsGreatest (λ n. AnyRise self.now.names self.now.classes.merges self.now.marks.items self.now.order
+        ensures { IsGreatest (λ n. AnyRise self.now.names self.now.classes.merges
+            self.now.marks.items self.now.order
             (seen low.entry) n (seen high.entry)) result }
     {
         match (self.place_of(low), self.place_of(high)) {
@@ -538,7 +558,8 @@ impl Web {
     pub(crate) fn gap(&self, low: TermRef<'_>, gap: u32, high: TermRef<'_>) -> bool
         requires { IsSomeWeb self.now }
         ensures { (k : Known) →
-            IsWeb k self.now → IsTrue result ↔ ShownGap k (seen low.entry) (pos gap) (seen high.entry) }
+            IsWeb k self.now → IsTrue result ↔ ShownGap k (seen low.entry) (pos gap)
+            (seen high.entry) }
     {
         if self.same_level(low, gap, high) {
             true
@@ -561,7 +582,8 @@ impl Web {
 
     fn places_rise(&self, low: TermRef<'_>, gap: u32, high: TermRef<'_>) -> bool
         requires { IsSomeWeb self.now }
-        ensures { IsTrue result ↔ AnyRise self.now.names self.now.classes.merges self.now.marks.items self.now.order
+        ensures { IsTrue result ↔ AnyRise self.now.names self.now.classes.merges
+            self.now.marks.items self.now.order
             (seen low.entry) (pos gap) (seen high.entry) }
     {
         match (self.place_of(low), self.place_of(high)) {
@@ -584,7 +606,8 @@ impl Web {
     /// Whether some class has two different literals, or is shown both null and not null.
     pub(crate) fn clashes(&self, unknowns: &[Sort]) -> bool
         requires { IsSomeWeb self.now }
-        ensures { (k : Known) → k.unknowns ≡ unknowns.now → IsWeb k self.now → IsTrue result ↔ IsClashing k }
+        ensures { (k : Known) → k.unknowns ≡ unknowns.now → IsWeb k self.now → IsTrue result
+            ↔ IsClashing k }
     {
         if self.several {
             true

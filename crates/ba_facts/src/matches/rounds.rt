@@ -1,16 +1,15 @@
-//! The least round of the facts of a part under which an atom is one of the part's.
-ghost use Rattle.std.specs.Prelude.{◌≡◌, ◌↔◌, ◌+◌, ◌≤◌, ◌++◌, ℕ, List, [], Any, IsTrue, Some, length, map, option_copied};
-ghost use Rattle.std.specs.List.{AllZip};
-ghost use Rattle.ba_model.specs.Limits.{most_part_tables};
-ghost use Rattle.arrayvec.specs.ArrayVec.{array_vec_len};
+//! The least round of the facts of a part under which an atom is one of the part's, found by a
+//! walk.
+ghost use Rattle.std.specs.Prelude.{◌≡◌, ◌↔◌, ◌⊎◌, [], Any, IsTrue, Some, map, option_copied};
 ghost use Rattle.ba_facts.specs.Known.{seen};
-ghost use Rattle.ba_facts.specs.Matches.{AreTheSame, GivesAtom, HeadIs, LeastRound, round_of, row_of, term_of, terms_at};
-ghost use Rattle.ba_facts.specs.Searching.{HasAtom, HasAtomFrom, IsNoFront, IsOther, MayGive, MayStandFor, lesser, round_at};
+ghost use Rattle.ba_facts.specs.Matches.{GivesAtom, round_of, terms_at};
+ghost use Rattle.ba_facts.specs.Walks.{HasAtom, HasEither, IsLate, IsPastHope, IsRepeated, MayGive, MayStandFor, lesser, rows_in, term_in};
 
-use crate::matches::search::Search;
+use crate::branch::Branch;
 use crate::term::{Term, TermAtom, TermRef};
-use arrayvec::ArrayVec;
-use ba_model::{Atom, List, MAX_PART_TABLES, Operand, Same};
+use crate::walk::{Offered, Visit, Walk};
+use ba_model::{Atom, List, Operand, Same};
+use std::convert::Infallible;
 
 /// An atom, and a row that the head has to be the same as, if there is one.
 #[derive(Clone, Copy)]
@@ -19,167 +18,130 @@ pub struct GivenAtom<'a> {
     pub atom: &'a TermAtom,
 }
 
-impl<'a> Search<'a> {
-    /// The least round of the chosen facts and one fact of each further table, of those that have
-    /// the row and the atom. Of facts that are alike the earliest is tried, and those that the atom
-    /// has a term of.
-    pub fn least_from(
+impl Visit for GivenAtom<'_> {
+    ghost use Rattle.std.specs.Prelude.{◌≡◌, [], option_copied};
+    ghost use Rattle.ba_facts.specs.Walks.{HasAtomBy, Lowers, every};
+
+    type State = Option<u32>;
+
+    type Tried = ();
+
+    type Stop = Infallible;
+
+    ghost ready = { λ own walk. Unit {0} };
+
+    ghost offers = { λ own walk from chosen numbers. numbers ≡ every walk.branch.now };
+
+    ghost numbers = { λ tried. [] };
+
+    ghost visited = { λ own walk from chosen numbers old new.
+        Lowers walk.branch.now
+        (HasAtomBy walk.branch.now walk.side walk.part.now walk.wanted
+        (option_copied own.row) own.atom.now from chosen numbers)
+        old new };
+
+    ghost stopped = { λ own walk from chosen stop. ⊥ };
+
+    fn offered<'a>(&'a self, walk: &'a Walk<'a>, _from: &[u32], _chosen: &[usize]) -> Offered<'a> {
+        Offered::Every(walk.branch.facts.len())
+    }
+
+    fn none_tried(&self) {}
+
+    /// Of facts that are alike the earliest is taken, and those that the atom has a term of. At the
+    /// last place a try costs less than a look at the earlier ones.
+    fn takes(
         &self,
+        walk: &Walk<'_>,
         from: &[u32],
-        chosen: &mut ArrayVec<usize, MAX_PART_TABLES>,
-        given: &GivenAtom<'_>,
-    ) -> Option<u32>
-        requires { array_vec_len chosen.old + length from.now ≤ most_part_tables }
-        ensures chosen { chosen.new.items ≡ chosen.old.items }
-        ensures least { LeastRound self.now.branch.now (HasAtomFrom self.now.branch.now self.now.side self.now.part.now self.now.wanted (option_copied given.now.row) given.now.atom.now from.now chosen.old.items) result }
-    {
-        if self.is_hopeless(chosen.as_slice()) {
-            return None;
-        }
-        match from.split_first() {
-            None => self.least_here(chosen.as_slice(), given),
-            Some((table, rest)) => {
-                if self.has_other(chosen.as_slice(), given.row) {
-                    return None;
-                }
-                if !self.may_give(self.part.conds.as_slice(), chosen.as_slice(), given.atom) {
-                    return None;
-                }
-                let mut least = None;
-                for number in 0..self.branch.facts.len() {
-                    if self.is_fact(*table, number) && !self.is_late(least, number) {
-                        chosen.push(number);
-                        if !self.is_needless_for(rest, chosen.as_slice(), number, given) {
-                            least = lesser(least, self.least_from(rest, chosen, given));
-                        }
-                        chosen.pop();
-                    }
-                }
-                least
-            }
-        }
+        chosen: &[usize],
+        number: usize,
+        _tried: &mut (),
+        least: &Option<u32>,
+    ) -> Result<bool, Infallible> {
+        Ok(!self.is_needless(walk, from, chosen, number, *least))
     }
 
-    /// The round of the chosen facts, if they are all that the part needs and have the row and the
+    fn end(
+        &self,
+        walk: &Walk<'_>,
+        chosen: &[usize],
+        least: &mut Option<u32>,
+    ) -> Result<(), Infallible> {
+        if walk.is_met(chosen) && self.is_had(walk, chosen) {
+            *least = lesser(*least, walk.branch.round_of(chosen));
+        }
+        Ok(())
+    }
+}
+
+impl GivenAtom<'_> {
+    /// Whether the last fact chosen, of this number, needn't be tried: it is of no round before the
+    /// least so far, the row and the atom can't come any more, or an earlier fact does as well.
+    fn is_needless(
+        &self,
+        walk: &Walk<'_>,
+        from: &[u32],
+        chosen: &[usize],
+        number: usize,
+        least: Option<u32>,
+    ) -> bool
+        ensures { IsTrue result → IsLate walk.now.branch.now least number
+            ⊎ (IsPastHope walk.now (option_copied self.now.row) self.now.atom.now chosen.now
+            ⊎ IsRepeated walk.now.branch.now self.now.atom.now number) }
+    {
+        walk.branch.is_late(least, number)
+            || walk.is_hopeless(chosen)
+            || (from.len() > 1 && (!self.may_come(walk, chosen) || self.is_repeated(walk, number)))
+    }
+
+    /// Whether the row and the atom may still come.
+    fn may_come(&self, walk: &Walk<'_>, chosen: &[usize]) -> bool
+        ensures { (IsTrue result → ⊥) → IsPastHope walk.now
+            (option_copied self.now.row) self.now.atom.now chosen.now }
+    {
+        !walk.has_other(chosen, self.row)
+            && walk.may_give(walk.part.conds.as_slice(), chosen, self.atom)
+    }
+
+    /// Whether no facts that complete the chosen ones have the row and the atom.
+    pub fn is_lost(&self, walk: &Walk<'_>, chosen: &[usize]) -> bool
+        ensures { IsTrue result → IsPastHope walk.now
+            (option_copied self.now.row) self.now.atom.now chosen.now }
+    {
+        walk.is_hopeless(chosen) || !self.may_come(walk, chosen)
+    }
+
+    /// Whether an earlier fact does as well as that of the number, which has neither term of the
     /// atom.
-    #[tactic(auto, using(crate::proofs::RoundLemmas::least_chosen))]
-    fn least_here(&self, chosen: &[usize], given: &GivenAtom<'_>) -> Option<u32>
-        ensures { LeastRound self.now.branch.now (HasAtomFrom self.now.branch.now self.now.side self.now.part.now self.now.wanted (option_copied given.now.row) given.now.atom.now [] chosen.now) result }
+    fn is_repeated(&self, walk: &Walk<'_>, number: usize) -> bool
+        ensures { IsTrue result → IsRepeated walk.now.branch.now self.now.atom.now number }
     {
-        if self.is_met(chosen) && self.has_atom(chosen, given) {
-            Some(self.round_of(chosen))
-        } else {
-            None
-        }
-    }
-
-    /// The greatest round of the chosen facts.
-    fn round_of(&self, chosen: &[usize]) -> u32
-        ensures { result ≡ round_of self.now.branch.now chosen.now }
-    {
-        let mut round = 0;
-        for number in chosen {
-            round = round.max(self.round_at(*number));
-        }
-        round
-    }
-
-    /// The round of the fact of the number, or 0.
-    pub fn round_at(&self, number: usize) -> u32
-        ensures { result ≡ round_at self.now.branch.now number }
-    {
-        match self.branch.facts.find(number) {
-            Some(fact) => fact.round,
-            None => 0,
-        }
+        !walk.branch.has_either(number, self.atom) && walk.branch.has_earlier(number)
     }
 
     /// Whether the head over the chosen facts is the same as the row, if one is given, and the atom
     /// is one of the part's.
-    fn has_atom(&self, chosen: &[usize], given: &GivenAtom<'_>) -> bool
-        ensures { IsTrue result ↔ HasAtom self.now.branch.now self.now.part.now (option_copied given.now.row) given.now.atom.now chosen.now }
+    fn is_had(&self, walk: &Walk<'_>, chosen: &[usize]) -> bool
+        ensures { IsTrue result ↔ HasAtom walk.now.branch.now walk.now.part.now
+            (option_copied self.now.row) self.now.atom.now chosen.now }
     {
-        self.has_row(chosen, given.row)
-            && self.gives_atom(self.part.conds.as_slice(), chosen, given.atom)
+        walk.has_row(chosen, self.row)
+            && walk.gives_atom(walk.part.conds.as_slice(), chosen, self.atom)
     }
+}
 
-    /// Whether the head over the chosen facts is the same as the row, if one is given.
-    fn has_row(&self, chosen: &[usize], row: Option<&List<Term>>) -> bool
-        ensures { IsTrue result ↔ HeadIs self.now.branch.now self.now.part.now chosen.now (option_copied row.entry) }
-    {
-        match row {
-            Some(row) => self.is_row(self.part.head.as_slice(), chosen, row.as_slice()),
-            None => true,
-        }
-    }
-
-    /// Whether the head over the chosen facts is the same as the row.
-    fn is_row(&self, head: &'a [Operand], chosen: &[usize], row: &[Term]) -> bool
-        ensures { IsTrue result ↔ AllZip (AreTheSame self.now.branch.now.known) (row_of self.now.branch.now chosen.now head.now) (map Some row.now) }
-    {
-        if head.len() != row.len() {
-            return false;
-        }
-        for i in 0..head.len() {
-            if !self.has_same(chosen, &head[i], &row[i]) {
-                return false;
-            }
-        }
-        true
-    }
-
-    /// Whether the head has a term already over the chosen facts that isn't the same as the row's, if
-    /// one is given.
-    pub fn has_other(&self, chosen: &[usize], row: Option<&List<Term>>) -> bool
-        ensures { IsTrue result → (rest : List ℕ) → HeadIs self.now.branch.now self.now.part.now (chosen.now ++ rest) (option_copied row.entry) → ⊥ }
-    {
-        match row {
-            Some(row) => self.is_no_front(self.part.head.as_slice(), chosen, row.as_slice()),
-            None => false,
-        }
-    }
-
-    fn is_no_front(&self, head: &'a [Operand], chosen: &[usize], row: &[Term]) -> bool
-        ensures { IsTrue result → IsNoFront self.now.branch.now head.now (map Some row.now) chosen.now }
-    {
-        for i in 0..head.len().min(row.len()) {
-            if self.is_not(chosen, &head[i], &row[i]) {
-                return true;
-            }
-        }
-        false
-    }
-
-    /// Whether the operand stands for a term that isn't the same as the other.
-    fn is_not(&self, chosen: &[usize], own: &'a Operand, other: &Term) -> bool
-        ensures { IsTrue result ↔ IsOther self.now.branch.now.known (term_of (map (terms_at self.now.branch.now) chosen.now) own.now) (Some other.now) }
-    {
-        match self.term_of(chosen, own) {
-            Some(term) => !self.branch.known.same(term, other.by_ref()),
-            None => false,
-        }
-    }
-
-    /// Whether the operand stands for a term that is the same as the other.
-    fn has_same(&self, chosen: &[usize], own: &'a Operand, other: &Term) -> bool
-        ensures { IsTrue result ↔ AreTheSame self.now.branch.now.known (term_of (map (terms_at self.now.branch.now) chosen.now) own.now) (Some other.now) }
-    {
-        match self.term_of(chosen, own) {
-            Some(term) => self.branch.known.same(term, other.by_ref()),
-            None => false,
-        }
-    }
-
+impl<'a> Walk<'a> {
     /// Whether the atom is one of these over the chosen facts.
     fn gives_atom(&self, conds: &'a [Atom], chosen: &[usize], atom: &TermAtom) -> bool
-        ensures { IsTrue result ↔ Any (GivesAtom (map (terms_at self.now.branch.now) chosen.now) atom.now) conds.now }
+        ensures { IsTrue result ↔ Any (GivesAtom (rows_in self.now chosen.now) atom.now) conds.now }
     {
         conds.iter().any(|cond| self.is_atom(cond, chosen, atom))
     }
 
     /// Whether the atom is this one over the chosen facts.
     fn is_atom(&self, cond: &'a Atom, chosen: &[usize], atom: &TermAtom) -> bool
-        ensures { IsTrue result ↔ GivesAtom (map (terms_at self.now.branch.now) chosen.now) atom.now cond.now }
+        ensures { IsTrue result ↔ GivesAtom (rows_in self.now chosen.now) atom.now cond.now }
     {
         cond.op.same(&atom.op)
             && self.stands_for(&cond.left, chosen, &atom.left)
@@ -187,8 +149,8 @@ impl<'a> Search<'a> {
     }
 
     /// Whether one of these gives the atom, or may with further facts.
-    pub fn may_give(&self, conds: &'a [Atom], chosen: &[usize], atom: &TermAtom) -> bool
-        ensures { IsTrue result ↔ Any (MayGive (map (terms_at self.now.branch.now) chosen.now) atom.now) conds.now }
+    fn may_give(&self, conds: &'a [Atom], chosen: &[usize], atom: &TermAtom) -> bool
+        ensures { IsTrue result ↔ Any (MayGive (rows_in self.now chosen.now) atom.now) conds.now }
     {
         conds
             .iter()
@@ -196,7 +158,7 @@ impl<'a> Search<'a> {
     }
 
     fn may_be_atom(&self, cond: &'a Atom, chosen: &[usize], atom: &TermAtom) -> bool
-        ensures { IsTrue result ↔ MayGive (map (terms_at self.now.branch.now) chosen.now) atom.now cond.now }
+        ensures { IsTrue result ↔ MayGive (rows_in self.now chosen.now) atom.now cond.now }
     {
         cond.op.same(&atom.op)
             && self.may_stand_for(&cond.left, chosen, &atom.left)
@@ -205,7 +167,7 @@ impl<'a> Search<'a> {
 
     /// Whether the operand stands for this very term, or for none yet.
     fn may_stand_for(&self, own: &'a Operand, chosen: &[usize], term: &Term) -> bool
-        ensures { IsTrue result ↔ MayStandFor (map (terms_at self.now.branch.now) chosen.now) own.now term.now }
+        ensures { IsTrue result ↔ MayStandFor (rows_in self.now chosen.now) own.now term.now }
     {
         match self.term_of(chosen, own) {
             Some(own) => is_term(own, term),
@@ -215,7 +177,7 @@ impl<'a> Search<'a> {
 
     /// Whether the operand stands for this very term.
     fn stands_for(&self, own: &'a Operand, chosen: &[usize], term: &Term) -> bool
-        ensures { IsTrue result ↔ (term_of (map (terms_at self.now.branch.now) chosen.now) own.now ≡ Some term.now) }
+        ensures { IsTrue result ↔ (term_in self.now chosen.now own.now ≡ Some term.now) }
     {
         match self.term_of(chosen, own) {
             Some(own) => is_term(own, term),
@@ -225,7 +187,7 @@ impl<'a> Search<'a> {
 }
 
 /// Whether the two are one term.
-pub fn is_term(own: TermRef<'_>, term: &Term) -> bool
+fn is_term(own: TermRef<'_>, term: &Term) -> bool
     ensures { IsTrue result ↔ (seen own.entry ≡ term.now) }
 {
     match (own, term) {
@@ -237,13 +199,59 @@ pub fn is_term(own: TermRef<'_>, term: &Term) -> bool
     }
 }
 
-/// The lesser of the two, of those that are there.
-fn lesser(least: Option<u32>, other: Option<u32>) -> Option<u32>
-    ensures { result ≡ lesser least other }
+impl Branch {
+    /// The greatest round of the facts of these numbers.
+    pub fn round_of(&self, numbers: &[usize]) -> u32
+        ensures { result ≡ round_of self.now numbers.now }
+    {
+        let mut round = 0;
+        for number in numbers {
+            round = round.max(self.round_at(*number));
+        }
+        round
+    }
+
+    /// Whether no mapping with the fact is of a round before the least so far.
+    fn is_late(&self, least: Option<u32>, number: usize) -> bool
+        ensures { IsTrue result ↔ IsLate self.now least number }
+    {
+        match least {
+            Some(round) => round <= self.round_at(number),
+            None => false,
+        }
+    }
+
+    /// Whether one of the fact's terms is the atom's left or right.
+    fn has_either(&self, number: usize, atom: &TermAtom) -> bool
+        ensures { IsTrue result ↔ HasEither self.now atom.now number }
+    {
+        self.has_term(number, &atom.left) || self.has_term(number, &atom.right)
+    }
+
+    /// Whether the term is one of the fact's.
+    fn has_term(&self, number: usize, term: &Term) -> bool
+        ensures { IsTrue result ↔ Any (λ own. own ≡ term.now) (terms_at self.now number) }
+    {
+        match self.facts.find(number) {
+            Some(fact) => is_one_of(fact.terms.as_slice(), term),
+            None => false,
+        }
+    }
+}
+
+/// Whether the term is one of these.
+fn is_one_of(terms: &[Term], term: &Term) -> bool
+    ensures { IsTrue result ↔ Any (λ own. own ≡ term.now) terms.now }
 {
-    match (least, other) {
-        (Some(n), Some(m)) => Some(n.min(m)),
-        (Some(n), None) => Some(n),
-        (None, other) => other,
+    terms.iter().any(|own| is_term(own.by_ref(), term))
+}
+
+/// The lesser of the round and of the least one, if there is one.
+fn lesser(least: Option<u32>, round: u32) -> Option<u32>
+    ensures { result ≡ lesser least round }
+{
+    match least {
+        Some(least) => Some(least.min(round)),
+        None => Some(round),
     }
 }

@@ -1,8 +1,0 @@
-use Rattle.std.proofs.Common.{◌<◌}
-use Rattle.std.specs.Prelude.{ℕ}
-use Rattle.ba_facts.specs.Searching.{DoesAsWell}
-use Rattle.ba_facts.proofs.matches.search.Search.has_earlier.Given as goal
-
--- none so far is
-abbrev pub invariant-loop-other : goal.invariant-loop-other
-invariant-loop-other l = (other : ℕ) → other < l.other → DoesAsWell l.self.branch.now l.number other → ⊥

@@ -1,9 +1,0 @@
-use Rattle.std.proofs.Common.{◌≡◌, drop}
-use Rattle.std.specs.Prelude.{max}
-use Rattle.ba_facts.specs.Matches.{round_of}
-use Rattle.ba_facts.proofs.matches.search.Search.round_of.Given as goal
-
--- the greatest round so far and that of the facts that are left is that of all
-abbrev pub invariant-loop-number : goal.invariant-loop-number
-invariant-loop-number l =
-    max l.round (round_of l.self.branch.now (drop l.number-index l.chosen)) ≡ round_of l.self.branch.now l.chosen
