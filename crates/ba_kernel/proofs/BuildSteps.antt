@@ -23,7 +23,8 @@ use Rattle.ba_kernel.proofs.ZipLemmas.{pair_at, taken}
 use Rattle.ba_kernel.proofs.BuildNext.{mapped_terms, parts_for, same_count}
 use Rattle.ba_kernel.proofs.StepFits.{All-at}
 use Rattle.ba_kernel.proofs.TidyLemmas.{facts_there, facts_wide, row_there_more, terms_there, unknowns_kept}
-use Rattle.ba_kernel.specs.Courses.{LinkFits, ProblemFits, RuleFits}
+use Rattle.ba_model.specs.RuleFaults.{RuleFits}
+use Rattle.ba_kernel.specs.Courses.{LinkFits, ProblemFits}
 use Rattle.ba_kernel.specs.Effects.{AreNext, negation, negation_of, rows_at, same_at, same_pair, with_fact, with_lessons}
 use Rattle.ba_kernel.specs.Steps.{FactsPass, IsNotNullAt, KeyLeads, KeyPasses, LinkLeads, LinkPasses, RuleLeads, RulePasses, SplitPasses}
 use Rattle.ba_kernel.specs.Tests.{FactIsTidy, IsTidy}

@@ -9,7 +9,8 @@ use Rattle.ba_model.specs.Fit.{IsQuery, kinds_of}
 use Rattle.ba_model.specs.declared.policy.View.{View}
 use Rattle.ba_kernel.proofs.CaseFactLemmas.{zip_length}
 use Rattle.ba_kernel.proofs.StepFits.{All-at}
-use Rattle.ba_kernel.specs.Courses.{EntryFits, IsStart, IsStartOf, ProblemFits, RuleFits, Slots, after}
+use Rattle.ba_model.specs.RuleFaults.{RuleFits}
+use Rattle.ba_kernel.specs.Courses.{EntryFits, IsStart, IsStartOf, ProblemFits, Slots, after}
 use Rattle.ba_kernel.specs.Effects.{IsCase}
 use Rattle.ba_kernel.specs.Steps.{Leads}
 use Rattle.ba_kernel.specs.declared.problem.Problem.{Problem}

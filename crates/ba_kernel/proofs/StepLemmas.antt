@@ -20,7 +20,8 @@ use Rattle.ba_facts.specs.declared.branch.Branch.{Branch}
 use Rattle.ba_facts.specs.declared.term.Side.{Side}
 use Rattle.ba_facts.specs.declared.term.Side.TheVariants.{One, Two}
 use Rattle.ba_facts.specs.declared.term.Term.{Term}
-use Rattle.ba_kernel.specs.Courses.{ProblemFits, RuleFits}
+use Rattle.ba_model.specs.RuleFaults.{RuleFits}
+use Rattle.ba_kernel.specs.Courses.{ProblemFits}
 use Rattle.ba_kernel.specs.Effects.{IsCase}
 use Rattle.ba_kernel.specs.Steps.{EntryLeads, RuleLeads, ViewLeads}
 use Rattle.ba_kernel.specs.Problems.{Breaks, IsEntryAt, IsInstance, IsTraceAt, fixed_value, part_at, query_at}

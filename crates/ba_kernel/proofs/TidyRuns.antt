@@ -17,7 +17,8 @@ use Rattle.ba_kernel.proofs.BuildNext.{row_there, same_count}
 use Rattle.ba_kernel.proofs.BuildStarts.{nothing_there}
 use Rattle.ba_kernel.proofs.StepFits.{All-at}
 use Rattle.ba_kernel.proofs.TidyLemmas.{counted, facts_there, more_unknowns, new_there, row_there_more}
-use Rattle.ba_kernel.specs.Courses.{EntryFits, IsStartOf, LinkFits, ProblemFits, RuleFits, Runs, Slots, after, branch_of, nothing_known, start, next}
+use Rattle.ba_model.specs.RuleFaults.{RuleFits}
+use Rattle.ba_kernel.specs.Courses.{EntryFits, IsStartOf, LinkFits, ProblemFits, Runs, Slots, after, branch_of, nothing_known, start, next}
 use Rattle.ba_kernel.specs.Effects.{IsCase, rows_at, with_fact, with_facts, with_lessons}
 use Rattle.ba_kernel.specs.Steps.{Leads, LinkLeads}
 use Rattle.ba_kernel.specs.Tests.{FactIsTidy, IsTidy, RunsAreTidy}

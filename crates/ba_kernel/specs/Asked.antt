@@ -14,7 +14,8 @@ use Rattle.ba_model.specs.declared.value.RowSet.{RowSet}
 use Rattle.ba_model.specs.declared.value.Value.{Value}
 use Rattle.ba_model.specs.declared.value.Value.TheVariants.{Null}
 use Rattle.ba_comply.specs.declared.trace.TraceEntry.{TraceEntry}
-use Rattle.ba_kernel.specs.Courses.{LinksFit, ProblemFits, RuleFits}
+use Rattle.ba_model.specs.RuleFaults.{RuleFits}
+use Rattle.ba_kernel.specs.Courses.{LinksFit, ProblemFits}
 use Rattle.ba_kernel.specs.Problems.{problem_of}
 
 -- the value is of the kind, or NULL

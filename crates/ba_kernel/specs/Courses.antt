@@ -3,12 +3,12 @@
 use Rattle.std.specs.Prelude.{◌≡◌, ◌≢◌, ℕ, ◌⊎◌, List, [], ◌∷◌, ◌++◌, All, map, length, Option, Some, None, slice_get, slice_set}
 use Rattle.std.specs.List.{AllZip, range_with_len}
 use Rattle.ba_model.specs.Fit.{AtomFits, IsQuery, PolicyFits, kind_of, kinds_of}
+use Rattle.ba_model.specs.RuleFaults.{RuleFits}
 use Rattle.ba_model.specs.declared.query.Operand.{Operand}
 use Rattle.ba_model.specs.declared.query.Operand.TheVariants.{Val}
 use Rattle.ba_model.specs.declared.query.Part.{Part}
 use Rattle.ba_model.specs.declared.schema.Kind.{Kind}
 use Rattle.ba_model.specs.declared.schema.Link.{Link}
-use Rattle.ba_model.specs.declared.schema.Rule.{Rule}
 use Rattle.ba_model.specs.declared.schema.Schema.{Schema}
 use Rattle.ba_model.specs.declared.schema.Table.{Table}
 use Rattle.ba_model.specs.declared.value.RowSet.{RowSet}
@@ -130,13 +130,6 @@ RowOperandFits p kind operand =
 pub record EntryFits (p : Problem) (entry : ProblemEntry) : Type 0 where
   pub query : IsQuery p.policy.schema (kinds_of p.policy.params) p.vars entry.query
   pub row : AllZip (RowOperandFits p) query.fits.kinds entry.row
-
--- a rule's queries fit the schema, without parameters and variables, are within the limits, and
--- have the same kinds
-pub record RuleFits (s : Schema) (rule : Rule) : Type 0 where
-  pub left : IsQuery s [] [] rule.left
-  pub right : IsQuery s [] [] rule.right
-  pub kinds : right.fits.kinds ≡ left.fits.kinds
 
 -- the link's target is a table of the schema, which has the target columns, one for each of the
 -- link's columns

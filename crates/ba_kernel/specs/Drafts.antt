@@ -8,7 +8,8 @@ use Rattle.ba_model.specs.declared.query.Atom.{Atom}
 use Rattle.ba_model.specs.declared.query.Operand.{Operand}
 use Rattle.ba_model.specs.declared.query.Query.{Query}
 use Rattle.ba_model.specs.declared.schema.Kind.{Kind}
-use Rattle.ba_kernel.specs.Courses.{EntryFits, LinksFit, RowOperandFits, RuleFits}
+use Rattle.ba_model.specs.RuleFaults.{RuleFits}
+use Rattle.ba_kernel.specs.Courses.{EntryFits, LinksFit, RowOperandFits}
 use Rattle.ba_kernel.specs.Steps.{IsFirstWithout}
 use Rattle.ba_kernel.specs.declared.draft.ProblemDraft.{ProblemDraft}
 use Rattle.ba_kernel.specs.declared.draft.ProblemFault.{ProblemFault}

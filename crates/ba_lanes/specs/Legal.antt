@@ -6,7 +6,7 @@ use Rattle.ba_cache.specs.Reads as shelf
 use Rattle.ba_cache.specs.Rows as shelves
 use Rattle.ba_cache.specs.declared.call.ShelfCall.{ShelfCall}
 use Rattle.ba_comply.specs.declared.trace.TraceEntry.{TraceEntry}
-use Rattle.ba_kernel.specs.Courses.{RuleFits}
+use Rattle.ba_model.specs.RuleFaults.{RuleFits}
 use Rattle.ba_model.specs.Conform.{Conforms, RowFits}
 use Rattle.ba_model.specs.Fit.{PolicyFits}
 use Rattle.ba_model.specs.SchemaFaults.{AreTables}

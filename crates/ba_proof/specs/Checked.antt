@@ -9,7 +9,8 @@ use Rattle.ba_model.specs.declared.policy.Policy.{Policy}
 use Rattle.ba_model.specs.declared.query.Query.{Query}
 use Rattle.ba_comply.specs.Comply.{Strong}
 use Rattle.ba_comply.specs.declared.trace.TraceEntry.{TraceEntry}
-use Rattle.ba_kernel.specs.Courses.{RuleFits, Runs, Slots}
+use Rattle.ba_model.specs.RuleFaults.{RuleFits}
+use Rattle.ba_kernel.specs.Courses.{Runs, Slots}
 use Rattle.ba_kernel.specs.Problems.{problem_of}
 use Rattle.ba_kernel.specs.Replays.{Closes, RefusesAt, WantsMemory}
 use Rattle.ba_kernel.specs.Tests.{Course, IsCourse, IsPassed, IsRefused, Proof}

@@ -5,7 +5,8 @@ ghost use Rattle.ba_model.specs.Fit.{PolicyFits};
 ghost use Rattle.ba_model.specs.Readings.{Gives};
 ghost use Rattle.ba_model.specs.SchemaFaults.{AreTables};
 ghost use Rattle.ba_model.specs.Limits.{most_steps};
-ghost use Rattle.ba_kernel.specs.Courses.{ProblemFits, RuleFits};
+ghost use Rattle.ba_model.specs.RuleFaults.{RuleFits};
+ghost use Rattle.ba_kernel.specs.Courses.{ProblemFits};
 ghost use Rattle.ba_proof.specs.Checked.{IsPolicy};
 ghost use Rattle.ba_proof.specs.Reading.{fields_of, proof_at, proof_of, question_at};
 

@@ -11,7 +11,7 @@ use Rattle.ba_general.specs.Generals.{IsGeneralised, IsTooWide}
 use Rattle.ba_instant.specs.Dues.{EndsProved, EndsSaturated, EndsSpent}
 use Rattle.ba_instant.specs.declared.ends.Leaf.{Leaf}
 use Rattle.ba_instant.specs.declared.order.Pick.TheVariants.{First}
-use Rattle.ba_kernel.specs.Courses.{RuleFits}
+use Rattle.ba_model.specs.RuleFaults.{RuleFits}
 use Rattle.ba_kernel.specs.Problems.{problem_of}
 use Rattle.ba_kernel.specs.Tests as kernel
 use Rattle.ba_kernel.specs.declared.problem.Problem.{Problem}

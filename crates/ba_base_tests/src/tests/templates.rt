@@ -1,7 +1,8 @@
 //! Templates of questions that no row answers, each proved by one step: `SELECT .. FROM .. WHERE 0 = 1`.
 ghost use Rattle.std.specs.Prelude.{◌≤◌, ◌↔◌, [], All, IfOk, IsTrue, length};
 ghost use Rattle.ba_model.specs.Fit.{KeyFits, IsQuery, kinds_of};
-ghost use Rattle.ba_kernel.specs.Courses.{LinkFits, LinksFit, ProblemFits, RuleFits};
+ghost use Rattle.ba_model.specs.RuleFaults.{RuleFits};
+ghost use Rattle.ba_kernel.specs.Courses.{LinkFits, LinksFit, ProblemFits};
 ghost use Rattle.ba_kernel.specs.Drafts.{IsChecked};
 
 use ba_kernel::{Problem, ProblemDraft, Proved, Step, replay};

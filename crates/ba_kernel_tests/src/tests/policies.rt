@@ -5,7 +5,8 @@
 //! query, and `rule` with two queries and `within` between them.
 ghost use Rattle.std.specs.Prelude.{◌≡◌, ◌++◌, [], All};
 ghost use Rattle.ba_model.specs.Fit.{IsQuery, kinds_of};
-ghost use Rattle.ba_kernel.specs.Courses.{LinksFit, RuleFits};
+ghost use Rattle.ba_model.specs.RuleFaults.{RuleFits};
+ghost use Rattle.ba_kernel.specs.Courses.{LinksFit};
 ghost use Rattle.ba_kernel.specs.Drafts.{IsChecked};
 
 use super::words::{Handle, atoms, bar, named, numbers, operands, shared};
@@ -102,37 +103,7 @@ fn rules(rt: &impl Handle, text: &str) -> List<Rule> {
     all
 }
 
-/// The parts of both queries of the rule.
-fn joined(rt: &impl Handle, rule: &Rule) -> List<Part>
-    ensures { result ≡ rule.now.left.parts ++ rule.now.right.parts }
-{
-    let left = rule.left.parts.copy(rt.alloc()).expect(rt, "memory");
-    let right = rule.right.parts.copy(rt.alloc()).expect(rt, "memory");
-    let mut parts = left.into_vec();
-    let mut others = right.into_vec();
-    parts.append(&mut others).expect(rt, "memory");
-    List::from_vec(parts)
-}
-
-/// Ends the process where the rule's queries don't fit, or have heads of different kinds.
-fn check_rule(rt: &impl Handle, schema: &Schema, rule: &Rule)
-    ensures { RuleFits schema.now rule.now }
-{
-    if rule.left.parts.len() == 0 || rule.right.parts.len() == 0 {
-        panic!(rt; "a rule without a part");
-    }
-    let parts = joined(rt, rule);
-    checked(rt, schema, &List::new(rt.alloc()), Query { parts });
-}
-
-fn check_rules(rt: &impl Handle, schema: &Schema)
-    ensures { All (RuleFits schema.now) schema.now.rules }
-{
-    for rule in schema.rules.as_slice() {
-        check_rule(rt, schema, rule);
-    }
-}
-
+/// The standard tables, and the rules among a text's pieces.
 fn schema(rt: &impl Handle, text: &str) -> Schema
     ensures links { LinksFit result }
     ensures rules { All (RuleFits result) result.rules }
@@ -140,15 +111,9 @@ fn schema(rt: &impl Handle, text: &str) -> Schema
     checked_links_fit();
     let draft = SchemaDraft {
         tables: tables(rt),
-        rules: List::new(rt.alloc()),
-    };
-    let checked = Schema::check(rt.alloc(), draft).expect(rt, "a schema");
-    let schema = Schema {
-        tables: checked.tables,
         rules: rules(rt, text),
     };
-    check_rules(rt, &schema);
-    schema
+    Schema::check(rt.alloc(), draft).expect(rt, "a schema")
 }
 
 // ---- the policy

@@ -2,7 +2,7 @@ use Rattle.std.proofs.Common.{subst, sym}
 use Rattle.std.proofs.lemmas.List.Elements.{All-nil}
 use Rattle.std.specs.List.{All}
 use Rattle.ba_kernel.specs.Asked.{QuestionFits}
-use Rattle.ba_kernel.specs.Courses.{RuleFits}
+use Rattle.ba_model.specs.RuleFaults.{RuleFits}
 use Rattle.ba_answer_tests.proofs.tests.proofs.question_fits.Goals as goal
 
 pub returns : goal.returns

@@ -1,7 +1,7 @@
 use Rattle.std.proofs.Common.{All, subst}
 use Rattle.std.proofs.lemmas.List.{take_all}
 use Rattle.std.proofs.lemmas.List.Elements.{All-more}
-use Rattle.ba_kernel.specs.Courses.{RuleFits}
+use Rattle.ba_model.specs.RuleFaults.{RuleFits}
 use Rattle.ba_kernel_tests.proofs.tests.policies.check_rules.Goals as goal
 
 pub loop-rule-preserved : goal.loop-rule-preserved

@@ -1,5 +1,5 @@
 use Rattle.std.proofs.Common.{All, take}
-use Rattle.ba_kernel.specs.Courses.{RuleFits}
+use Rattle.ba_model.specs.RuleFaults.{RuleFits}
 use Rattle.ba_kernel_tests.proofs.tests.policies.check_rules.Given as goal
 
 abbrev pub invariant-loop-rule : goal.invariant-loop-rule

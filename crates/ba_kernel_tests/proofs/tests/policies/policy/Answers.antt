@@ -6,7 +6,8 @@ use Rattle.ba_model.specs.declared.policy.Parameter.{Parameter}
 use Rattle.ba_model.specs.declared.policy.Policy.{Policy}
 use Rattle.ba_model.specs.declared.policy.View.{View}
 use Rattle.ba_model.specs.declared.schema.Schema.{Schema}
-use Rattle.ba_kernel.specs.Courses.{LinksFit, RuleFits}
+use Rattle.ba_model.specs.RuleFaults.{RuleFits}
+use Rattle.ba_kernel.specs.Courses.{LinksFit}
 use Rattle.ba_kernel.specs.Drafts.{IsChecked}
 use Rattle.ba_kernel_tests.proofs.tests.policies.policy.Goals as goal
 
