@@ -3,7 +3,7 @@
 //! A part is its tables, its atoms and its head, as in `1 2 | a.0 = b.1, b.0 = p.0 | a.1`. A query is
 //! parts with `union` between them. A policy is pieces with semicolons between them: `view` with a
 //! query, and `rule` with two queries and `within` between them.
-ghost use Rattle.std.specs.Prelude.{◌≡◌, ◌++◌, [], All};
+ghost use Rattle.std.specs.Prelude.{◌≡◌, [], All};
 ghost use Rattle.ba_model.specs.Fit.{IsQuery, kinds_of};
 ghost use Rattle.ba_model.specs.RuleFaults.{RuleFits};
 ghost use Rattle.ba_kernel.specs.Courses.{LinksFit};
@@ -12,7 +12,7 @@ ghost use Rattle.ba_kernel.specs.Drafts.{IsChecked};
 use super::words::{Handle, atoms, bar, named, numbers, operands, shared};
 use ba_kernel::laws::checked_links_fit;
 use ba_model::{
-    Column, Duplicate, Kind, List, Parameter, Part, Policy, Query, QueryDraft, Rule, Schema,
+    Column, Kind, List, Parameter, Part, Policy, Query, QueryDraft, Rule, Schema,
     SchemaDraft, Shared, Str, Table, View,
 };
 use ba_sql_ddl::read_schema;
