@@ -1,8 +1,6 @@
 -- A scan of a branch of which it is known up to which round nothing is new, and what needn't be
 -- looked at.
 use Rattle.std.specs.Prelude.{◌≡◌, ◌⊎◌, ℕ, ◌+◌, ◌<◌, ◌≤◌, List, All, Any, Contains, max, Option, Some, None, slice_get}
-use Rattle.ba_model.specs.declared.query.Atom.{Atom}
-use Rattle.ba_model.specs.declared.query.Op.TheVariants.{Eq}
 use Rattle.ba_model.specs.declared.schema.Schema.{Schema}
 use Rattle.ba_model.specs.declared.schema.Table.{Table}
 use Rattle.ba_facts.specs.Matches.{round_of}
@@ -148,9 +146,3 @@ abbrev pub IsPair : Scan → ℕ → ℕ → Option Batch → Type 0
 IsPair scan one other best =
     IsTurn scan.branch.now scan.quiet one other × IsTimelyKey scan.branch.now one other best ×
     ShareKey (schema_of scan) scan.branch.now one other
-
--- ---- splits
-
--- each is an `=`
-abbrev pub AreEquations : List Atom → Type 0
-AreEquations conds = All (λ (atom : Atom). atom.op ≡ Eq) conds

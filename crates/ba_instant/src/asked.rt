@@ -3,7 +3,7 @@ ghost use Rattle.std.specs.Prelude.{◌≡◌, [], All, Any, IsTrue, Some, slice
 ghost use Rattle.std.specs.List.{zip};
 ghost use Rattle.std.specs.Option.{option_map};
 ghost use Rattle.ba_facts.specs.Known.{seen};
-ghost use Rattle.ba_instant.specs.QuietKeys.{AreApart, FailsOnRow, GivesAnother, GoalLeaves, IsEquation, IsUnasked, IsUnmovedIf, KeepsOut, LeavesFact, LeavesRow, ReadsUnmoved, UnmovedSides, term_at};
+ghost use Rattle.ba_instant.specs.QuietKeys.{AreApart, FailsOnRow, GivesAnother, GoalLeaves, IsUnasked, IsUnmovedIf, KeepsOut, LeavesFact, LeavesRow, ReadsUnmoved, UnmovedSides, term_at};
 
 use crate::moves::{Move, cell, is_unmoved_if, stand_in};
 use ba_facts::{Branch, Fact, Knowledge, Term, TermRef};
@@ -33,7 +33,7 @@ fn parts_leave(branch: &Branch, moves: &[Move], fact: &Fact, parts: &[Part]) -> 
 fn part_leaves(branch: &Branch, moves: &[Move], fact: &Fact, part: &Part) -> bool
     ensures { IsTrue result → GoalLeaves branch.now moves.now fact.now part.now }
 {
-    if has_equations(part) {
+    if part.equations() {
         return true;
     }
     let asking = Asking {
@@ -74,21 +74,6 @@ fn rule_part_leaves(known: &Knowledge, moves: &[Move], fact: &Fact, part: &Part)
         part,
     };
     asking.leaves_fact(fact)
-}
-
-fn has_equations(part: &Part) -> bool
-    ensures { IsTrue result → All IsEquation part.now.conds }
-{
-    part.conds.as_slice().iter().all(|atom| is_equation(atom))
-}
-
-fn is_equation(atom: &Atom) -> bool
-    ensures { IsTrue result → IsEquation atom.now }
-{
-    match atom.op {
-        Op::Eq => true,
-        _ => false,
-    }
 }
 
 /// A part of which a row is asked, if it isn't empty, where unknowns are moved.
@@ -156,7 +141,7 @@ impl<'a> Asking<'a> {
         ensures { IsTrue result
             → FailsOnRow self.now.known.now self.now.moves.now place row.now atom.now }
     {
-        is_equation(atom)
+        atom.op.is_equation()
             && self.are_apart(
                 term_at(place, row, &atom.left),
                 term_at(place, row, &atom.right),

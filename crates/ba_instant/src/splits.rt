@@ -1,9 +1,9 @@
 //! Splits by atoms of live mappings.
-ghost use Rattle.std.specs.Prelude.{◌≡◌, ◌↔◌, ◌⊎◌, IfOk, IsTrue, OnOk};
+ghost use Rattle.std.specs.Prelude.{◌≡◌, ◌⊎◌, IfOk, OnOk};
 ghost use Rattle.std.specs.Option.{option_copied};
 ghost use Rattle.ba_facts.specs.Known.{seen};
 ghost use Rattle.ba_facts.specs.declared.term.Side.TheVariants.{One, Two};
-ghost use Rattle.ba_instant.specs.Scans.{AreEquations, ImprovesBy, IsScan};
+ghost use Rattle.ba_instant.specs.Scans.{ImprovesBy, IsScan};
 ghost use Rattle.ba_instant.specs.Offers.{IsSplitOfAtom, IsSplitOfPart, IsSplitOfParts, IsSplitOfRules, IsSplitOfSides, IsSplitOfViews, IsSplitStep};
 
 use crate::batch::{Batch, is_timely};
@@ -12,7 +12,7 @@ use crate::spread::Spread;
 use crate::standing::least_standing;
 use ba_facts::{Side, Term, TermAtom, TermRef};
 use ba_kernel::Step;
-use ba_model::{Atom, Duplicate, List, Op, Part, Rule, Same, View};
+use ba_model::{Atom, Duplicate, List, Op, Part, Rule, View};
 use std::alloc::{AllocError, Global};
 
 impl<'a> Scan<'a> {
@@ -109,7 +109,7 @@ impl<'a> Scan<'a> {
             (IsSplitOfPart self.now.branch.now self.now.number side (option_copied row.entry)
             part.now) best.old best.new) }
     {
-        if are_equations(part) {
+        if part.equations() {
             return Ok(());
         }
         let spread = Spread {
@@ -151,14 +151,6 @@ impl<'a> Scan<'a> {
             _ => Ok(()),
         }
     }
-}
-
-/// Whether each atom of the part is an `=`.
-fn are_equations(part: &Part) -> bool
-    ensures { IsTrue result ↔ AreEquations part.now.conds }
-{
-    let conds = part.conds.as_slice();
-    conds.iter().all(|atom| atom.op.same(&Op::Eq))
 }
 
 fn term_atom(
