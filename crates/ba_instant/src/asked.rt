@@ -8,7 +8,7 @@ ghost use Rattle.ba_instant.specs.QuietKeys.{AreApart, FailsOnRow, GivesAnother,
 use crate::moves::{Move, cell, is_unmoved_if, stand_in};
 use ba_facts::{Branch, Fact, Knowledge, Term, TermRef};
 use ba_kernel::Problem;
-use ba_model::{Atom, Op, Operand, Part, Rule};
+use ba_model::{Atom, Operand, Part, Rule};
 
 /// Whether neither the question nor a rule's left query asks for a moved unknown of the fact. A
 /// part of the question with equations alone asks for none. Another part leaves the fact if,
