@@ -8,7 +8,7 @@ use Rattle.ba_model.specs.declared.query.Part.{Part}
 use Rattle.ba_facts.proofs.PlaceLemmas.{upto}
 use Rattle.ba_facts.proofs.SearchingLemmas.{meets_last, pruned}
 use Rattle.ba_facts.specs.Matches.{HeadIs, IsFactOf, IsMapping, IsShown, IsUndecided, terms_at}
-use Rattle.ba_facts.specs.Searching.{Completes}
+use Rattle.ba_facts.specs.Walks.{Completes}
 use Rattle.ba_facts.specs.declared.branch.Branch.{Branch}
 use Rattle.ba_facts.specs.declared.matches.search.Wanted.TheVariants.{Shown}
 use Rattle.ba_facts.specs.declared.term.Side.TheVariants.{Two}
@@ -16,7 +16,8 @@ use Rattle.ba_facts.specs.declared.term.Term.{Term}
 use Rattle.ba_kernel.proofs.NewLemmas.{all_at}
 use Rattle.ba_kernel.proofs.StepFits.{Contains-at}
 use Rattle.ba_kernel.specs.Courses.{IsOpen}
-use Rattle.ba_kernel.specs.Tests.{Course, GoalPasses}
+use Rattle.ba_kernel.specs.Steps.{GoalPasses}
+use Rattle.ba_kernel.specs.Tests.{Course}
 use Rattle.ba_kernel.specs.declared.step.Step.TheVariants as steps
 use Rattle.ba_instant.proofs.AlikeLemmas.{Likes, like_fact, like_head, like_joined, like_shown, like_turned, likes_append, likes_itself, likes_last, likes_turned}
 use Rattle.ba_instant.proofs.ChaseLemmas.{new_on}

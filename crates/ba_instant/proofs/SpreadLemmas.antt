@@ -12,7 +12,7 @@ use Rattle.ba_model.specs.declared.query.Part.{Part}
 use Rattle.ba_facts.proofs.PlaceLemmas.{upto}
 use Rattle.ba_facts.proofs.SearchingLemmas.{completes_last, last_completes, meets_last, pruned}
 use Rattle.ba_facts.specs.Matches.{GivesAtom, HeadIs, IsFactOf, IsLiveAtom, IsMapping, Under, term_of, terms_at}
-use Rattle.ba_facts.specs.Searching.{Completes}
+use Rattle.ba_facts.specs.Walks.{Completes}
 use Rattle.ba_facts.specs.Shown.{RefutesOf, ShowsOf}
 use Rattle.ba_facts.specs.declared.branch.Branch.{Branch}
 use Rattle.ba_facts.specs.declared.matches.search.Wanted.TheVariants.{Live}
@@ -20,7 +20,7 @@ use Rattle.ba_facts.specs.declared.term.Side.{Side}
 use Rattle.ba_facts.specs.declared.term.Term.{Term}
 use Rattle.ba_facts.specs.declared.term.TermAtom.{TermAtom}
 use Rattle.ba_kernel.specs.Courses.{IsOpen}
-use Rattle.ba_kernel.specs.News.{IsOfNewKind}
+use Rattle.ba_kernel.specs.Steps.{IsOfNewKind}
 use Rattle.ba_kernel.specs.Tests.{Course}
 use Rattle.ba_kernel.specs.declared.step.Step.{Step}
 use Rattle.ba_kernel.specs.declared.step.Step.TheVariants as steps

@@ -12,7 +12,7 @@ use Rattle.ba_model.specs.declared.schema.Schema.{Schema}
 use Rattle.ba_model.specs.declared.schema.Table.{Table}
 use Rattle.ba_facts.specs.Known.{Known}
 use Rattle.ba_facts.specs.Matches.{GivesAtom, IsLiveAtom, Under, terms_at}
-use Rattle.ba_facts.specs.Searching.{Completes}
+use Rattle.ba_facts.specs.Walks.{Completes}
 use Rattle.ba_facts.specs.Shown.{ShowsOf}
 use Rattle.ba_facts.specs.declared.branch.Branch.{Branch}
 use Rattle.ba_facts.specs.declared.matches.search.Wanted.TheVariants.{Shown}
@@ -21,9 +21,10 @@ use Rattle.ba_facts.specs.declared.term.Side.TheVariants.{One, Two}
 use Rattle.ba_facts.specs.declared.term.Term.{Term}
 use Rattle.ba_facts.specs.declared.term.TermAtom.{TermAtom}
 use Rattle.ba_kernel.specs.Courses.{branch_of}
-use Rattle.ba_kernel.specs.News.{IsNewAt, IsRound}
+use Rattle.ba_kernel.specs.News.{IsNewAt}
+use Rattle.ba_kernel.specs.Steps.{FactsPass, IsRound}
+use Rattle.ba_kernel.specs.Tests.{Course, open_at}
 use Rattle.ba_kernel.specs.NewParts.{IsAtomOfParts, IsAtomOfRules, IsAtomOfSides, IsAtomOfViews}
-use Rattle.ba_kernel.specs.Tests.{Course, FactsPass, open_at}
 use Rattle.ba_kernel.specs.declared.problem.Problem.{Problem}
 use Rattle.ba_kernel.specs.declared.step.Step.{Step}
 use Rattle.ba_kernel.specs.declared.step.Step.TheVariants as steps
