@@ -31,7 +31,7 @@ pub struct Shelf {
 }
 
 impl Storied for Shelf {
-    ghost use Rattle.ba_cache.specs.Reads.{calls_of, room_of, admitted, looked, rows_of};
+    ghost use Rattle.ba_cache.specs.Reads.{calls_of, room_of};
 
     type Opening = ();
 
@@ -54,6 +54,7 @@ impl Storied for Shelf {
 impl Shelf {
     ghost use Rattle.std.specs.Prelude.{[], ◌∷◌, ◌++◌, All, IfOk};
     ghost use Rattle.ba_cache.specs.Rows.{IsSound, Steps};
+    ghost use Rattle.ba_cache.specs.Reads.{admitted, calls_of, looked, room_of, rows_of};
 
     /// A shelf with nothing on it.
     pub fn new(alloc: Global) -> Result<Shelf, AllocError>

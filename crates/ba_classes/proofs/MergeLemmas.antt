@@ -4,8 +4,7 @@ use Rattle.std.proofs.lemmas.List.{take-append-le, take-append-drop, take_all, l
 use Rattle.std.proofs.lemmas.List.Elements.{Contains-append_left, Contains-push, Contains-push_cases}
 use Rattle.std.proofs.lemmas.Bool.{eqb-true, eqb-false, eq-eqb, ne_eqb, cases_lt, cond-false, cond_both}
 use Rattle.std.proofs.Math.Nat.{le_antisymm}
-use Rattle.ba_classes.specs.Merged.{Connected, merged, itself, turned, IsLabel, IsLabelling}
-use Rattle.ba_classes.specs.Best.{joined}
+use Rattle.ba_classes.specs.Merged.{Connected, merged, itself, turned, joined, IsLabel, IsLabelling}
 
 -- more merges connect no fewer terms
 pub Connected-more : {merges : List (ℕ × ℕ)} {a b : ℕ} (more : List (ℕ × ℕ)) → Connected merges a b → Connected (merges ++ more) a b

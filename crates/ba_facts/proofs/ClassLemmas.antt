@@ -5,8 +5,7 @@ use Rattle.std.proofs.Math.Nat.{le_antisymm}
 use Rattle.std.proofs.lemmas.Bool.{cases_eq}
 use Rattle.std.proofs.lemmas.Option.{same_Some}
 use Rattle.std.proofs.lemmas.List.Elements.{Contains-append_left, Contains-push, Contains-push_cases}
-use Rattle.ba_classes.specs.Merged.{Connected, merged, itself, turned, IsLabel}
-use Rattle.ba_classes.specs.Best.{joined}
+use Rattle.ba_classes.specs.Merged.{Connected, merged, itself, turned, joined, IsLabel}
 use Rattle.ba_facts.specs.Known.{Known, OneClass, Equated, equated, itself, turned, joined}
 use Rattle.ba_facts.specs.Webs.{AreLinked, AreConnected, IsLinked, Joins}
 use Rattle.ba_facts.specs.declared.term.Term.{Term}

@@ -5,8 +5,7 @@ use Rattle.std.proofs.lemmas.List.{length-set}
 use Rattle.std.proofs.lemmas.Option.{none-some, same_Some}
 use Rattle.ba_model.specs.declared.query.Op.TheVariants.{Lt, Le}
 use Rattle.ba_model.specs.declared.value.Value.TheVariants.{Int}
-use Rattle.ba_classes.specs.Merged.{Connected, IsLabel, itself, turned}
-use Rattle.ba_classes.specs.Best.{joined}
+use Rattle.ba_classes.specs.Merged.{Connected, IsLabel, itself, turned, joined}
 use Rattle.ba_classes.specs.declared.order.Difference.{Difference}
 use Rattle.ba_facts.specs.Known.{Known, Learned}
 use Rattle.ba_facts.specs.Marks.{both_places, both_marks, number_place, HasMark, IsDenied, IsUpdated}

@@ -19,7 +19,8 @@ use Rattle.ba_model.specs.declared.query.Operand.TheVariants.{Col, Val, Param, V
 use Rattle.ba_model.specs.declared.query.Part.{Part}
 use Rattle.ba_facts.proofs.OrderOfListsLemmas.{less_at, rising_append}
 use Rattle.ba_facts.specs.Walks.{AddsThose, AreRising, AreThose, BeginsIn, Completes, CompletesBy, Composes, FailsAt, Gathers, IsAnsweredFrom, IsSpared, IsThat, IsWanted, every}
-use Rattle.ba_facts.specs.Matches.{AreMatches, IsAnswered, IsFactOf, IsMapping, IsMatch, IsLiveMapping, IsUndecided, Under, term_of, terms_at}
+use Rattle.ba_facts.specs.Matches.{AreMatches, IsAnswered, IsFactOf, IsMapping, IsMatch, IsLiveMapping, IsUndecided, Under}
+use Rattle.ba_facts.specs.Matches.{term_of, terms_at}
 use Rattle.ba_facts.specs.declared.branch.Branch.{Branch}
 use Rattle.ba_facts.specs.declared.walk.Wanted.{Wanted}
 use Rattle.ba_facts.specs.declared.walk.Wanted.TheVariants.{Live, Shown}

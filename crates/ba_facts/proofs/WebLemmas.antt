@@ -6,8 +6,7 @@ use Rattle.std.proofs.lemmas.Int.{ints}
 use Rattle.std.proofs.lemmas.List.Elements.{Contains-append_left, Contains-push, Contains-push_cases}
 use Rattle.std.proofs.lemmas.Option.{none-some}
 use Rattle.ba_model.specs.declared.query.Op.TheVariants.{Lt, Le}
-use Rattle.ba_classes.specs.Merged.{Connected, Merged, merged, itself, turned}
-use Rattle.ba_classes.specs.Best.{joined}
+use Rattle.ba_classes.specs.Merged.{Connected, Merged, merged, itself, turned, joined}
 use Rattle.ba_classes.specs.declared.order.Difference.{Difference}
 use Rattle.ba_facts.specs.Known.{Known, DifferentLiterals, Equated, Learned, NotNullTerm, OneClass, equated, itself, turned, joined, within, none, Rise}
 use Rattle.ba_facts.specs.Knowing.{IsThere}

@@ -10,7 +10,8 @@ use Rattle.ba_kernel.specs.Courses.{branch_of}
 use Rattle.ba_kernel.specs.declared.problem.Problem.{Problem}
 use Rattle.ba_kernel.specs.declared.step.Step.{Step}
 use Rattle.ba_kernel.specs.declared.step.Step.TheVariants as steps
-use Rattle.ba_general.specs.Leaving.{AreOthers, CanNotBeLeftOut, Gaps, IsClosedUp, IsLeftOut, IsMoved, IsMovedAtom, IsMovedBy, IsMovedTerm, IsWithout, KeptAreOne, Leaves, gap_on, gaps_after, gaps_with, made, middle}
+use Rattle.ba_general.specs.Leaving.{AreOthers, CanNotBeLeftOut, Gaps, IsClosedUp, IsLeftOut, IsMoved, IsMovedAtom, IsMovedBy, IsMovedTerm, IsWithout, KeptAreOne, Leaves}
+use Rattle.ba_general.specs.Leaving.{gap_on, gaps_after, gaps_with, made, middle}
 use Rattle.ba_general.specs.declared.gap.Gap.{Gap}
 use Rattle.ba_general.specs.declared.gap.Span.{Span}
 use Rattle.ba_general.specs.declared.making.Made.{Made}

@@ -6,7 +6,8 @@ use Rattle.ba_model.specs.declared.query.Op.TheVariants.{Eq, Ne, Lt, Le, IsNull,
 use Rattle.ba_model.specs.declared.value.Value.{Value}
 use Rattle.ba_model.specs.declared.value.Value.TheVariants.{Null, Int}
 use Rattle.ba_facts.proofs.ChainLemmas.{one_rise, then}
-use Rattle.ba_facts.specs.Known.{Chain, DifferentLiterals, Equated, Known, Learned, NotNullTerm, OneClass, Rise, ShownGap, ShownNotNull, ShownNull, equated, itself, turned, joined, left, right, within, at_most, less, number, none, first}
+use Rattle.ba_facts.specs.Known.{Chain, DifferentLiterals, Equated, Known, Learned, NotNullTerm, OneClass, Rise, ShownGap, ShownNotNull, ShownNull}
+use Rattle.ba_facts.specs.Known.{equated, itself, turned, joined, left, right, within, at_most, less, number, none, first}
 use Rattle.ba_facts.specs.Shown.{Absurd, AreTheTwo, EitherNull, IsAtMost, IsEqual, IsLess, IsUnequal, NeitherNull, RecordedApart, RefutesOf, ShowsOf, TheSame}
 use Rattle.ba_facts.specs.Shown as shown
 use Rattle.ba_facts.specs.declared.term.Term.{Term}

@@ -5,7 +5,8 @@ use Rattle.std.specs.List.{All, zip}
 use Rattle.std.specs.Prelude.{Some, None, slice_get}
 use Rattle.ba_model.specs.declared.query.Op.{Op}
 use Rattle.ba_model.specs.declared.query.Op.TheVariants.{Eq, Ne, Lt, Le, IsNull, NotNull}
-use Rattle.ba_facts.specs.Known.{Equated, IsComparison, Known, NotNullTerm, OneClass, ShownNotNull, same, equal, null, equated, column, literal, param, var, left, right, recorded}
+use Rattle.ba_facts.specs.Known.{Equated, IsComparison, Known, NotNullTerm, OneClass, ShownNotNull}
+use Rattle.ba_facts.specs.Known.{same, equal, null, equated, column, literal, param, var, left, right, recorded}
 use Rattle.ba_facts.specs.Shown.{NeitherNull}
 use Rattle.ba_facts.specs.declared.term.Lesson.{Lesson}
 use Rattle.ba_facts.specs.declared.term.Lesson.TheVariants.{Same, Holds}

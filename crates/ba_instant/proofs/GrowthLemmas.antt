@@ -7,7 +7,8 @@ use Rattle.ba_facts.proofs.Elements.{get_append_old}
 use Rattle.ba_model.specs.declared.query.Op.{Op}
 use Rattle.ba_model.specs.declared.query.Op.TheVariants.{Eq, Ne, Lt, Le, IsNull, NotNull}
 use Rattle.ba_model.specs.declared.value.Value.TheVariants.{Null}
-use Rattle.ba_facts.specs.Known.{Equated, IsComparison, Known, Learned, NotNullTerm, OneClass, ShownNotNull, same, equal, null, equated, itself, column, literal, param, var, left, right, recorded, at_most, less}
+use Rattle.ba_facts.specs.Known.{Equated, IsComparison, Known, Learned, NotNullTerm, OneClass, ShownNotNull}
+use Rattle.ba_facts.specs.Known.{same, equal, null, equated, itself, column, literal, param, var, left, right, recorded, at_most, less}
 use Rattle.ba_facts.specs.Knowing.{IsThere, LessonIsThere}
 use Rattle.ba_facts.specs.Shown.{NeitherNull}
 use Rattle.ba_facts.specs.declared.branch.Branch.{Branch}

@@ -5,7 +5,8 @@ use Rattle.std.proofs.lemmas.List.Elements.{Contains-push_cases}
 use Rattle.ba_model.specs.declared.query.Op.{Op}
 use Rattle.ba_model.specs.declared.query.Op.TheVariants.{Eq, Lt, Le, IsNull, NotNull}
 use Rattle.ba_facts.proofs.ChainLemmas.{one_rise}
-use Rattle.ba_facts.specs.Known.{Chain, DifferentLiterals, Equated, Known, Learned, NotNullTerm, OneClass, Rise, ShownGap, ShownNotNull, same, equal, null, equated, itself, turned, joined, column, literal, param, var, left, right, recorded, within, at_most, less, number, none, first}
+use Rattle.ba_facts.specs.Known.{Chain, DifferentLiterals, Equated, Known, Learned, NotNullTerm, OneClass, Rise, ShownGap, ShownNotNull}
+use Rattle.ba_facts.specs.Known.{same, equal, null, equated, itself, turned, joined, column, literal, param, var, left, right, recorded, within, at_most, less, number, none, first}
 use Rattle.ba_facts.specs.Knowing.{IsBound}
 use Rattle.ba_facts.specs.Shown.{IsEqual, NeitherNull, TheSame}
 use Rattle.std.specs.Prelude.{Option, None}

@@ -9,7 +9,7 @@ use Rattle.ba_model.specs.declared.query.Operand.TheVariants.{Col, Val, Param, V
 use Rattle.ba_model.specs.declared.query.Part.{Part}
 use Rattle.ba_facts.specs.Known.{Known}
 use Rattle.ba_facts.specs.Matches.{GivesAtom, HeadIs, IsFactOf, IsLive, terms_at}
-use Rattle.ba_facts.specs.Walks.{Completes, FailsAt, HasAtomFrom}
+use Rattle.ba_facts.specs.Searching.{Completes, FailsAt, HasAtomFrom}
 use Rattle.ba_facts.specs.Shown.{RefutesOf, ShowsOf}
 use Rattle.ba_facts.specs.declared.branch.Branch.{Branch}
 use Rattle.ba_facts.specs.declared.term.Fact.{Fact}

@@ -1,7 +1,7 @@
 //! Whether a part of the goal can be mapped to facts at all.
 ghost use Rattle.std.specs.Prelude.{◌≡◌, ◌↔◌, ◌⊎◌, [], All, Any, IfOk, IsTrue, OnOk, Some, map};
 ghost use Rattle.ba_facts.specs.Matches.{IsFactOf, terms_at};
-ghost use Rattle.ba_facts.specs.Walks.{FailsAt};
+ghost use Rattle.ba_facts.specs.Searching.{FailsAt};
 ghost use Rattle.ba_facts.specs.declared.matches.search.Wanted.TheVariants.{Shown};
 ghost use Rattle.ba_facts.specs.declared.term.Side.TheVariants.{Two};
 ghost use Rattle.ba_instant.specs.Spreads.{HasFact, IsLostBy, IsPassedBy, NoneReach};

@@ -5,7 +5,7 @@ ghost use Rattle.std.specs.List.{AllZip};
 ghost use Rattle.ba_model.specs.declared.query.Op.TheVariants.{Eq};
 ghost use Rattle.ba_facts.specs.Known.{seen};
 ghost use Rattle.ba_facts.specs.Matches.{AreTheSame, HeadIs, IsFactOf, IsLive, Under, row_of, term_of, terms_at};
-ghost use Rattle.ba_facts.specs.Walks.{FailsAt, IsNoFront, IsOther};
+ghost use Rattle.ba_facts.specs.Searching.{FailsAt, IsNoFront, IsOther};
 ghost use Rattle.ba_facts.specs.declared.matches.search.Wanted.TheVariants.{Live};
 ghost use Rattle.ba_instant.specs.Scans.{ImprovesBy, IsScan};
 ghost use Rattle.ba_instant.specs.Spreads.{AreChoices, IsAt, IsLikeSplit, IsLikeSplits, IsLiveOn, IsOpenOf, IsOver, IsSplitFrom, IsSplitOf, LeadsNowhere, NamesPlace, PassesBy};

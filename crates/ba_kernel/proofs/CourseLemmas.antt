@@ -14,7 +14,8 @@ use Rattle.ba_facts.specs.Laws.{StrongHasNoViolation}
 use Rattle.ba_facts.specs.declared.branch.Branch.{Branch}
 use Rattle.ba_kernel.proofs.OperandLemmas.{get_kept}
 use Rattle.ba_kernel.proofs.StartLemmas.{start_fits}
-use Rattle.ba_kernel.specs.Courses.{AllClosed, ClosedIsStrong, FitsSome, IsOpen, IsSound, ProblemFits, Runs, RunsAreSound, Slots, Takes, after, branch_of, start, next}
+use Rattle.ba_kernel.specs.Courses.{AllClosed, ClosedIsStrong, FitsSome, IsOpen, IsSound, ProblemFits, Runs, RunsAreSound, Slots, Takes}
+use Rattle.ba_kernel.specs.Courses.{after, branch_of, start, next}
 use Rattle.ba_kernel.specs.Problems.{Breaks, IsInstance, IsTraceAt, query_at}
 use Rattle.ba_kernel.specs.Soundness.{StepKeepsFit}
 use Rattle.ba_kernel.specs.declared.problem.Problem.{Problem}

@@ -16,7 +16,8 @@ use Rattle.ba_facts.specs.declared.term.TermAtom.{TermAtom}
 use Rattle.ba_kernel.proofs.OneCase.{some_inj}
 use Rattle.ba_kernel.proofs.TestLemmas.{facts_not_both, key_is, rule_part_is, view_part_is}
 use Rattle.ba_kernel.specs.Effects.{rows_at}
-use Rattle.ba_kernel.specs.Steps.{AreEqualAt, FactsRefuse, GoalRefuses, IsFirstDifferent, IsFirstWithout, IsKeyOf, IsLinkOf, IsNotNullAt, KeyRefuses, LinkRefuses, Refuses, RuleRefuses, SplitRefuses, ViewRefuses}
+use Rattle.ba_kernel.specs.Steps.{AreEqualAt, FactsRefuse, GoalRefuses, IsFirstDifferent, IsFirstWithout, IsKeyOf, IsLinkOf, IsNotNullAt, KeyRefuses, LinkRefuses, Refuses}
+use Rattle.ba_kernel.specs.Steps.{RuleRefuses, SplitRefuses, ViewRefuses}
 use Rattle.ba_kernel.specs.declared.problem.Problem.{Problem}
 use Rattle.ba_kernel.specs.declared.step.Step.{Step}
 use Rattle.ba_kernel.specs.declared.step.Step.TheVariants as steps

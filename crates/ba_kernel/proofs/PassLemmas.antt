@@ -14,7 +14,8 @@ use Rattle.ba_facts.proofs.PlaceLemmas.{all_places, upto}
 use Rattle.ba_facts.specs.Known.{Known}
 use Rattle.ba_facts.specs.Matches.{AreTheSame, IsMapping, IsShown, IsUndecided, row_of, term_of}
 use Rattle.ba_kernel.specs.Effects.{rows_at}
-use Rattle.ba_kernel.specs.Steps.{AreEqualAt, ArePair, FactsPass, FactsRefuse, FirstWithout, GoalRefuses, IsFirstDifferent, IsFirstWithout, IsKeyOf, IsLinkOf, IsNotNullAt, KeyRefuses, LinkRefuses}
+use Rattle.ba_kernel.specs.Steps.{AreEqualAt, ArePair, FactsPass, FactsRefuse, FirstWithout, GoalRefuses, IsFirstDifferent, IsFirstWithout, IsKeyOf, IsLinkOf, IsNotNullAt}
+use Rattle.ba_kernel.specs.Steps.{KeyRefuses, LinkRefuses}
 use Rattle.ba_kernel.specs.Tests.{Tested}
 use Rattle.ba_facts.specs.declared.branch.Branch.{Branch}
 use Rattle.ba_kernel.specs.declared.problem.Problem.{Problem}

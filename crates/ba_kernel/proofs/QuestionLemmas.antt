@@ -23,7 +23,8 @@ use Rattle.ba_facts.specs.Fits.{Instance}
 use Rattle.ba_facts.specs.Matches.{Under}
 use Rattle.ba_facts.specs.declared.term.Term.TheVariants.{Param, Val}
 use Rattle.ba_kernel.proofs.CaseFactLemmas.{zip_append}
-use Rattle.ba_kernel.specs.Problems.{HoldsOf, IsEntryAt, IsInstance, ProblemIsQuestion, atom_at, entries_of, fixed_value, operand_at, param_is, part_at, problem_of, query_at}
+use Rattle.ba_kernel.specs.Problems.{HoldsOf, IsEntryAt, IsInstance, ProblemIsQuestion}
+use Rattle.ba_kernel.specs.Problems.{atom_at, entries_of, fixed_value, operand_at, param_is, part_at, problem_of, query_at}
 use Rattle.ba_kernel.specs.declared.problem.ProblemEntry.{ProblemEntry}
 
 -- ---- without variables a query stays the same

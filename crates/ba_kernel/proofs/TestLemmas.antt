@@ -8,7 +8,9 @@ use Rattle.ba_model.specs.declared.query.Part.{Part}
 use Rattle.ba_model.specs.declared.schema.Kind.{Kind}
 use Rattle.ba_facts.specs.Matches.{AreTheSame, IsMapping, IsShown, row_of}
 use Rattle.ba_kernel.specs.Effects.{rows_at}
-use Rattle.ba_kernel.specs.Steps.{AreEqualAt, FactsPass, FactsRefuse, GoalPasses, GoalRefuses, IsFirstWithout, IsKeyOf, IsLinkOf, IsNotNullAt, IsRulePart, IsViewPart, KeyPasses, KeyRefuses, LinkPasses, LinkRefuses, RulePasses, RuleRefuses, SplitPasses, SplitRefuses, ViewPasses, ViewRefuses}
+use Rattle.ba_kernel.specs.Steps.{AreEqualAt, FactsPass, FactsRefuse, GoalPasses, GoalRefuses, IsFirstWithout, IsKeyOf, IsLinkOf, IsNotNullAt, IsRulePart}
+use Rattle.ba_kernel.specs.Steps.{IsViewPart, KeyPasses, KeyRefuses, LinkPasses, LinkRefuses, RulePasses, RuleRefuses, SplitPasses, SplitRefuses, ViewPasses}
+use Rattle.ba_kernel.specs.Steps.{ViewRefuses}
 use Rattle.ba_kernel.specs.Tests.{PassedIsNotRefused}
 use Rattle.ba_facts.specs.Knowing.{IsThere}
 use Rattle.ba_facts.specs.Laws.{kind_of_term}

@@ -15,7 +15,8 @@ use Rattle.ba_match.proofs.FreeLemmas.{query_fixes, row_fixes, was_free}
 use Rattle.ba_match.specs.Bindings.{Extends, Narrows}
 use Rattle.ba_match.specs.Searches.{IsLeft, IsRest}
 use Rattle.ba_template.specs.Found.{StandsAt, with_values}
-use Rattle.ba_template.specs.Templates.{operands_of, operands_of_entry, EachVarStands}
+use Rattle.ba_template.specs.Templates.{operands_of, operands_of_entry}
+use Rattle.ba_template.specs.Templates.{EachVarStands}
 use Rattle.ba_template.specs.declared.found.Match.{Match}
 
 -- the match at a place and then this one

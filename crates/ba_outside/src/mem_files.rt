@@ -31,7 +31,7 @@ pub struct MemFiles {
 
 impl Model for MemFiles {
     ghost use Rattle.std.specs.Prelude.{map, string_bytes};
-    ghost use Rattle.ba_outside.specs.MemFiles.{MemFilesSeen, held_in, shown};
+    ghost use Rattle.ba_outside.specs.MemFiles.{MemFilesSeen};
 
     ghost Value = { MemFilesSeen };
 
@@ -47,6 +47,7 @@ impl Model for MemFiles {
 
 impl MemFiles {
     ghost use Rattle.std.specs.Prelude.{◌≡◌, [], Some, map, string_bytes};
+    ghost use Rattle.ba_outside.specs.MemFiles.{held_in};
 
     /// Files that were never asked, of which the calls of the numbers in `failing` will fail.
     /// `alloc` is kept for the answers.
@@ -90,6 +91,7 @@ pub(crate) fn find<'a>(files: &'a [Held], name: &str) -> Option<&'a [u8]>
 }
 
 impl Files for MemFiles {
+    ghost use Rattle.ba_outside.specs.MemFiles.{shown};
 
     ghost seen = { λ m. shown m };
 

@@ -49,6 +49,7 @@ impl Model for MemSink {
 
 impl MemSink {
     ghost use Rattle.std.specs.Prelude.{◌≡◌, [], Some};
+    ghost use Rattle.ba_outside.specs.Sink.{lists_of};
 
     /// A sink that nothing was written to. The calls of the numbers in `failing` will fail, and
     /// each call will take at most as many bytes as its number in `takes` says. `alloc` is kept for

@@ -38,6 +38,7 @@ impl SureFiles {
 
 impl Files for SureFiles {
     ghost use Rattle.std.specs.Prelude.{Some, map, string_bytes};
+    ghost use Rattle.ba_outside.specs.MemFiles.{held_or_empty};
 
     ghost seen = { λ m. record {
       held = Some (held_or_empty m.files.items);

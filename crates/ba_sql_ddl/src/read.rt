@@ -43,7 +43,7 @@ const RESERVED: [&str; 23] = [
 ];
 
 impl Element<Lexeme> for Name {
-    ghost use Rattle.ba_sql_ddl.specs.Reader.{ddl_name_at, item_at, table_at};
+    ghost use Rattle.ba_sql_ddl.specs.Reader.{ddl_name_at};
 
     ghost read_at = { ddl_name_at };
 
@@ -311,6 +311,7 @@ fn item(alloc: Global, words: &[Lexeme]) -> Result<(TableItem, &[Lexeme]), Failu
 }
 
 impl Element<Lexeme> for TableItem {
+    ghost use Rattle.ba_sql_ddl.specs.Reader.{item_at};
 
     ghost read_at = { item_at };
 
@@ -334,6 +335,7 @@ fn table(alloc: Global, words: &[Lexeme]) -> Result<(TableText, &[Lexeme]), Fail
 }
 
 impl Element<Lexeme> for TableText {
+    ghost use Rattle.ba_sql_ddl.specs.Reader.{table_at};
 
     ghost read_at = { table_at };
 

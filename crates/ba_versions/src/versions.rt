@@ -26,7 +26,7 @@ pub struct Versions {
 }
 
 impl Storied for Versions {
-    ghost use Rattle.ba_versions.specs.Reads.{calls_of, opening_of, room_of, pinned, published, versions_of};
+    ghost use Rattle.ba_versions.specs.Reads.{calls_of, opening_of, room_of};
 
     type Opening = Tables;
 
@@ -50,6 +50,7 @@ impl Storied for Versions {
 impl Versions {
     ghost use Rattle.std.specs.Prelude.{[], ◌∷◌, ◌++◌, IfOk};
     ghost use Rattle.ba_versions.specs.Calls.{Steps};
+    ghost use Rattle.ba_versions.specs.Reads.{calls_of, opening_of, pinned, published, room_of, versions_of};
 
     /// The tables are version 0, and no call was made.
     pub fn new(alloc: Global, tables: Shared<Tables>) -> Result<Versions, AllocError>
