@@ -18,11 +18,12 @@ use Rattle.ba_kernel.proofs.CaseFactLemmas.{zip_length}
 use Rattle.ba_kernel.proofs.StepFits.{All-at}
 use Rattle.ba_kernel.proofs.TidyLemmas.{have_terms, term_there}
 use Rattle.ba_kernel.specs.Courses.{EntryFits, ProblemFits, RowOperandFits}
-use Rattle.ba_kernel.specs.Effects.{EntryLeads, IsCase, IsEntryRound, ViewLeads, rows_at}
+use Rattle.ba_kernel.specs.Effects.{AreNext, IsCase, IsEntryRound, rows_at}
+use Rattle.ba_kernel.specs.Steps.{EntryLeads, FactsPass, ViewLeads, ViewPasses}
+use Rattle.ba_kernel.specs.Tests.{FactIsTidy, IsTidy}
+use Rattle.ba_kernel.specs.Tidy.{AreAsWide, FactsAreThere, HasTerm, IsAsWide, IsPartFor, IsReady, TermsAreThere}
 use Rattle.ba_facts.specs.Knowing.{IsThere}
 use Rattle.ba_facts.specs.Matches.{IsFactOf, IsMapping, round_of, row_of, term_of, terms_at}
-use Rattle.ba_kernel.specs.Tests.{FactIsTidy, FactsPass, IsTidy, ViewPasses}
-use Rattle.ba_kernel.specs.Tidy.{AreAsWide, AreNext, FactsAreThere, HasTerm, IsAsWide, IsPartFor, IsReady, TermsAreThere}
 use Rattle.ba_facts.specs.declared.branch.Branch.{Branch}
 use Rattle.ba_kernel.specs.declared.problem.Problem.{Problem}
 use Rattle.ba_kernel.specs.declared.problem.ProblemEntry.{ProblemEntry}
@@ -117,8 +118,7 @@ module _ (p : Problem) (entry : ℕ) (it : ProblemEntry) (fits : ProblemFits p) 
       AllZip (IsCase p.policy.schema b One round row) parts cases → EntryLeads p b entry cases
   entry_leads b operands items row round parts cases same e row_is round_is parts_are h =
       record {
-        it = it;
-        there = there;
+        passes = record { it = it; there = there };
         row = row;
         row_is = head_gives b [] it.row operands items row same e row_is;
         round = round;
@@ -184,11 +184,6 @@ module _ (p : Problem) (b : Branch) (fits : ProblemFits p) (tidy : IsTidy p b) w
         ViewLeads p b view part facts cases
     view_leads parts cases same h =
         record {
-          it = it;
-          view_is = at_view;
-          of = of;
-          part_is = at_part;
-          row = h.row;
-          yields = record { mapping = view_pass.mapping; shown = view_pass.shown; head = h.row_is };
-          cases_are = subst (λ ps. AllZip (IsCase p.policy.schema b Two (1 + round_of b facts) h.row) ps cases) same h.cases_are;
+          passes = record { it = of; is_part = record { of = it; view_is = at_view; part_is = at_part }; pass = view_pass };
+          next = subst (λ ps. AreNext p.policy.schema b Two of facts ps cases) same h;
         }

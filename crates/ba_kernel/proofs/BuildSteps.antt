@@ -4,7 +4,7 @@ use Rattle.std.proofs.lemmas.List.{map-append}
 use Rattle.std.proofs.lemmas.Grind.{get_or_default_zero}
 use Rattle.std.proofs.lemmas.List.Elements.{All-weaker}
 use Rattle.std.proofs.lemmas.Option.{same_Some, slice_get_read, slice_get_within}
-use Rattle.std.specs.List.{All, AllZip, range_with_len, zip}
+use Rattle.std.specs.List.{All, range_with_len, zip}
 use Rattle.std.specs.Option.{option_map}
 use Rattle.std.specs.Prelude.{Option, Some, None, ◌≢◌, option_and_then, slice_get, unwrap_or}
 use Rattle.ba_model.specs.Fit.{PartFits, kind_of}
@@ -24,14 +24,14 @@ use Rattle.ba_kernel.proofs.BuildNext.{mapped_terms, parts_for, same_count}
 use Rattle.ba_kernel.proofs.StepFits.{All-at}
 use Rattle.ba_kernel.proofs.TidyLemmas.{facts_there, facts_wide, row_there_more, terms_there, unknowns_kept}
 use Rattle.ba_kernel.specs.Courses.{LinkFits, ProblemFits, RuleFits}
-use Rattle.ba_kernel.specs.Effects.{IsCase, IsNotNullAt, KeyLeads, LinkLeads, RuleLeads, SplitFits, negation, negation_of, rows_at, same_at}
-use Rattle.ba_kernel.specs.Effects.{with_fact, with_lessons}
+use Rattle.ba_kernel.specs.Effects.{AreNext, negation, negation_of, rows_at, same_at, same_pair, with_fact, with_lessons}
+use Rattle.ba_kernel.specs.Steps.{FactsPass, IsNotNullAt, KeyLeads, KeyPasses, LinkLeads, LinkPasses, RuleLeads, RulePasses, SplitPasses}
+use Rattle.ba_kernel.specs.Tests.{FactIsTidy, IsTidy}
+use Rattle.ba_kernel.specs.Tidy.{FactsAreThere, HasColumns, HasTerm, IsPartFor, Learns, TermsAreThere}
 use Rattle.ba_facts.specs.Known.{Known}
 use Rattle.ba_facts.specs.Knowing.{IsThere, sort_of}
 use Rattle.ba_facts.specs.Laws.{kind_of_term, with_lesson}
-use Rattle.ba_facts.specs.Matches.{IsFactOf, IsMapping, round_of, terms_at}
-use Rattle.ba_kernel.specs.Tests.{FactIsTidy, FactsPass, IsTidy, KeyPasses, LinkPasses, RulePasses}
-use Rattle.ba_kernel.specs.Tidy.{AreNext, FactsAreThere, HasColumns, HasTerm, IsPartFor, Learns, TermsAreThere, same_pair}
+use Rattle.ba_facts.specs.Matches.{IsFactOf, IsMapping, terms_at}
 use Rattle.ba_facts.specs.declared.branch.Branch.{Branch}
 use Rattle.ba_kernel.specs.declared.problem.Problem.{Problem}
 use Rattle.ba_facts.specs.declared.term.Fact.{Fact}
@@ -95,14 +95,13 @@ module _ (p : Problem) (b : Branch) (fits : ProblemFits p) (tidy : IsTidy p b) (
       let fact_is : first ≡ (first_fact.1).fact = same_Some first (first_fact.1).fact (sym first_is ∙ (first_fact.1).there) in
       let side_is : first.side ≡ passes.side = ap (λ (fact : Fact). fact.side) fact_is ∙ (first_fact.1).side_is in
       record {
-        it = it;
-        rule_is = at_rule;
-        left = left;
-        part_is = at_part;
-        side = first.side;
-        row = h.row;
-        yields = record { mapping = subst (λ side. IsMapping b side left.from facts) (sym side_is) rule_pass.mapping; shown = rule_pass.shown; head = h.row_is };
-        cases_are = subst (λ ps. AllZip (IsCase p.policy.schema b first.side (1 + round_of b facts) h.row) ps cases) same h.cases_are;
+        passes = record {
+          it = left;
+          is_part = record { of = it; rule_is = at_rule; part_is = at_part };
+          side = first.side;
+          pass = subst (λ side. FactsPass b side left facts) (sym side_is) rule_pass;
+        };
+        next = subst (λ ps. AreNext p.policy.schema b first.side left facts ps cases) same h;
       }
 
 -- ---- keys
@@ -146,12 +145,7 @@ module _ (p : Problem) (b : Branch) (tidy : IsTidy p b) (key left right : ℕ) (
       let terms_are : terms ≡ passes.f.terms = a ∙ ap (λ (fact : Fact). fact.terms) (sym same_f) in
       let others_are : others ≡ passes.g.terms = c ∙ ap (λ (fact : Fact). fact.terms) (sym same_g) in
       record {
-        f = passes.f;
-        g = passes.g;
-        pair = passes.pair;
-        columns = passes.columns;
-        key_of = passes.key_of;
-        equal = passes.equal;
+        passes = passes;
         cases_are =
             cases_is ∙ ap (λ (one : Branch). one ∷ []) (new_is ∙
             (ap (λ one. with_lessons one (map same_pair (zip terms others))) copied ∙ ap (λ pairs. with_lessons b (map same_pair pairs)) (ap₂ zip terms_are others_are)));
@@ -188,8 +182,8 @@ column_within (x ∷ xs) (suc n) there = let later = column_within xs n there in
 module _ (p : Problem) (b : Branch) (tidy : IsTidy p b) (link fact : ℕ) (f : Fact) (table : Table) (it : Link) (at_fact : slice_get b.facts fact ≡ Some f)
     (at_table : slice_get p.policy.schema.tables f.table ≡ Some table) (at_link : slice_get table.links link ≡ Some it)
     (passes : LinkPasses p.policy.schema b link fact) where
-  abbrev with_target : Branch
-  with_target = with_fact p.policy.schema f.side (1 + f.round) b it.target
+  abbrev targeted : Branch
+  targeted = with_fact p.policy.schema f.side (1 + f.round) b it.target
 
   module _ (copy new : Branch) (columns : List Column) (round : ℕ) (copied : copy ≡ b) (columns_are : columns ≡ columns_of p.policy.schema.tables it.target)
       (round_is : round ≡ 1 + f.round)
@@ -202,12 +196,12 @@ module _ (p : Problem) (b : Branch) (tidy : IsTidy p b) (link fact : ℕ) (f : F
           round = round;
         } ∷ [];
       }) where
-    target_is : new ≡ with_target
+    target_is : new ≡ targeted
     target_is =
         fact_added p.policy.schema f.side round copy new it.target columns columns_are new_is ∙
         ap₂ (λ n c. with_fact p.policy.schema f.side n c it.target) round_is copied
 
-    all_there : FactsAreThere with_target
+    all_there : FactsAreThere targeted
     all_there =
         facts_there p.policy.schema f.side (1 + f.round) (it.target ∷ []) b
         (record {
@@ -218,11 +212,11 @@ module _ (p : Problem) (b : Branch) (tidy : IsTidy p b) (link fact : ℕ) (f : F
     link_left left same =
         let old = fact_terms p.policy.schema b b fact f left tidy.facts at_fact same refl in
         subst (λ (c : Branch). TermsAreThere c.known left) (sym target_is)
-        (row_there_more b.known with_target.known (unknowns_kept p.policy.schema f.side (1 + f.round) (it.target ∷ []) b) left old)
+        (row_there_more b.known targeted.known (unknowns_kept p.policy.schema f.side (1 + f.round) (it.target ∷ []) b) left old)
 
     module _ (n : ℕ) (added : Fact) (copied_terms right : List Term) (n_is : n ≡ length b.facts) (added_is : slice_get new.facts n ≡ Some added)
         (terms_are : copied_terms ≡ added.terms) (right_is : right ≡ copied_terms) where
-      right_at : right ≡ terms_at with_target (length b.facts)
+      right_at : right ≡ terms_at targeted (length b.facts)
       right_at =
           let here : terms_at new n ≡ added.terms = ap (λ o. unwrap_or (option_map (λ (fact : Fact). fact.terms) o) []) added_is in
           right_is ∙ (terms_are ∙ (sym here ∙ ap₂ terms_at target_is n_is))
@@ -230,7 +224,7 @@ module _ (p : Problem) (b : Branch) (tidy : IsTidy p b) (link fact : ℕ) (f : F
       pub link_right : TermsAreThere new.known right
       link_right =
           subst (λ (c : Branch). TermsAreThere c.known right) (sym target_is)
-          (subst (TermsAreThere with_target.known) (sym right_at) (terms_there with_target (length b.facts) all_there))
+          (subst (TermsAreThere targeted.known) (sym right_at) (terms_there targeted (length b.facts) all_there))
 
       same_link_fact : passes.f ≡ f
       same_link_fact = same_Some passes.f f (sym passes.fact_is ∙ at_fact)
@@ -275,13 +269,15 @@ module _ (p : Problem) (b : Branch) (tidy : IsTidy p b) (link fact : ℕ) (f : F
           Learns (map (same_at left right) (zip from to)) new last → cases ≡ last ∷ [] → LinkLeads p b link fact cases
       link_leads left from to last cases left_is from_is to_is learns cases_is =
           record {
-            f = f;
-            fact_is = at_fact;
-            it = it;
-            link_of = record { table = table; table_is = at_table; link_is = at_link };
-            not_null =
-                subst (λ (fact : Fact). All (IsNotNullAt b fact.terms) it.columns) same_link_fact
-                (subst (λ (l : Link). All (IsNotNullAt b passes.f.terms) l.columns) same_link passes.not_null);
+            passes = record {
+              f = f;
+              fact_is = at_fact;
+              it = it;
+              link_of = record { table = table; table_is = at_table; link_is = at_link };
+              not_null =
+                  subst (λ (fact : Fact). All (IsNotNullAt b fact.terms) it.columns) same_link_fact
+                  (subst (λ (l : Link). All (IsNotNullAt b passes.f.terms) l.columns) same_link passes.not_null);
+            };
             lessons = learns.lessons;
             lessons_are =
                 sym (ap₂ map (ap₂ same_at left_is right_at) (ap₂ zip from_is to_is)) ∙ learns.are;
@@ -308,13 +304,13 @@ turned k Le x y a b = (b, a)
 turned k IsNull x y a b = (a, b)
 turned k NotNull x y a b = (a, b)
 
-pub negation_there : (b copy : Branch) (atom it : TermAtom) → SplitFits b atom → copy ≡ b → it ≡ negation atom → IsThere copy.known it.left × IsThere copy.known it.right
+pub negation_there : (b copy : Branch) (atom it : TermAtom) → SplitPasses b atom → copy ≡ b → it ≡ negation atom → IsThere copy.known it.left × IsThere copy.known it.right
 negation_there b copy atom it fits copied is =
     subst (λ (c : Branch). IsThere c.known it.left × IsThere c.known it.right) (sym copied)
     (subst (λ (a : TermAtom). IsThere b.known a.left × IsThere b.known a.right) (sym is)
-    (turned b.known atom.op atom.left atom.right (kind_there b atom.left fits.kind fits.left_is) (kind_there b atom.right fits.kind fits.right_is)))
+    (turned b.known atom.op atom.left atom.right (kind_there b atom.left fits.kind fits.sides.left) (kind_there b atom.right fits.kind fits.sides.right)))
 
-pub split_there : (b : Branch) (atom it : TermAtom) → SplitFits b atom → it ≡ atom → IsThere b.known it.left × IsThere b.known it.right
+pub split_there : (b : Branch) (atom it : TermAtom) → SplitPasses b atom → it ≡ atom → IsThere b.known it.left × IsThere b.known it.right
 split_there b atom it fits is =
     subst (λ (a : TermAtom). IsThere b.known a.left × IsThere b.known a.right) (sym is)
-    (kind_there b atom.left fits.kind fits.left_is, kind_there b atom.right fits.kind fits.right_is)
+    (kind_there b atom.left fits.kind fits.sides.left, kind_there b atom.right fits.kind fits.sides.right)

@@ -115,8 +115,8 @@ module _ (s : Schema) (i : Instance) (d e : RowSet) (r values row : List Value) 
   columns_fit = row_is_of_table s d e side table row fit.one fit.two there
 
   -- the new fact's terms have the row's values
-  pub new_terms : TermsAre i more (new_fact s side round b table).terms row
-  new_terms =
+  pub new_fact_terms : TermsAre i more (new_fact s side round b table).terms row
+  new_fact_terms =
       let first = zip_length IsOfSort b.known.unknowns values fit.sorts in
       let count = zip_length IsOfColumn (columns_of s.tables table) row columns_fit in
       subst₂ (λ n m. TermsAre i more (unknowns_from n m) row) (sym first) (sym count) (new_unknowns i values row)
@@ -125,7 +125,7 @@ module _ (s : Schema) (i : Instance) (d e : RowSet) (r values row : List Value) 
   all_facts =
       All-push (FactHolds i more d e) b.facts (new_fact s side round b table)
       (All-weaker (FactHolds i values d e) (FactHolds i more d e) (fact_kept i values more kept d e) b.facts fit.facts)
-      (record { row = row; terms = new_terms; there = there })
+      (record { row = row; terms = new_fact_terms; there = there })
 
   pub fact_fits : FitsAt s (with_fact s side round b table) i d e r more
   fact_fits =
@@ -183,7 +183,7 @@ module _ (s : Schema) (side : Side) (round : ℕ) where
         let one = fact_fits s i d e r values row b side round table fit chosen.0 in
         let rest = new_facts_fit from rows (with_fact s side round b table) (values ++ row) one chosen.1 in
         let all = with_facts s side round b (table ∷ from) in
-        let new_row = row_kept i (values ++ row) rest.values rest.kept it.terms row (new_terms s i d e r values row b side round table fit chosen.0) in
+        let new_row = row_kept i (values ++ row) rest.values rest.kept it.terms row (new_fact_terms s i d e r values row b side round table fit chosen.0) in
         let first = subst (λ ts. TermsAre i rest.values ts row) (sym (first_terms from b table)) new_row in
         let others = subst (λ n. RowsAre i rest.values (rows_at all (range_with_len n (length from))) rows) (length_push b.facts it) rest.rows_are in
         record {

@@ -75,7 +75,7 @@ module _ (step_keeps_fit : StepKeepsFit) (p : Problem) (fits : ProblemFits p) (i
   module _ (old new : Slots) (step : Step) (takes : Takes p old step new) where
     case_fits : Fits p.policy.schema takes.branch i d e r → FitsSome p new i d e r
     case_fits fit =
-        let found = step_keeps_fit p i trace d e r takes.branch step takes.cases fits instance at breaks fit takes.leads in
+        let found = step_keeps_fit p takes.branch step takes.cases fits takes.leads i trace d e r instance at breaks fit in
         let it = case_is_open old (branch_of step) takes.cases takes.branch found.0 takes.open_ found.1 in
         record { number = it.0; branch = found.0; is_open = subst (λ slots. IsOpen slots it.0 found.0) (sym takes.new_is) it.1; fits = found.2 }
 

@@ -11,8 +11,7 @@ use Rattle.ba_model.specs.declared.query.Query.{Query}
 use Rattle.ba_model.specs.declared.schema.Kind.{Kind}
 use Rattle.ba_kernel.specs.Courses.{EntryFits, ProblemFits, RowOperandFits}
 use Rattle.ba_kernel.specs.Drafts.{IsChecked, IsQueryIn, IsWellFormed, MayStand, Stands}
-use Rattle.ba_kernel.specs.Refusals.{IsFirstWithout}
-use Rattle.ba_kernel.specs.Tests.{FirstWithout}
+use Rattle.ba_kernel.specs.Steps.{FirstWithout, IsFirstWithout}
 use Rattle.ba_kernel.specs.declared.problem.Problem.{Problem}
 use Rattle.ba_kernel.specs.declared.problem.ProblemEntry.{ProblemEntry}
 

@@ -17,9 +17,9 @@ use Rattle.ba_facts.specs.declared.branch.Branch.{Branch}
 use Rattle.ba_facts.specs.declared.term.Side.TheVariants.{Two}
 use Rattle.ba_facts.specs.declared.term.Term.{Term}
 use Rattle.ba_kernel.specs.Courses.{ProblemFits}
-use Rattle.ba_kernel.specs.Effects.{GoalLeads, Yields}
+use Rattle.ba_kernel.specs.Steps.{GoalLeads}
 use Rattle.ba_kernel.specs.Problems.{Breaks, IsInstance, part_at, query_at}
-use Rattle.ba_kernel.specs.Soundness.{YieldsIsTrue}
+use Rattle.ba_kernel.specs.Soundness.{FactsGive}
 use Rattle.ba_kernel.specs.declared.problem.Problem.{Problem}
 use Rattle.ba_kernel.proofs.StepFits.{All-at, Contains-at, Contains-map, one_image}
 
@@ -43,18 +43,17 @@ same_values same s b i d e r values fit (t ∷ row) [] h = absurd h
 same_values same s b i d e r values fit (t ∷ row) (u ∷ goal) h =
     ap₂ (λ x xs. x ∷ xs) (same s b i d e r values t u fit h.0) (same_values same s b i d e r values fit row goal h.1)
 
-pub goal_has_no_fit : YieldsIsTrue → SameIsTrue → (p : Problem) (i : Instance) (trace : List TraceEntry) (d e : RowSet)
+pub goal_has_no_fit : FactsGive → SameIsTrue → (p : Problem) (i : Instance) (trace : List TraceEntry) (d e : RowSet)
     (r values : List Value) (b : Branch) (part : ℕ) (facts : List ℕ) (cases : List Branch) → ProblemFits p →
     IsInstance p i → Breaks p i trace d e r → FitsAt p.policy.schema b i d e r values →
     GoalLeads p b part facts cases → ⊥
-goal_has_no_fit yields_true same p i trace d e r values b part facts cases problem instance breaks fit leads =
+goal_has_no_fit give same p i trace d e r values b part facts cases problem instance breaks fit leads =
     let s = p.policy.schema in
-    let there = Contains-at p.goal.parts part leads.of leads.part_is in
-    let fits = All-at (PartFits s (kinds_of p.policy.params) p.vars problem.goal.fits.kinds) p.goal.parts part leads.of problem.goal.fits.parts leads.part_is in
-    let row = same_heads b.known (row_of b facts leads.of.head) b.goal leads.head in
-    let yields : Yields b Two leads.of facts row.0 = record { mapping = leads.mapping; shown = leads.shown; head = row.1 } in
-    let given = yields_true p i b Two problem.goal.fits.kinds leads.of facts row.0 d e r values instance fit fits yields in
+    let there = Contains-at p.goal.parts part leads.passes.it leads.passes.is_part in
+    let fits = All-at (PartFits s (kinds_of p.policy.params) p.vars problem.goal.fits.kinds) p.goal.parts part leads.passes.it problem.goal.fits.parts leads.passes.is_part in
+    let row = same_heads b.known (row_of b facts leads.passes.it.head) b.goal leads.passes.head in
+    let given = give p i b Two problem.goal.fits.kinds leads.passes.it facts row.0 d e r values instance fit fits leads.passes.pass row.1 in
     let is : given.0 ≡ r = one_image given.0 r (sym given.1 ∙ (same_values same s b i d e r values fit row.0 b.goal row.2 ∙ fit.goal)) in
     let answer : InAnswer (query_at i.vars p.goal) i.context e r =
-    (part_at i.vars leads.of, Contains-map (part_at i.vars) p.goal.parts leads.of there, subst (InPart i.context e (part_at i.vars leads.of)) is given.2) in
+    (part_at i.vars leads.passes.it, Contains-map (part_at i.vars) p.goal.parts leads.passes.it there, subst (InPart i.context e (part_at i.vars leads.passes.it)) is given.2) in
     breaks.absent answer

@@ -14,7 +14,8 @@ use Rattle.ba_facts.specs.Laws.{NotNullIsTrue, SameIsTrue}
 use Rattle.ba_facts.specs.declared.branch.Branch.{Branch}
 use Rattle.ba_facts.specs.declared.term.Lesson.TheVariants.{Same}
 use Rattle.ba_facts.specs.declared.term.Term.{Term}
-use Rattle.ba_kernel.specs.Effects.{AreEqualAt, KeyLeads, with_lessons}
+use Rattle.ba_kernel.specs.Effects.{with_lessons}
+use Rattle.ba_kernel.specs.Steps.{AreEqualAt, KeyLeads}
 use Rattle.ba_kernel.specs.declared.problem.Problem.{Problem}
 use Rattle.ba_kernel.proofs.StepFits.{Tied, full_value, All-at, fact_holds, image_at, lessons_keep_fit, one_case, side_conforms, table_rows}
 
@@ -66,18 +67,18 @@ pub key_keeps_fit : NotNullIsTrue → SameIsTrue → (p : Problem) (b : Branch) 
     (new : Branch) × Contains cases new × Fits p.policy.schema new i d e r
 key_keeps_fit not_null same p b i d e r key left right cases (values, fit) leads =
     let s = p.policy.schema in
-    let f = leads.f in
-    let g = leads.g in
-    let hf = fact_holds s b i d e r values fit left f leads.pair.left_is in
-    let hg = fact_holds s b i d e r values fit right g leads.pair.right_is in
+    let f = leads.passes.f in
+    let g = leads.passes.g in
+    let hf = fact_holds s b i d e r values fit left f leads.passes.pair.left_is in
+    let hg = fact_holds s b i d e r values fit right g leads.passes.pair.right_is in
     let side = database_of d e f.side in
     let conforms = side_conforms s d e f.side fit.one fit.two in
-    let rows = table_rows s side f.table leads.key_of.table conforms leads.key_of.table_is in
-    let holds = All-at (KeyHolds (rows_of side f.table)) leads.key_of.table.keys key leads.columns rows.keys leads.key_of.key_is in
-    let there : Contains (rows_of side g.table) hg.row = subst (λ x. Contains (rows_of (database_of d e x) g.table) hg.row) leads.pair.side hg.there in
-    let one : hf.row ≡ hg.row = one_row side f.table g.table leads.columns hf.row hg.row holds leads.pair.table hf.there there
-    (no_null s b i d e r values fit f.terms g.terms hf.row hg.row hf.terms hg.terms not_null leads.columns leads.equal)
-    (match_key s b i d e r values fit f.terms g.terms hf.row hg.row hf.terms hg.terms same leads.columns leads.equal) in
+    let rows = table_rows s side f.table leads.passes.key_of.table conforms leads.passes.key_of.table_is in
+    let holds = All-at (KeyHolds (rows_of side f.table)) leads.passes.key_of.table.keys key leads.passes.columns rows.keys leads.passes.key_of.key_is in
+    let there : Contains (rows_of side g.table) hg.row = subst (λ x. Contains (rows_of (database_of d e x) g.table) hg.row) leads.passes.pair.side hg.there in
+    let one : hf.row ≡ hg.row = one_row side f.table g.table leads.passes.columns hf.row hg.row holds leads.passes.pair.table hf.there there
+    (no_null s b i d e r values fit f.terms g.terms hf.row hg.row hf.terms hg.terms not_null leads.passes.columns leads.passes.equal)
+    (match_key s b i d e r values fit f.terms g.terms hf.row hg.row hf.terms hg.terms same leads.passes.columns leads.passes.equal) in
     let lessons = same_terms i values f.terms g.terms hf.row hf.terms
     (subst (Tied i values g.terms) (sym one) hg.terms) in
     let all = map (λ two. Same two.0 two.1) (zip f.terms g.terms) in

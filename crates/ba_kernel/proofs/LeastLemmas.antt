@@ -15,7 +15,7 @@ use Rattle.ba_facts.specs.Matches.{LeastRound}
 use Rattle.ba_kernel.proofs.NewLemmas.{some_cases, some_more}
 use Rattle.ba_kernel.proofs.ZipLemmas.{taken}
 use Rattle.ba_kernel.specs.NewParts.{IsAtomOfParts, IsAtomOfRules, IsAtomOfViews, IsToldSplit, MayTell, least_of}
-use Rattle.ba_kernel.specs.News.{IsCandidate}
+use Rattle.ba_kernel.specs.Steps.{IsCandidate}
 use Rattle.ba_kernel.specs.declared.problem.Problem.{Problem}
 
 module _ (b : Branch) where

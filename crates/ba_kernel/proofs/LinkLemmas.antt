@@ -25,7 +25,8 @@ use Rattle.ba_facts.specs.declared.term.Lesson.TheVariants.{Same, Holds}
 use Rattle.ba_facts.specs.declared.term.Side.{Side}
 use Rattle.ba_facts.specs.declared.term.Term.{Term}
 use Rattle.ba_facts.specs.declared.term.Term.TheVariants.{Unknown}
-use Rattle.ba_kernel.specs.Effects.{IsNotNullAt, LinkLeads, same_at, with_fact, with_lessons}
+use Rattle.ba_kernel.specs.Effects.{same_at, with_fact, with_lessons}
+use Rattle.ba_kernel.specs.Steps.{IsNotNullAt, LinkLeads}
 use Rattle.ba_kernel.specs.declared.problem.Problem.{Problem}
 use Rattle.ba_kernel.proofs.StepFits.{All-at, and_then_is, fact_holds, image_at, image_there, lessons_keep_fit, map_is, one_case}
 use Rattle.ba_kernel.proofs.StepFits.{Tied, full_value, side_conforms, table_rows, value_stays, values_stay}
@@ -114,8 +115,8 @@ module _ (s : Schema) (b : Branch) (i : Instance) (d e : RowSet) (r values : Lis
     new_fact = record { side = side; table = table; terms = new_unknowns; round = round }
 
     -- the terms of the new fact have the values of the row
-    new_terms : Tied i (values ++ row) new_unknowns row
-    new_terms =
+    new_unknowns_are : Tied i (values ++ row) new_unknowns row
+    new_unknowns_are =
         let full = row_fits s (database_of d e side) table row (side_conforms s d e side fit.one fit.two) there in
         subst (λ n. Tied i (values ++ row) (map Unknown (range_with_len (length b.known.unknowns) n)) row)
         (AllZip-long IsOfColumn (columns_of s.tables table) row full)
@@ -125,7 +126,7 @@ module _ (s : Schema) (b : Branch) (i : Instance) (d e : RowSet) (r values : Lis
     pub fact_keeps_fit : FitsAt s (with_fact s side round b table) i d e r (values ++ row)
     fact_keeps_fit =
         let full = row_fits s (database_of d e side) table row (side_conforms s d e side fit.one fit.two) there in
-        let new : FactHolds i (values ++ row) d e new_fact = record { row = row; terms = new_terms; there = there } in
+        let new : FactHolds i (values ++ row) d e new_fact = record { row = row; terms = new_unknowns_are; there = there } in
         let sorts = column_sorts (columns_of s.tables table) row full in
         record {
           one = fit.one;
@@ -143,7 +144,7 @@ module _ (s : Schema) (b : Branch) (i : Instance) (d e : RowSet) (r values : Lis
     -- its terms stand at the next number
     pub terms_of_new : Tied i (values ++ row) (terms_at (with_fact s side round b table) (length b.facts)) row
     terms_of_new =
-        subst (λ o. Tied i (values ++ row) (unwrap_or (option_map (λ fact. fact.terms) o) []) row) (sym (slice_get-end b.facts new_fact)) new_terms
+        subst (λ o. Tied i (values ++ row) (unwrap_or (option_map (λ fact. fact.terms) o) []) row) (sym (slice_get-end b.facts new_fact)) new_unknowns_are
 
 -- ---- links
 
@@ -184,13 +185,13 @@ pub link_keeps_fit : NotNullIsTrue → (p : Problem) (b : Branch) (i : Instance)
     Fits p.policy.schema b i d e r → LinkLeads p b link fact cases → (new : Branch) × Contains cases new × Fits p.policy.schema new i d e r
 link_keeps_fit not_null p b i d e r link fact cases (values, fit) leads =
     let s = p.policy.schema in
-    let f = leads.f in
-    let it = leads.it in
+    let f = leads.passes.f in
+    let it = leads.passes.it in
     let side = database_of d e f.side in
-    let h = fact_holds s b i d e r values fit fact f leads.fact_is in
-    let rows = table_rows s side f.table leads.link_of.table (side_conforms s d e f.side fit.one fit.two) leads.link_of.table_is in
-    let holds = All-at (LinkHolds side (rows_of side f.table)) leads.link_of.table.links link it rows.links leads.link_of.link_is in
-    let target = holds h.row h.there (no_null not_null s b i d e r values fit f.terms h.row h.terms it.columns leads.not_null) in
+    let h = fact_holds s b i d e r values fit fact f leads.passes.fact_is in
+    let rows = table_rows s side f.table leads.passes.link_of.table (side_conforms s d e f.side fit.one fit.two) leads.passes.link_of.table_is in
+    let holds = All-at (LinkHolds side (rows_of side f.table)) leads.passes.link_of.table.links link it rows.links leads.passes.link_of.link_is in
+    let target = holds h.row h.there (no_null not_null s b i d e r values fit f.terms h.row h.terms it.columns leads.passes.not_null) in
     let new = with_fact s f.side (1 + f.round) b it.target in
     let more = fact_keeps_fit s b i d e r values fit f.side (1 + f.round) it.target target.0 target.1 in
     let terms = terms_of_new s b i d e r values fit f.side (1 + f.round) it.target target.0 target.1 in

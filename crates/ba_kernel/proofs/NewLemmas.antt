@@ -16,7 +16,7 @@ use Rattle.ba_facts.specs.declared.term.Side.{Side}
 use Rattle.ba_facts.specs.declared.term.Side.TheVariants.{One, Two}
 use Rattle.ba_kernel.proofs.ZipLemmas.{taken}
 use Rattle.ba_kernel.specs.Courses.{ProblemFits, RuleFits}
-use Rattle.ba_kernel.specs.News.{EntryIsMet, IsGiven, RuleIsMet, ViewIsMet}
+use Rattle.ba_kernel.specs.Steps.{EntryIsMet, IsGiven, RuleIsMet, ViewIsMet}
 use Rattle.ba_kernel.specs.declared.problem.Problem.{Problem}
 use Rattle.ba_kernel.specs.declared.problem.ProblemEntry.{ProblemEntry}
 

@@ -20,9 +20,8 @@ use Rattle.ba_facts.specs.declared.term.Side.TheVariants.{One, Two}
 use Rattle.ba_facts.specs.declared.term.Term.{Term}
 use Rattle.ba_kernel.proofs.NewLemmas.{rule_some, side_is}
 use Rattle.ba_kernel.specs.Courses.{IsStart, IsStartOf, ProblemFits, Slots, Takes, after, branch_of, nothing_known}
-use Rattle.ba_kernel.specs.Effects.{EntryLeads, IsCase, IsEntryRound, KeyLeads, Leads, LinkLeads, RuleLeads, ViewLeads}
-use Rattle.ba_kernel.specs.Effects.{same_at, with_fact, with_facts, with_lessons}
-use Rattle.ba_kernel.specs.Tests.{Passes}
+use Rattle.ba_kernel.specs.Effects.{IsCase, IsEntryRound, same_at, with_fact, with_facts, with_lessons}
+use Rattle.ba_kernel.specs.Steps.{EntryLeads, KeyLeads, Leads, LinkLeads, Passes, RuleLeads, ViewLeads}
 use Rattle.ba_kernel.specs.declared.problem.Problem.{Problem}
 use Rattle.ba_kernel.specs.declared.problem.ProblemEntry.{ProblemEntry}
 use Rattle.ba_kernel.specs.declared.step.Step.{Step}
@@ -76,60 +75,60 @@ module _ (p : Problem) (b : Branch) (cases others : List Branch) where
   entry_one : (entry : ℕ) → EntryLeads p b entry cases → EntryLeads p b entry others → cases ≡ others
   entry_one entry left right =
       let s = p.policy.schema in
-      let it : left.it ≡ right.it = some_inj _ _ _ left.there right.there in
-      let rows : map (term_of []) left.it.row ≡ map (term_of []) right.it.row = ap (λ (e : ProblemEntry). map (term_of []) e.row) it in
+      let it : left.passes.it ≡ right.passes.it = some_inj _ _ _ left.passes.there right.passes.there in
+      let rows : map (term_of []) left.passes.it.row ≡ map (term_of []) right.passes.it.row = ap (λ (e : ProblemEntry). map (term_of []) e.row) it in
       let row : left.row ≡ right.row = map_some_inj left.row right.row (sym left.row_is ∙ (rows ∙ right.row_is)) in
       let round : left.round ≡ right.round =
-      round_one p left.it.row left.round right.round left.round_is (subst (λ (e : ProblemEntry). IsEntryRound p e.row right.round) (sym it) right.round_is) in
-      let at_round = subst (λ n. AllZip (IsCase s b One n right.row) right.it.query.parts others) (sym round) right.cases_are in
-      let at_row = subst (λ r. AllZip (IsCase s b One left.round r) right.it.query.parts others) (sym row) at_round in
+      round_one p left.passes.it.row left.round right.round left.round_is (subst (λ (e : ProblemEntry). IsEntryRound p e.row right.round) (sym it) right.round_is) in
+      let at_round = subst (λ n. AllZip (IsCase s b One n right.row) right.passes.it.query.parts others) (sym round) right.cases_are in
+      let at_row = subst (λ r. AllZip (IsCase s b One left.round r) right.passes.it.query.parts others) (sym row) at_round in
       let own = subst (λ (e : ProblemEntry). AllZip (IsCase s b One left.round left.row) e.query.parts others) (sym it) at_row in
-      cases_one s b One left.round left.row left.it.query.parts cases others left.cases_are own
+      cases_one s b One left.round left.row left.passes.it.query.parts cases others left.cases_are own
 
   key_one : (key first second : ℕ) → KeyLeads p b key first second cases → KeyLeads p b key first second others → cases ≡ others
   key_one key first second left right =
-      let f : left.f ≡ right.f = some_inj _ _ _ left.pair.left_is right.pair.left_is in
-      let g : left.g ≡ right.g = some_inj _ _ _ left.pair.right_is right.pair.right_is in
+      let f : left.passes.f ≡ right.passes.f = some_inj _ _ _ left.passes.pair.left_is right.passes.pair.left_is in
+      let g : left.passes.g ≡ right.passes.g = some_inj _ _ _ left.passes.pair.right_is right.passes.pair.right_is in
       left.cases_are ∙ (ap₂ (λ (x y : Fact). with_lessons b (map (λ two. Same two.0 two.1) (zip x.terms y.terms)) ∷ []) f g ∙ sym right.cases_are)
 
   link_one : (link fact : ℕ) → LinkLeads p b link fact cases → LinkLeads p b link fact others → cases ≡ others
   link_one link fact left right =
       let s = p.policy.schema in
-      let f : left.f ≡ right.f = some_inj _ _ _ left.fact_is right.fact_is in
-      let tables : slice_get s.tables left.f.table ≡ Some right.link_of.table = ap (λ (g : Fact). slice_get s.tables g.table) f ∙ right.link_of.table_is in
-      let table : left.link_of.table ≡ right.link_of.table = some_inj _ _ _ left.link_of.table_is tables in
-      let it : left.it ≡ right.it = some_inj _ _ _ left.link_of.link_is (ap (λ (t : Table). slice_get t.links link) table ∙ right.link_of.link_is) in
+      let f : left.passes.f ≡ right.passes.f = some_inj _ _ _ left.passes.fact_is right.passes.fact_is in
+      let tables : slice_get s.tables left.passes.f.table ≡ Some right.passes.link_of.table = ap (λ (g : Fact). slice_get s.tables g.table) f ∙ right.passes.link_of.table_is in
+      let table : left.passes.link_of.table ≡ right.passes.link_of.table = some_inj _ _ _ left.passes.link_of.table_is tables in
+      let it : left.passes.it ≡ right.passes.it = some_inj _ _ _ left.passes.link_of.link_is (ap (λ (t : Table). slice_get t.links link) table ∙ right.passes.link_of.link_is) in
       let targets =
       ap₂ (λ (g : Fact) (l : Link). map (same_at g.terms (terms_at (with_fact s g.side (1 + g.round) b l.target) (length b.facts))) (zip l.columns l.target_columns)) f it in
       let lessons : left.lessons ≡ right.lessons = map_some_inj left.lessons right.lessons (sym left.lessons_are ∙ (targets ∙ right.lessons_are)) in
-      left.cases_are ∙ (ap (λ ls. with_lessons (with_fact s left.f.side (1 + left.f.round) b left.it.target) ls ∷ []) lessons ∙
+      left.cases_are ∙ (ap (λ ls. with_lessons (with_fact s left.passes.f.side (1 + left.passes.f.round) b left.passes.it.target) ls ∷ []) lessons ∙
       (ap₂ (λ (g : Fact) (l : Link). with_lessons (with_fact s g.side (1 + g.round) b l.target) right.lessons ∷ []) f it ∙ sym right.cases_are))
 
   rule_one : ProblemFits p → (rule part : ℕ) (facts : List ℕ) → RuleLeads p b rule part facts cases → RuleLeads p b rule part facts others → cases ≡ others
   rule_one fits rule part facts left right =
       let s = p.policy.schema in
-      let it : left.it ≡ right.it = some_inj _ _ _ left.rule_is right.rule_is in
-      let of : left.left ≡ right.left = some_inj _ _ _ left.part_is (ap (λ (r : Rule). slice_get r.left.parts part) it ∙ right.part_is) in
-      let mapped : IsMapping b right.side left.left.from facts = subst (λ (q : Part). IsMapping b right.side q.from facts) (sym of) right.yields.mapping in
-      let some = rule_some p fits rule part left.it left.left left.rule_is left.part_is in
-      let side : left.side ≡ right.side = side_is b left.left.from facts left.side right.side some left.yields.mapping mapped in
-      let heads : row_of b facts left.left.head ≡ row_of b facts right.left.head = ap (λ (q : Part). row_of b facts q.head) of in
-      let row : left.row ≡ right.row = map_some_inj left.row right.row (sym left.yields.head ∙ (heads ∙ right.yields.head)) in
-      let at_row = subst (λ r. AllZip (IsCase s b right.side (1 + round_of b facts) r) right.it.right.parts others) (sym row) right.cases_are in
-      let at_side = subst (λ t. AllZip (IsCase s b t (1 + round_of b facts) left.row) right.it.right.parts others) (sym side) at_row in
-      let own = subst (λ (r : Rule). AllZip (IsCase s b left.side (1 + round_of b facts) left.row) r.right.parts others) (sym it) at_side in
-      cases_one s b left.side (1 + round_of b facts) left.row left.it.right.parts cases others left.cases_are own
+      let it : left.passes.is_part.of ≡ right.passes.is_part.of = some_inj _ _ _ left.passes.is_part.rule_is right.passes.is_part.rule_is in
+      let of : left.passes.it ≡ right.passes.it = some_inj _ _ _ left.passes.is_part.part_is (ap (λ (r : Rule). slice_get r.left.parts part) it ∙ right.passes.is_part.part_is) in
+      let mapped : IsMapping b right.passes.side left.passes.it.from facts = subst (λ (q : Part). IsMapping b right.passes.side q.from facts) (sym of) right.passes.pass.mapping in
+      let some = rule_some p fits rule part left.passes.is_part.of left.passes.it left.passes.is_part.rule_is left.passes.is_part.part_is in
+      let side : left.passes.side ≡ right.passes.side = side_is b left.passes.it.from facts left.passes.side right.passes.side some left.passes.pass.mapping mapped in
+      let heads : row_of b facts left.passes.it.head ≡ row_of b facts right.passes.it.head = ap (λ (q : Part). row_of b facts q.head) of in
+      let row : left.next.row ≡ right.next.row = map_some_inj left.next.row right.next.row (sym left.next.row_is ∙ (heads ∙ right.next.row_is)) in
+      let at_row = subst (λ r. AllZip (IsCase s b right.passes.side (1 + round_of b facts) r) right.passes.is_part.of.right.parts others) (sym row) right.next.cases_are in
+      let at_side = subst (λ t. AllZip (IsCase s b t (1 + round_of b facts) left.next.row) right.passes.is_part.of.right.parts others) (sym side) at_row in
+      let own = subst (λ (r : Rule). AllZip (IsCase s b left.passes.side (1 + round_of b facts) left.next.row) r.right.parts others) (sym it) at_side in
+      cases_one s b left.passes.side (1 + round_of b facts) left.next.row left.passes.is_part.of.right.parts cases others left.next.cases_are own
 
   view_one : (view part : ℕ) (facts : List ℕ) → ViewLeads p b view part facts cases → ViewLeads p b view part facts others → cases ≡ others
   view_one view part facts left right =
       let s = p.policy.schema in
-      let it : left.it ≡ right.it = some_inj _ _ _ left.view_is right.view_is in
-      let of : left.of ≡ right.of = some_inj _ _ _ left.part_is (ap (λ (v : View). slice_get v.query.parts part) it ∙ right.part_is) in
-      let heads : row_of b facts left.of.head ≡ row_of b facts right.of.head = ap (λ (q : Part). row_of b facts q.head) of in
-      let row : left.row ≡ right.row = map_some_inj left.row right.row (sym left.yields.head ∙ (heads ∙ right.yields.head)) in
-      let at_row = subst (λ r. AllZip (IsCase s b Two (1 + round_of b facts) r) right.it.query.parts others) (sym row) right.cases_are in
-      let own = subst (λ (v : View). AllZip (IsCase s b Two (1 + round_of b facts) left.row) v.query.parts others) (sym it) at_row in
-      cases_one s b Two (1 + round_of b facts) left.row left.it.query.parts cases others left.cases_are own
+      let it : left.passes.is_part.of ≡ right.passes.is_part.of = some_inj _ _ _ left.passes.is_part.view_is right.passes.is_part.view_is in
+      let of : left.passes.it ≡ right.passes.it = some_inj _ _ _ left.passes.is_part.part_is (ap (λ (v : View). slice_get v.query.parts part) it ∙ right.passes.is_part.part_is) in
+      let heads : row_of b facts left.passes.it.head ≡ row_of b facts right.passes.it.head = ap (λ (q : Part). row_of b facts q.head) of in
+      let row : left.next.row ≡ right.next.row = map_some_inj left.next.row right.next.row (sym left.next.row_is ∙ (heads ∙ right.next.row_is)) in
+      let at_row = subst (λ r. AllZip (IsCase s b Two (1 + round_of b facts) r) right.passes.is_part.of.query.parts others) (sym row) right.next.cases_are in
+      let own = subst (λ (v : View). AllZip (IsCase s b Two (1 + round_of b facts) left.next.row) v.query.parts others) (sym it) at_row in
+      cases_one s b Two (1 + round_of b facts) left.next.row left.passes.is_part.of.query.parts cases others left.next.cases_are own
 
   pub leads_one : ProblemFits p → (step : Step) → Leads p b step cases → Leads p b step others → cases ≡ others
   leads_one fits (steps.Entry branch entry) left right = entry_one entry left right
@@ -143,28 +142,14 @@ module _ (p : Problem) (b : Branch) (cases others : List Branch) where
 
 -- a step that leads to cases passes its tests
 pub leads_pass : (p : Problem) (b : Branch) (step : Step) (cases : List Branch) → Leads p b step cases → Passes p b step
-leads_pass p b (steps.Entry branch entry) cases leads = (leads.it, leads.there)
-leads_pass p b (steps.Key branch key first second) cases leads =
-    record { f = leads.f; g = leads.g; pair = leads.pair; columns = leads.columns; key_of = leads.key_of; equal = leads.equal }
-leads_pass p b (steps.Link branch link fact) cases leads =
-    record { f = leads.f; fact_is = leads.fact_is; it = leads.it; link_of = leads.link_of; not_null = leads.not_null }
-leads_pass p b (steps.Rule branch rule part facts) cases leads =
-    record {
-      it = leads.left;
-      is_part = record { of = leads.it; rule_is = leads.rule_is; part_is = leads.part_is };
-      side = leads.side;
-      pass = record { mapping = leads.yields.mapping; shown = leads.yields.shown };
-    }
-leads_pass p b (steps.View branch view part facts) cases leads =
-    record {
-      it = leads.of;
-      is_part = record { of = leads.it; view_is = leads.view_is; part_is = leads.part_is };
-      pass = record { mapping = leads.yields.mapping; shown = leads.yields.shown };
-    }
-leads_pass p b (steps.Split branch atom) cases leads = leads.fits
-leads_pass p b (steps.Absurd branch) cases leads = leads.absurd
-leads_pass p b (steps.Goal branch part facts) cases leads =
-    record { it = leads.of; is_part = leads.part_is; pass = record { mapping = leads.mapping; shown = leads.shown }; head = leads.head }
+leads_pass p b (steps.Entry branch entry) cases leads = leads.passes
+leads_pass p b (steps.Key branch key first second) cases leads = leads.passes
+leads_pass p b (steps.Link branch link fact) cases leads = leads.passes
+leads_pass p b (steps.Rule branch rule part facts) cases leads = leads.passes
+leads_pass p b (steps.View branch view part facts) cases leads = leads.passes
+leads_pass p b (steps.Split branch atom) cases leads = leads.passes
+leads_pass p b (steps.Absurd branch) cases leads = leads.passes
+leads_pass p b (steps.Goal branch part facts) cases leads = leads.passes
 
 -- ---- what a step leaves, and the start
 

@@ -15,8 +15,9 @@ use Rattle.ba_facts.specs.declared.term.Side.TheVariants.{One, Two}
 use Rattle.ba_facts.specs.declared.term.TermAtom.{TermAtom}
 use Rattle.ba_kernel.proofs.OneCase.{some_inj}
 use Rattle.ba_kernel.proofs.TestLemmas.{facts_not_both, key_is, rule_part_is, view_part_is}
-use Rattle.ba_kernel.specs.Effects.{AreEqualAt, IsKeyOf, IsLinkOf, IsNotNullAt, rows_at}
-use Rattle.ba_kernel.specs.Refusals.{FactsRefuse, GoalRefuses, IsFirstWithout, KeyRefuses, LinkRefuses, Refuses, RuleRefuses, SplitRefuses, ViewRefuses}
+use Rattle.ba_kernel.specs.Effects.{rows_at}
+use Rattle.ba_kernel.specs.Steps.{AreEqualAt, FactsRefuse, GoalRefuses, IsFirstDifferent, IsFirstWithout, IsKeyOf, IsLinkOf, IsNotNullAt, KeyRefuses, LinkRefuses, Refuses}
+use Rattle.ba_kernel.specs.Steps.{RuleRefuses, SplitRefuses, ViewRefuses}
 use Rattle.ba_kernel.specs.declared.problem.Problem.{Problem}
 use Rattle.ba_kernel.specs.declared.step.Step.{Step}
 use Rattle.ba_kernel.specs.declared.step.Step.TheVariants as steps
@@ -114,19 +115,19 @@ view_fault p b view part facts f g (ViewRefuses.facts_refuse {it} of refuse) (Vi
 goal_fault : (p : Problem) (b : Branch) (part : ℕ) (facts : List ℕ) (f g : StepFault) → GoalRefuses p b part facts f → GoalRefuses p b part facts g → f ≡ g
 goal_fault p b part facts _ _ (GoalRefuses.no_part none) (GoalRefuses.no_part again) = refl
 goal_fault p b part facts _ _ (GoalRefuses.no_part none) (GoalRefuses.facts_refuse there refuse) = cc (none, there)
-goal_fault p b part facts _ _ (GoalRefuses.no_part none) (GoalRefuses.head there mapping shown first) = cc (none, there)
+goal_fault p b part facts _ _ (GoalRefuses.no_part none) (GoalRefuses.head there passed first) = cc (none, there)
 goal_fault p b part facts _ _ (GoalRefuses.facts_refuse there refuse) (GoalRefuses.no_part none) = cc (none, there)
 goal_fault p b part facts f g (GoalRefuses.facts_refuse {it} there refuse) (GoalRefuses.facts_refuse {it = other} again refused) =
     facts_fault b Two it facts f g refuse (subst (λ (q : Part). FactsRefuse b Two q facts g) (some_inj _ _ _ again there) refused)
-goal_fault p b part facts f _ (GoalRefuses.facts_refuse {it} there refuse) (GoalRefuses.head {it = other} again mapping shown first) =
-    absurd (facts_not_both b Two other facts f (record { mapping = mapping; shown = shown })
+goal_fault p b part facts f _ (GoalRefuses.facts_refuse {it} there refuse) (GoalRefuses.head {it = other} again passed first) =
+    absurd (facts_not_both b Two other facts f passed
     (subst (λ (q : Part). FactsRefuse b Two q facts f) (some_inj _ _ _ there again) refuse))
-goal_fault p b part facts _ _ (GoalRefuses.head there mapping shown first) (GoalRefuses.no_part none) = cc (none, there)
-goal_fault p b part facts _ g (GoalRefuses.head {it} there mapping shown first) (GoalRefuses.facts_refuse {it = other} again refuse) =
-    absurd (facts_not_both b Two it facts g (record { mapping = mapping; shown = shown })
+goal_fault p b part facts _ _ (GoalRefuses.head there passed first) (GoalRefuses.no_part none) = cc (none, there)
+goal_fault p b part facts _ g (GoalRefuses.head {it} there passed first) (GoalRefuses.facts_refuse {it = other} again refuse) =
+    absurd (facts_not_both b Two it facts g passed
     (subst (λ (q : Part). FactsRefuse b Two q facts g) (some_inj _ _ _ again there) refuse))
-goal_fault p b part facts _ _ (GoalRefuses.head {it} {n = m} there mapping shown first) (GoalRefuses.head {it = other} {n} again mapped showing second) =
-    let own = subst (λ (q : Part). IsFirstWithout (λ two. AreTheSame b.known two.0 two.1) (zip (row_of b facts q.head) (map Some b.goal)) n) (some_inj _ _ _ again there) second in
+goal_fault p b part facts _ _ (GoalRefuses.head {it} {n = m} there passed first) (GoalRefuses.head {it = other} {n} again passes second) =
+    let own = subst (λ (q : Part). IsFirstDifferent b (row_of b facts q.head) n) (some_inj _ _ _ again there) second in
     ap HeadDiffers (first_one (λ two. AreTheSame b.known two.0 two.1) (zip (row_of b facts it.head) (map Some b.goal)) m n first own)
 
 split_fault : (b : Branch) (atom : TermAtom) (f g : StepFault) → SplitRefuses b atom f → SplitRefuses b atom g → f ≡ g

@@ -13,9 +13,10 @@ use Rattle.ba_model.specs.declared.schema.Link.{Link}
 use Rattle.ba_facts.proofs.PlaceLemmas.{all_places, upto}
 use Rattle.ba_facts.specs.Known.{Known}
 use Rattle.ba_facts.specs.Matches.{AreTheSame, IsMapping, IsShown, IsUndecided, row_of, term_of}
-use Rattle.ba_kernel.specs.Effects.{AreEqualAt, ArePair, IsKeyOf, IsLinkOf, IsNotNullAt, rows_at}
-use Rattle.ba_kernel.specs.Refusals.{FactsRefuse, GoalRefuses, IsFirstWithout, KeyRefuses, LinkRefuses}
-use Rattle.ba_kernel.specs.Tests.{FactsPass, FirstWithout, Tested}
+use Rattle.ba_kernel.specs.Effects.{rows_at}
+use Rattle.ba_kernel.specs.Steps.{AreEqualAt, ArePair, FactsPass, FactsRefuse, FirstWithout, GoalRefuses, IsFirstDifferent, IsFirstWithout, IsKeyOf, IsLinkOf, IsNotNullAt}
+use Rattle.ba_kernel.specs.Steps.{KeyRefuses, LinkRefuses}
+use Rattle.ba_kernel.specs.Tests.{Tested}
 use Rattle.ba_facts.specs.declared.branch.Branch.{Branch}
 use Rattle.ba_kernel.specs.declared.problem.Problem.{Problem}
 use Rattle.ba_kernel.specs.declared.step.StepFault.{StepFault}
@@ -154,8 +155,6 @@ goal_wide parts part it head n wide there is =
     ap length is ∙ (sym (ap (λ each. length each.head) found) ∙ long)
 
 pub goal_differs : (p : Problem) (b : Branch) (part : ℕ) (facts : List ℕ) (it : Part) (head : List Operand) (n : ℕ) → slice_get p.goal.parts part ≡ Some it →
-    FactsPass b Two it facts → head ≡ it.head → IsFirstWithout (λ two. AreTheSame b.known two.0 two.1) (zip (row_of b facts head) (map Some b.goal)) n →
-    GoalRefuses p b part facts (HeadDiffers n)
+    FactsPass b Two it facts → head ≡ it.head → IsFirstDifferent b (row_of b facts head) n → GoalRefuses p b part facts (HeadDiffers n)
 goal_differs p b part facts it head n there pass is h =
-    GoalRefuses.head there pass.mapping pass.shown
-    (subst (λ operands. IsFirstWithout (λ two. AreTheSame b.known two.0 two.1) (zip (row_of b facts operands) (map Some b.goal)) n) is h)
+    GoalRefuses.head there pass (subst (λ operands. IsFirstDifferent b (row_of b facts operands) n) is h)

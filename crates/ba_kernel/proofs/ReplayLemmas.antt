@@ -1,14 +1,16 @@
 -- What a replay comes to: a step that is refused, and the end.
-use Rattle.std.proofs.Common.{◌≡◌, ◌∙◌, ℕ, List, [], ◌∷◌, ◌++◌, length, take, refl, sym, ap, subst}
+use Rattle.std.proofs.Common.{◌≡◌, ◌∙◌, ℕ, List, [], ◌∷◌, ◌++◌, length, map, take, refl, sym, ap, subst}
 use Rattle.std.specs.Iterator.{Yields}
-use Rattle.std.specs.Prelude.{Option, Some, Err, slice_get}
+use Rattle.std.specs.List.{AllZip}
+use Rattle.std.specs.Prelude.{Option, Some, None, Err, slice_get}
 use Rattle.std.specs.Vec.Iter.{into_iter_items, into_iter_steps}
 use Rattle.std.specs.declared.vec.IntoIter.{IntoIter}
 use Rattle.ba_model.specs.declared.failure.Failure.{Failure}
 use Rattle.ba_model.specs.declared.failure.Failure.TheVariants.{NoMemory, Fault}
-use Rattle.ba_kernel.specs.Courses.{AllClosed, Runs, branch_of}
-use Rattle.ba_kernel.specs.Replays.{Closes, IsNextRefused, RefusesAt, Replays, StaysOpen, WantsMemory}
-use Rattle.ba_kernel.specs.Tests.{Course, IsCourse, IsPassed, IsRefusedAt, open_at}
+use Rattle.ba_facts.specs.declared.branch.Branch.{Branch}
+use Rattle.ba_kernel.specs.Courses.{AllClosed, IsStartOf, Runs, Slots, branch_of, next, start}
+use Rattle.ba_kernel.specs.Replays.{Closes, IsNextRefused, MayWantMemory, RefusesAt, Replays, StaysOpen}
+use Rattle.ba_kernel.specs.Tests.{Course, IsCourse, IsPassed, IsRefusedAt, PassesAt, open_at}
 use Rattle.ba_kernel.specs.declared.problem.Problem.{Problem}
 use Rattle.ba_kernel.specs.declared.replaying.ReplayFault.{ReplayFault}
 use Rattle.ba_kernel.specs.declared.replaying.ReplayFault.TheVariants.{Refused, Open}
@@ -52,14 +54,27 @@ refused_next c rest step number fault course number_is refused =
       refused = refused;
     }
 
--- memory is wanting for the next step of a course
-wanting_next : (c : Course) (rest : List Step) (step : Step) → IsCourse c → IsPassed c step → WantsMemory c.problem (c.steps ++ step ∷ rest)
-wanting_next c rest step course passed =
-    WantsMemory.for_step {slots = c.slots} {step = step} (length c.steps) (subst (λ xs. Runs c.problem xs c.slots) (sym (front_is c.steps (step ∷ rest))) course.runs)
-    (next_at c.steps rest step) passed
+-- a problem whose goal has no part has no branch
+no_starts : (p : Problem) (branches : List Branch) → AllZip (IsStartOf p) [] branches → branches ≡ []
+no_starts p [] h = refl
+no_starts p (b ∷ branches) h = absurd h
+
+none_open : (p : Problem) → p.goal.parts ≡ [] → {taken : List Step} {slots : Slots} → Runs p taken slots → slots ≡ []
+none_open p none (start {slots = slots} h) =
+    h.slots_are ∙ ap (map Some) (no_starts p h.branches (subst (λ parts. AllZip (IsStartOf p) parts h.branches) none h.starts))
+none_open p none (next {step = step} {old = old} {new = new} runs takes) =
+    let before : old ≡ [] = none_open p none runs in
+    let there : slice_get old (branch_of step) ≡ Some (Some takes.branch) = takes.open_ in
+    let nothing : slice_get old (branch_of step) ≡ None = ap (λ slots. slice_get slots (branch_of step)) before in
+    absurd (let wrong : Some (Some takes.branch) ≡ None = sym there ∙ nothing in cc)
+
+-- so a step that passes its tests tells that the goal has a part
+passed_has_parts : (c : Course) (step : Step) → IsCourse c → IsPassed c step → MayWantMemory c.problem
+passed_has_parts c step course passed none =
+    subst (λ slots. PassesAt c.problem (open_at slots (branch_of step)) step) (none_open c.problem none course.runs) passed
 
 error_next : (c : Course) (rest : List Step) (step : Step) (e : Failure ReplayFault) → IsNextRefused c step e → Replays c.problem (c.steps ++ step ∷ rest) (Err e)
-error_next c rest step NoMemory (course, passed) = wanting_next c rest step course passed
+error_next c rest step NoMemory (course, passed) = passed_has_parts c step course passed
 error_next c rest step (Fault Open) h = absurd h
 error_next c rest step (Fault (Refused number fault)) (course, number_is, refused) = refused_next c rest step number fault course number_is refused
 

@@ -8,9 +8,9 @@ use Rattle.ba_facts.specs.declared.branch.Branch.{Branch}
 use Rattle.ba_kernel.proofs.OneCase.{leads_one, leads_pass}
 use Rattle.ba_kernel.proofs.SearchLemmas.{Led, led}
 use Rattle.ba_kernel.specs.Courses.{ProblemFits, Slots, after, branch_of}
-use Rattle.ba_kernel.specs.Effects.{Leads}
+use Rattle.ba_kernel.specs.Steps.{Leads, Passes}
+use Rattle.ba_kernel.specs.Tests.{Course, IsCourse, LeadsAt, PassesAt, RunsAreTidy, open_at}
 use Rattle.ba_kernel.specs.Spares.{IsBefore, IsLastOn, IsSpare, LeadsTo}
-use Rattle.ba_kernel.specs.Tests.{Course, IsCourse, LeadsAt, Passes, PassesAt, RunsAreTidy, open_at}
 use Rattle.ba_kernel.specs.declared.problem.Problem.{Problem}
 use Rattle.ba_kernel.specs.declared.step.Step.{Step}
 use Rattle.ba_kernel.specs.declared.step.Step.TheVariants as steps
@@ -19,14 +19,12 @@ use Rattle.ba_kernel.specs.declared.step.Step.TheVariants as steps
 
 pub absurd_leads : (p : Problem) (b : Branch) (step : Step) (n : ℕ) (cases : List Branch) → step ≡ steps.Absurd n → Passes p b step → cases ≡ [] → Leads p b step cases
 absurd_leads p b step n cases is passes none =
-    subst (λ s. Leads p b s cases) (sym is) (record { absurd = subst (Passes p b) is passes; cases_are = none })
+    subst (λ s. Leads p b s cases) (sym is) (record { passes = subst (Passes p b) is passes; cases_are = none })
 
 pub goal_leads : (p : Problem) (b : Branch) (step : Step) (n part : ℕ) (facts : List ℕ) (cases : List Branch) → step ≡ steps.Goal n part facts → Passes p b step → cases ≡ [] →
     Leads p b step cases
 goal_leads p b step n part facts cases is passes none =
-    let at = subst (Passes p b) is passes in
-    subst (λ s. Leads p b s cases) (sym is)
-    (record { of = at.it; part_is = at.is_part; mapping = at.pass.mapping; shown = at.pass.shown; head = at.head; cases_are = none })
+    subst (λ s. Leads p b s cases) (sym is) (record { passes = subst (Passes p b) is passes; cases_are = none })
 
 -- ---- the one case
 

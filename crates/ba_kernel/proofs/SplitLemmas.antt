@@ -29,7 +29,8 @@ use Rattle.ba_facts.specs.declared.term.Sort.{Sort}
 use Rattle.ba_facts.specs.declared.term.Term.{Term}
 use Rattle.ba_facts.specs.declared.term.Term.TheVariants.{Unknown, Val, Param, Var}
 use Rattle.ba_facts.specs.declared.term.TermAtom.{TermAtom}
-use Rattle.ba_kernel.specs.Effects.{MayBeSplit, SplitLeads, negation, negation_of, with_lessons}
+use Rattle.ba_kernel.specs.Effects.{negation, negation_of, with_lessons}
+use Rattle.ba_kernel.specs.Steps.{MayBeSplit, SplitLeads}
 use Rattle.ba_kernel.proofs.StepFits.{Contains-at, lesson_keeps_fit, map_is}
 
 -- ---- values
@@ -115,11 +116,11 @@ module _ (s : Schema) (b : Branch) (i : Instance) (d e : RowSet) (r values : Lis
 pub split_keeps_fit : NotNullIsTrue → (s : Schema) (b : Branch) (i : Instance) (d e : RowSet) (r : List Value) (atom : TermAtom) (cases : List Branch) →
     Fits s b i d e r → SplitLeads b atom cases → (new : Branch) × Contains cases new × Fits s new i d e r
 split_keeps_fit not_null s b i d e r atom cases (values, fit) leads =
-    let v = term_value s b i d e r values fit atom.left leads.fits.kind leads.fits.left_is in
-    let w = term_value s b i d e r values fit atom.right leads.fits.kind leads.fits.right_is in
+    let v = term_value s b i d e r values fit atom.left leads.passes.kind leads.passes.sides.left in
+    let w = term_value s b i d e r values fit atom.right leads.passes.kind leads.passes.sides.right in
     let first = with_lessons b (Holds atom ∷ []) in
     let last = with_lessons b (Holds (negation atom) ∷ []) in
-    elim (split_by s b i d e r values fit not_null atom.op atom.left atom.right leads.fits.kind v.0 w.0 v.1 w.1 v.2 w.2 leads.fits.op leads.fits.may) [
+    elim (split_by s b i d e r values fit not_null atom.op atom.left atom.right leads.passes.kind v.0 w.0 v.1 w.1 v.2 w.2 leads.passes.op leads.passes.may) [
       | inl holds ↦ (
         first,
         subst (λ bs. Contains bs first) (sym leads.cases_are) (Contains-at (first ∷ last ∷ []) 0 first refl),

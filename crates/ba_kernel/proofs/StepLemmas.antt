@@ -21,9 +21,10 @@ use Rattle.ba_facts.specs.declared.term.Side.{Side}
 use Rattle.ba_facts.specs.declared.term.Side.TheVariants.{One, Two}
 use Rattle.ba_facts.specs.declared.term.Term.{Term}
 use Rattle.ba_kernel.specs.Courses.{ProblemFits, RuleFits}
-use Rattle.ba_kernel.specs.Effects.{EntryLeads, IsCase, RuleLeads, ViewLeads}
+use Rattle.ba_kernel.specs.Effects.{IsCase}
+use Rattle.ba_kernel.specs.Steps.{EntryLeads, RuleLeads, ViewLeads}
 use Rattle.ba_kernel.specs.Problems.{Breaks, IsEntryAt, IsInstance, IsTraceAt, fixed_value, part_at, query_at}
-use Rattle.ba_kernel.specs.Soundness.{CaseKeepsFit, StepKeepsFit, YieldsIsTrue}
+use Rattle.ba_kernel.specs.Soundness.{CaseKeepsFit, StepKeepsFit, FactsGive}
 use Rattle.ba_kernel.specs.declared.problem.Problem.{Problem}
 use Rattle.ba_kernel.specs.declared.problem.ProblemEntry.{ProblemEntry}
 use Rattle.ba_kernel.specs.declared.step.Step.TheVariants as steps
@@ -33,7 +34,7 @@ use Rattle.ba_kernel.proofs.LinkLemmas.{link_keeps_fit}
 use Rattle.ba_kernel.proofs.SplitLemmas.{split_keeps_fit}
 use Rattle.ba_kernel.proofs.StepFits.{Tied, All-at, AllZip-beside, Contains-at, Contains-from_map, side_conforms, value_stays}
 use Rattle.ba_kernel.proofs.StepParts.{extends_itself, extends_nothing, from_plain, part_fixed, part_stays, to_plain}
-use Rattle.ba_kernel.proofs.YieldLemmas.{yields_is_true}
+use Rattle.ba_kernel.proofs.YieldLemmas.{facts_give}
 
 -- a part of a query that gives the row makes its case fit
 pub cases_fit : CaseKeepsFit → (p : Problem) (i : Instance) (b : Branch) (side : Side) (round : ℕ) (row : List Term) (parts : List Part)
@@ -79,74 +80,74 @@ module _ (keeps : CaseKeepsFit) (p : Problem) (i : Instance) (trace : List Trace
   pub entry_keeps_fit : IsTraceAt p i trace → (entry : ℕ) (cases : List Branch) → EntryLeads p b entry cases →
       (new : Branch) × Contains cases new × Fits p.policy.schema new i d e r
   entry_keeps_fit traced entry cases leads =
-      let it = AllZip-at (IsEntryAt i) p.entries trace entry leads.it traced leads.there in
+      let it = AllZip-at (IsEntryAt i) p.entries trace entry leads.passes.it traced leads.passes.there in
       let shown = All-at (λ entry. All (InAnswer entry.query i.context d) entry.rows) trace entry it.0 breaks.shown.entries it.1 in
-      let answer = shown_row i d leads.it it.0 it.2 shown in
-      let part = Contains-from_map (part_at i.vars) leads.it.query.parts answer.0 answer.1 in
-      cases_fit keeps p i b One leads.round leads.row leads.it.query.parts part.0 cases d e r values (it.2).row instance fit
-      (entry_row i values leads.it.row leads.row (it.2).row leads.row_is (it.2).values) leads.cases_are part.1
+      let answer = shown_row i d leads.passes.it it.0 it.2 shown in
+      let part = Contains-from_map (part_at i.vars) leads.passes.it.query.parts answer.0 answer.1 in
+      cases_fit keeps p i b One leads.round leads.row leads.passes.it.query.parts part.0 cases d e r values (it.2).row instance fit
+      (entry_row i values leads.passes.it.row leads.row (it.2).row leads.row_is (it.2).values) leads.cases_are part.1
       (subst (λ q. InPart i.context d q (it.2).row) (sym part.2) answer.2)
 
   -- ---- views
 
-  pub view_keeps_fit : YieldsIsTrue → (view part : ℕ) (facts : List ℕ) (cases : List Branch) → ViewLeads p b view part facts cases →
+  pub view_keeps_fit : FactsGive → (view part : ℕ) (facts : List ℕ) (cases : List Branch) → ViewLeads p b view part facts cases →
       (new : Branch) × Contains cases new × Fits p.policy.schema new i d e r
-  view_keeps_fit yields_true view part facts cases leads =
+  view_keeps_fit give view part facts cases leads =
       let s = p.policy.schema in
       let params = kinds_of p.policy.params in
-      let parts = leads.it.query.parts in
-      let query = (All-at (λ view. IsQuery s params [] view.query) p.policy.views view leads.it (problem.policy).views leads.view_is).fits in
-      let fits = All-at (PartFits s params [] query.kinds) parts part leads.of query.parts leads.part_is in
-      let given = yields_true p i b One query.kinds leads.of facts leads.row d e r values instance fit
-      (part_stays s params [] params p.vars (extends_itself params) (extends_nothing p.vars) query.kinds leads.of fits) leads.yields in
-      let answer : InAnswer leads.it.query i.context d given.0 =
-      (leads.of, Contains-at parts part leads.of leads.part_is, to_plain s params i.vars query.kinds leads.of fits i.context d given.0 given.2) in
-      let within = All-at (λ view. AnswerWithin view.query i.context d e) p.policy.views view leads.it breaks.within.views leads.view_is in
+      let parts = leads.passes.is_part.of.query.parts in
+      let query = (All-at (λ view. IsQuery s params [] view.query) p.policy.views view leads.passes.is_part.of (problem.policy).views leads.passes.is_part.view_is).fits in
+      let fits = All-at (PartFits s params [] query.kinds) parts part leads.passes.it query.parts leads.passes.is_part.part_is in
+      let given = give p i b One query.kinds leads.passes.it facts leads.next.row d e r values instance fit
+      (part_stays s params [] params p.vars (extends_itself params) (extends_nothing p.vars) query.kinds leads.passes.it fits) leads.passes.pass leads.next.row_is in
+      let answer : InAnswer leads.passes.is_part.of.query i.context d given.0 =
+      (leads.passes.it, Contains-at parts part leads.passes.it leads.passes.is_part.part_is, to_plain s params i.vars query.kinds leads.passes.it fits i.context d given.0 given.2) in
+      let within = All-at (λ view. AnswerWithin view.query i.context d e) p.policy.views view leads.passes.is_part.of breaks.within.views leads.passes.is_part.view_is in
       let found = within.rows given.0 answer in
       let found_fits = All-contains (PartFits s params [] query.kinds) parts found.0 query.parts found.1 in
-      cases_fit keeps p i b Two (1 + round_of b facts) leads.row parts found.0 cases d e r values given.0 instance fit given.1 leads.cases_are found.1
+      cases_fit keeps p i b Two (1 + round_of b facts) leads.next.row parts found.0 cases d e r values given.0 instance fit given.1 leads.next.cases_are found.1
       (from_plain s params i.vars query.kinds found.0 found_fits i.context e given.0 found.2)
 
   -- ---- rules
 
-  pub rule_keeps_fit : YieldsIsTrue → (rule part : ℕ) (facts : List ℕ) (cases : List Branch) → RuleLeads p b rule part facts cases →
+  pub rule_keeps_fit : FactsGive → (rule part : ℕ) (facts : List ℕ) (cases : List Branch) → RuleLeads p b rule part facts cases →
       (new : Branch) × Contains cases new × Fits p.policy.schema new i d e r
-  rule_keeps_fit yields_true rule part facts cases leads =
+  rule_keeps_fit give rule part facts cases leads =
       let s = p.policy.schema in
       let params = kinds_of p.policy.params in
-      let side = database_of d e leads.side in
-      let left = leads.left in
-      let it = All-at (RuleFits s) s.rules rule leads.it problem.rules leads.rule_is in
-      let fits = All-at (PartFits s [] [] it.left.fits.kinds) leads.it.left.parts part left it.left.fits.parts leads.part_is in
-      let given = yields_true p i b leads.side it.left.fits.kinds left facts leads.row d e r values instance fit
-      (part_stays s [] [] params p.vars (extends_nothing params) (extends_nothing p.vars) it.left.fits.kinds left fits) leads.yields in
+      let side = database_of d e leads.passes.side in
+      let left = leads.passes.it in
+      let it = All-at (RuleFits s) s.rules rule leads.passes.is_part.of problem.rules leads.passes.is_part.rule_is in
+      let fits = All-at (PartFits s [] [] it.left.fits.kinds) leads.passes.is_part.of.left.parts part left it.left.fits.parts leads.passes.is_part.part_is in
+      let given = give p i b leads.passes.side it.left.fits.kinds left facts leads.next.row d e r values instance fit
+      (part_stays s [] [] params p.vars (extends_nothing params) (extends_nothing p.vars) it.left.fits.kinds left fits) leads.passes.pass leads.next.row_is in
       let here : InPart i.context side left given.0 = to_plain s [] i.vars it.left.fits.kinds left fits i.context side given.0 given.2 in
-      let answer : InAnswer leads.it.left no_context side given.0 =
-      (left, Contains-at leads.it.left.parts part left leads.part_is, part_fixed s i.context no_context side it.left.fits.kinds left given.0 fits here) in
-      let conforms = side_conforms s d e leads.side fit.one fit.two in
-      let found = All-at (RuleHolds side) s.rules rule leads.it conforms.rules leads.rule_is given.0 answer in
-      let found_fits = All-contains (PartFits s [] [] it.right.fits.kinds) leads.it.right.parts found.0 it.right.fits.parts found.1 in
-      cases_fit keeps p i b leads.side (1 + round_of b facts) leads.row leads.it.right.parts found.0 cases d e r values given.0 instance fit given.1
-      leads.cases_are found.1
+      let answer : InAnswer leads.passes.is_part.of.left no_context side given.0 =
+      (left, Contains-at leads.passes.is_part.of.left.parts part left leads.passes.is_part.part_is, part_fixed s i.context no_context side it.left.fits.kinds left given.0 fits here) in
+      let conforms = side_conforms s d e leads.passes.side fit.one fit.two in
+      let found = All-at (RuleHolds side) s.rules rule leads.passes.is_part.of conforms.rules leads.passes.is_part.rule_is given.0 answer in
+      let found_fits = All-contains (PartFits s [] [] it.right.fits.kinds) leads.passes.is_part.of.right.parts found.0 it.right.fits.parts found.1 in
+      cases_fit keeps p i b leads.passes.side (1 + round_of b facts) leads.next.row leads.passes.is_part.of.right.parts found.0 cases d e r values given.0 instance fit given.1
+      leads.next.cases_are found.1
       (from_plain s [] i.vars it.right.fits.kinds found.0 found_fits i.context side given.0
       (part_fixed s no_context i.context side it.right.fits.kinds found.0 given.0 found_fits found.2))
 
 -- ---- all steps
 
 pub step_keeps_fit : ShownIsTrueOfValues → NotNullIsTrue → SameIsTrue → AbsurdHasNoFit → CaseKeepsFit → StepKeepsFit
-step_keeps_fit shown not_null same none keeps p i trace d e r b (steps.Entry branch entry) cases problem instance traced breaks (values, fit) leads =
+step_keeps_fit shown not_null same none keeps p b (steps.Entry branch entry) cases problem leads i trace d e r instance traced breaks (values, fit) =
     entry_keeps_fit keeps p i trace d e r values b problem instance breaks fit traced entry cases leads
-step_keeps_fit shown not_null same none keeps p i trace d e r b (steps.Key branch key left right) cases problem instance traced breaks fits leads =
+step_keeps_fit shown not_null same none keeps p b (steps.Key branch key left right) cases problem leads i trace d e r instance traced breaks fits =
     key_keeps_fit not_null same p b i d e r key left right cases fits leads
-step_keeps_fit shown not_null same none keeps p i trace d e r b (steps.Link branch link fact) cases problem instance traced breaks fits leads =
+step_keeps_fit shown not_null same none keeps p b (steps.Link branch link fact) cases problem leads i trace d e r instance traced breaks fits =
     link_keeps_fit not_null p b i d e r link fact cases fits leads
-step_keeps_fit shown not_null same none keeps p i trace d e r b (steps.Rule branch rule part facts) cases problem instance traced breaks (values, fit) leads =
-    rule_keeps_fit keeps p i trace d e r values b problem instance breaks fit (yields_is_true shown) rule part facts cases leads
-step_keeps_fit shown not_null same none keeps p i trace d e r b (steps.View branch view part facts) cases problem instance traced breaks (values, fit) leads =
-    view_keeps_fit keeps p i trace d e r values b problem instance breaks fit (yields_is_true shown) view part facts cases leads
-step_keeps_fit shown not_null same none keeps p i trace d e r b (steps.Split branch atom) cases problem instance traced breaks fits leads =
+step_keeps_fit shown not_null same none keeps p b (steps.Rule branch rule part facts) cases problem leads i trace d e r instance traced breaks (values, fit) =
+    rule_keeps_fit keeps p i trace d e r values b problem instance breaks fit (facts_give shown) rule part facts cases leads
+step_keeps_fit shown not_null same none keeps p b (steps.View branch view part facts) cases problem leads i trace d e r instance traced breaks (values, fit) =
+    view_keeps_fit keeps p i trace d e r values b problem instance breaks fit (facts_give shown) view part facts cases leads
+step_keeps_fit shown not_null same none keeps p b (steps.Split branch atom) cases problem leads i trace d e r instance traced breaks fits =
     split_keeps_fit not_null p.policy.schema b i d e r atom cases fits leads
-step_keeps_fit shown not_null same none keeps p i trace d e r b (steps.Absurd branch) cases problem instance traced breaks fits leads =
-    absurd (none p.policy.schema b i d e r leads.absurd fits)
-step_keeps_fit shown not_null same none keeps p i trace d e r b (steps.Goal branch part facts) cases problem instance traced breaks (values, fit) leads =
-    absurd (goal_has_no_fit (yields_is_true shown) same p i trace d e r values b part facts cases problem instance breaks fit leads)
+step_keeps_fit shown not_null same none keeps p b (steps.Absurd branch) cases problem leads i trace d e r instance traced breaks fits =
+    absurd (none p.policy.schema b i d e r leads.passes fits)
+step_keeps_fit shown not_null same none keeps p b (steps.Goal branch part facts) cases problem leads i trace d e r instance traced breaks (values, fit) =
+    absurd (goal_has_no_fit (facts_give shown) same p i trace d e r values b part facts cases problem instance breaks fit leads)

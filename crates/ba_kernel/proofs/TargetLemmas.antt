@@ -16,8 +16,8 @@ use Rattle.ba_facts.specs.declared.term.Term.{Term}
 use Rattle.ba_facts.specs.declared.term.Term.TheVariants.{Unknown}
 use Rattle.ba_kernel.proofs.NewLemmas.{all_at}
 use Rattle.ba_kernel.specs.NewParts.{IsTargetOf}
-use Rattle.ba_kernel.specs.News.{AreEqualIn}
-use Rattle.ba_kernel.specs.Targets.{AreTheSame, AreTheSameIfAny, HasTargetWith, HaveTargets, HaveTargetsIfAny, IsTargetAt}
+use Rattle.ba_kernel.specs.Steps.{AreEqualIn}
+use Rattle.ba_kernel.specs.Targets.{AreUnknownsOf, AreUnknownsOfIfAny, HasTargetWith, HaveTargets, HaveTargetsIfAny, IsTargetAt}
 
 zip_first : {X Y : Type 0} (xs : List X) (ys : List Y) (x : X) (y : Y) → slice_get xs 0 ≡ Some x → slice_get ys 0 ≡ Some y → slice_get (zip xs ys) 0 ≡ Some (x, y)
 zip_first [] ys x y left right = absurd (none-some x left)
@@ -25,12 +25,12 @@ zip_first (a ∷ xs) [] x y left right = absurd (none-some y right)
 zip_first (a ∷ xs) (b ∷ ys) x y left right = ap Some (λ i. (same_Some a x left i, same_Some b y right i))
 
 -- the class is all that is the same
-pub same_members : (k : Known) (t : Term) (members : List ℕ) → IsOnlyClass k t → AreMembers k t members → AreTheSame k t members
+pub same_members : (k : Known) (t : Term) (members : List ℕ) → IsOnlyClass k t → AreMembers k t members → AreUnknownsOf k t members
 same_members k t members only are u same = (are u).1 (only (Unknown u) same)
 
 module _ (b : Branch) (f : Fact) (it : Link) where
   pub have_targets : (c d : ℕ) (t : Term) (unknowns : List ℕ) → IsLaid b → slice_get it.columns 0 ≡ Some c → slice_get it.target_columns 0 ≡ Some d → slice_get f.terms c ≡ Some t →
-      AreTheSame b.known t unknowns → HaveTargets b f it unknowns
+      AreUnknownsOf b.known t unknowns → HaveTargets b f it unknowns
   have_targets c d t unknowns laid column target term are number h =
       let equal : AreEqualIn b f.terms (h.other).terms (c, d) =
       all_at (AreEqualIn b f.terms (h.other).terms) (zip it.columns it.target_columns) 0 (c, d) (h.target).equal (zip_first it.columns it.target_columns c d column target) in
@@ -50,7 +50,7 @@ module _ (b : Branch) (f : Fact) (it : Link) where
       (number, is.other, slice_get_within b.facts number is.other is.there, get_or_from_slice_get b.facts number is.other is.other is.there, is.target)
 
   pub have_targets_if_any : (c d : ℕ) (t : Term) (unknowns : Option (List ℕ)) → IsLaid b → slice_get it.columns 0 ≡ Some c → slice_get it.target_columns 0 ≡ Some d → slice_get f.terms c ≡ Some t →
-      AreTheSameIfAny b.known t unknowns → HaveTargetsIfAny b f it unknowns
+      AreUnknownsOfIfAny b.known t unknowns → HaveTargetsIfAny b f it unknowns
   have_targets_if_any c d t None laid column target term are = tt
   have_targets_if_any c d t (Some unknowns) laid column target term are = have_targets c d t unknowns laid column target term are
 

@@ -7,12 +7,13 @@ use Rattle.std.specs.Prelude.{Option, Some, None, option_map, slice_get}
 use Rattle.ba_model.specs.declared.query.Part.{Part}
 use Rattle.ba_model.specs.declared.schema.Kind.{Kind}
 use Rattle.ba_facts.specs.Matches.{AreTheSame, IsMapping, IsShown, row_of}
-use Rattle.ba_kernel.specs.Effects.{AreEqualAt, IsKeyOf, IsLinkOf, IsNotNullAt, SplitFits, rows_at}
+use Rattle.ba_kernel.specs.Effects.{rows_at}
+use Rattle.ba_kernel.specs.Steps.{AreEqualAt, FactsPass, FactsRefuse, GoalPasses, GoalRefuses, IsFirstWithout, IsKeyOf, IsLinkOf, IsNotNullAt, IsRulePart}
+use Rattle.ba_kernel.specs.Steps.{IsViewPart, KeyPasses, KeyRefuses, LinkPasses, LinkRefuses, RulePasses, RuleRefuses, SplitPasses, SplitRefuses, ViewPasses}
+use Rattle.ba_kernel.specs.Steps.{ViewRefuses}
+use Rattle.ba_kernel.specs.Tests.{PassedIsNotRefused}
 use Rattle.ba_facts.specs.Knowing.{IsThere}
 use Rattle.ba_facts.specs.Laws.{kind_of_term}
-use Rattle.ba_kernel.specs.Refusals.{FactsRefuse, GoalRefuses, IsFirstWithout, IsRulePart, IsViewPart}
-use Rattle.ba_kernel.specs.Refusals.{KeyRefuses, LinkRefuses, RuleRefuses, SplitRefuses, ViewRefuses}
-use Rattle.ba_kernel.specs.Tests.{FactsPass, GoalPasses, KeyPasses, LinkPasses, PassedIsNotRefused, RulePasses, ViewPasses}
 use Rattle.ba_facts.specs.declared.branch.Branch.{Branch}
 use Rattle.ba_kernel.specs.declared.problem.Problem.{Problem}
 use Rattle.ba_kernel.specs.declared.step.StepFault.{StepFault}
@@ -107,7 +108,7 @@ pub goal_not_both : (p : Problem) (b : Branch) (part : ℕ) (facts : List ℕ) (
 goal_not_both p b part facts _ pass (GoalRefuses.no_part none) = cc (pass.is_part, none)
 goal_not_both p b part facts fault pass (GoalRefuses.facts_refuse {it} there refuse) =
     facts_not_both b Two it facts fault (subst (λ part. FactsPass b Two part facts) (some_inj _ _ _ pass.is_part there) pass.pass) refuse
-goal_not_both p b part facts _ pass (GoalRefuses.head {it} {n} there mapping shown first) =
+goal_not_both p b part facts _ pass (GoalRefuses.head {it} {n} there passed first) =
     let head : AllZip (AreTheSame b.known) (row_of b facts it.head) (map Some b.goal) =
     subst (λ part. AllZip (AreTheSame b.known) (row_of b facts part.head) (map Some b.goal)) (some_inj _ _ _ pass.is_part there) pass.head in
     no_first (λ two. AreTheSame b.known two.0 two.1) (zip (row_of b facts it.head) (map Some b.goal)) n
@@ -123,13 +124,13 @@ there_of b (Val v) kind e = tt
 there_of b (Param n) kind e = tt
 there_of b (Var n) kind e = tt
 
-pub split_not_both : (b : Branch) (atom : TermAtom) (fault : StepFault) → SplitFits b atom → SplitRefuses b atom fault → ⊥
+pub split_not_both : (b : Branch) (atom : TermAtom) (fault : StepFault) → SplitPasses b atom → SplitRefuses b atom fault → ⊥
 split_not_both b atom _ fits (SplitRefuses.no_unknown none) =
-    none (there_of b atom.left fits.kind fits.left_is, there_of b atom.right fits.kind fits.right_is)
+    none (there_of b atom.left fits.kind fits.sides.left, there_of b atom.right fits.kind fits.sides.right)
 split_not_both b atom _ fits (SplitRefuses.unfit there unfit) = unfit fits
 
 pub not_both : PassedIsNotRefused
-not_both p b (steps.Entry branch entry) fault pass refuse = cc (pass.1, refuse.0)
+not_both p b (steps.Entry branch entry) fault pass refuse = cc (pass.there, refuse.0)
 not_both p b (steps.Key branch key left right) fault pass refuse = key_not_both p b key left right fault pass refuse
 not_both p b (steps.Link branch link fact) fault pass refuse = link_not_both p b link fact fault pass refuse
 not_both p b (steps.Rule branch rule part facts) fault pass refuse = rule_not_both p b rule part facts fault pass refuse

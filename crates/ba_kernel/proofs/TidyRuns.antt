@@ -18,13 +18,14 @@ use Rattle.ba_kernel.proofs.BuildStarts.{nothing_there}
 use Rattle.ba_kernel.proofs.StepFits.{All-at}
 use Rattle.ba_kernel.proofs.TidyLemmas.{counted, facts_there, more_unknowns, new_there, row_there_more}
 use Rattle.ba_kernel.specs.Courses.{EntryFits, IsStartOf, LinkFits, ProblemFits, RuleFits, Runs, Slots, after, branch_of, nothing_known, start, next}
-use Rattle.ba_kernel.specs.Effects.{IsCase, Leads, LinkLeads, rows_at, with_fact, with_facts, with_lessons}
+use Rattle.ba_kernel.specs.Effects.{IsCase, rows_at, with_fact, with_facts, with_lessons}
+use Rattle.ba_kernel.specs.Steps.{Leads, LinkLeads}
+use Rattle.ba_kernel.specs.Tests.{FactIsTidy, IsTidy, RunsAreTidy}
 use Rattle.ba_facts.proofs.LaidLemmas.{laid_push}
 use Rattle.ba_facts.specs.Known.{Known}
 use Rattle.ba_facts.specs.Knowing.{sort_of}
 use Rattle.ba_facts.specs.Laid.{AreLaid, IsLaid}
 use Rattle.ba_facts.specs.Matches.{round_of, term_of}
-use Rattle.ba_kernel.specs.Tests.{FactIsTidy, IsTidy, RunsAreTidy}
 use Rattle.ba_facts.specs.declared.branch.Branch.{Branch}
 use Rattle.ba_kernel.specs.declared.problem.Problem.{Problem}
 use Rattle.ba_kernel.specs.declared.step.Step.{Step}
@@ -172,27 +173,27 @@ module _ (p : Problem) where
   -- ---- steps
 
   module _ (fits : ProblemFits p) where
-    target_is_table : (b : Branch) (link fact : ℕ) (cases : List Branch) (leads : LinkLeads p b link fact cases) → IsTable s leads.it.target
+    target_is_table : (b : Branch) (link fact : ℕ) (cases : List Branch) (leads : LinkLeads p b link fact cases) → IsTable s leads.passes.it.target
     target_is_table b link fact cases leads =
-        let links = All-at (λ (table : Table). All (LinkFits s) table.links) s.tables leads.f.table leads.link_of.table fits.links leads.link_of.table_is in
-        let it = All-at (LinkFits s) leads.link_of.table.links link leads.it links leads.link_of.link_is in
+        let links = All-at (λ (table : Table). All (LinkFits s) table.links) s.tables leads.passes.f.table leads.passes.link_of.table fits.links leads.passes.link_of.table_is in
+        let it = All-at (LinkFits s) leads.passes.link_of.table.links link leads.passes.it links leads.passes.link_of.link_is in
         λ e. cc (it.target_is)
 
     leads_tidy : (b : Branch) (step : Step) (cases : List Branch) → IsTidy p b → Leads p b step cases → All (IsTidy p) cases
     leads_tidy b (steps.Entry branch entry) cases h leads =
-        let it = All-at (EntryFits p) p.entries entry leads.it fits.entries leads.there in
-        cases_tidy One leads.round b leads.row leads.it.query.parts cases (tables_of (kinds_of p.policy.params) p.vars leads.it.query it.query.fits) h leads.cases_are
+        let it = All-at (EntryFits p) p.entries entry leads.passes.it fits.entries leads.passes.there in
+        cases_tidy One leads.round b leads.row leads.passes.it.query.parts cases (tables_of (kinds_of p.policy.params) p.vars leads.passes.it.query it.query.fits) h leads.cases_are
     leads_tidy b (steps.Key branch key left right) cases h leads = one_tidy (with_lessons b _) cases leads.cases_are (lessons_tidy b _ h)
     leads_tidy b (steps.Link branch link fact) cases h leads =
-        let target = fact_tidy leads.f.side (1 + leads.f.round) b leads.it.target (target_is_table b link fact cases leads) h in
-        one_tidy (with_lessons (with_fact s leads.f.side (1 + leads.f.round) b leads.it.target) leads.lessons) cases leads.cases_are
-        (lessons_tidy (with_fact s leads.f.side (1 + leads.f.round) b leads.it.target) leads.lessons target)
+        let target = fact_tidy leads.passes.f.side (1 + leads.passes.f.round) b leads.passes.it.target (target_is_table b link fact cases leads) h in
+        one_tidy (with_lessons (with_fact s leads.passes.f.side (1 + leads.passes.f.round) b leads.passes.it.target) leads.lessons) cases leads.cases_are
+        (lessons_tidy (with_fact s leads.passes.f.side (1 + leads.passes.f.round) b leads.passes.it.target) leads.lessons target)
     leads_tidy b (steps.Rule branch rule part facts) cases h leads =
-        let it = All-at (RuleFits s) s.rules rule leads.it fits.rules leads.rule_is in
-        cases_tidy leads.side (1 + round_of b facts) b leads.row leads.it.right.parts cases (tables_of [] [] leads.it.right it.right.fits) h leads.cases_are
+        let it = All-at (RuleFits s) s.rules rule leads.passes.is_part.of fits.rules leads.passes.is_part.rule_is in
+        cases_tidy leads.passes.side (1 + round_of b facts) b leads.next.row leads.passes.is_part.of.right.parts cases (tables_of [] [] leads.passes.is_part.of.right it.right.fits) h leads.next.cases_are
     leads_tidy b (steps.View branch view part facts) cases h leads =
-        let it = All-at (λ (v : View). IsQuery s (kinds_of p.policy.params) [] v.query) p.policy.views view leads.it (fits.policy).views leads.view_is in
-        cases_tidy Two (1 + round_of b facts) b leads.row leads.it.query.parts cases (tables_of (kinds_of p.policy.params) [] leads.it.query it.fits) h leads.cases_are
+        let it = All-at (λ (v : View). IsQuery s (kinds_of p.policy.params) [] v.query) p.policy.views view leads.passes.is_part.of (fits.policy).views leads.passes.is_part.view_is in
+        cases_tidy Two (1 + round_of b facts) b leads.next.row leads.passes.is_part.of.query.parts cases (tables_of (kinds_of p.policy.params) [] leads.passes.is_part.of.query it.fits) h leads.next.cases_are
     leads_tidy b (steps.Split branch atom) cases h leads =
         subst (All (IsTidy p)) (sym leads.cases_are)
         (All-cons (IsTidy p) (with_lessons b _) (with_lessons b _ ∷ []) (lessons_tidy b _ h) (All-cons (IsTidy p) (with_lessons b _) [] (lessons_tidy b _ h) (All-nil (IsTidy p))))

@@ -33,7 +33,7 @@ use Rattle.ba_facts.specs.declared.term.Term.TheVariants as terms
 use Rattle.ba_facts.specs.declared.term.TermAtom.{TermAtom}
 use Rattle.ba_kernel.specs.Effects.{rows_at}
 use Rattle.ba_kernel.specs.Problems.{atom_at, operand_at, variable_at}
-use Rattle.ba_kernel.specs.Soundness.{YieldsIsTrue}
+use Rattle.ba_kernel.specs.Soundness.{FactsGive}
 use Rattle.ba_kernel.proofs.StepFits.{Tied, and_then_is, fact_holds, image_at, side_conforms}
 
 -- ---- kinds and operators
@@ -172,15 +172,15 @@ module _ (s : Schema) (b : Branch) (i : Instance) (d e : RowSet) (r values : Lis
       let later = mapped_rows from facts h.1 in
       (first.0 ∷ later.0, (first.1, later.1), (first.2, later.2))
 
-pub yields_is_true : ShownIsTrueOfValues → YieldsIsTrue
-yields_is_true shown_is_true p i b side kinds part facts row d e r values instance fit fits yields =
+pub facts_give : ShownIsTrueOfValues → FactsGive
+facts_give shown_is_true p i b side kinds part facts row d e r values instance fit fits pass row_is =
     let s = p.policy.schema in
     let params = kinds_of p.policy.params in
     let side_is = side_conforms s d e side fit.one fit.two in
     let rows = rows_at b facts in
-    let given = mapped_rows s b i d e r values fit side part.from facts yields.mapping in
+    let given = mapped_rows s b i d e r values fit side part.from facts pass.mapping in
     let out = head_values s params p.vars i values instance.context instance.vars (database_of d e side) side_is part.from rows given.0 given.1 given.2
-    part.head kinds row fits.head yields.head in
+    part.head kinds row fits.head row_is in
     let conds = atoms_true s params p.vars i values instance.context instance.vars (database_of d e side) side_is part.from rows given.0 given.1 given.2
-    b.known (λ atom h shown. shown_is_true s b i d e r values atom fit h shown) part.conds fits.conds yields.shown in
+    b.known (λ atom h shown. shown_is_true s b i d e r values atom fit h shown) part.conds fits.conds pass.shown in
     (out.0, out.1, (given.0, given.2, record { conds = conds; head = out.2 }))

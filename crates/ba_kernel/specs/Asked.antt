@@ -26,8 +26,10 @@ pub record RecordFits (policy : Policy) (it : TraceEntry) : Type 0 where
   pub query : IsQuery policy.schema (kinds_of policy.params) [] it.query
   pub rows : All (AllZip MayBeOfKind query.fits.kinds) it.rows
 
--- What the readers ensure of what they read: the schema's tables, the rules, the views, the context, the trace and the query fit, and the queries are within the limits.
-pub record QuestionFits (policy : Policy) (c : Context) (trace : List TraceEntry) (q : Query) : Type 0 where
+-- What the readers ensure of what they read: the schema's tables, the rules, the views, the
+-- context, the trace and the query fit, and the queries are within the limits.
+pub record QuestionFits (policy : Policy) (c : Context) (trace : List TraceEntry) (q : Query) :
+    Type 0 where
   pub tables : AreTables policy.schema.tables
   pub rules : All (RuleFits policy.schema) policy.schema.rules
   pub policy_fits : PolicyFits policy
@@ -43,9 +45,14 @@ CheckedLinksFit = (s : Schema) → AreTables s.tables → LinksFit s
 
 -- rows of a checked query's answer, in a database that conforms, may be recorded
 abbrev pub AnswersAreRecords : Type 0
-AnswersAreRecords = (policy : Policy) (c : Context) (d : RowSet) (it : TraceEntry) → IsQuery policy.schema (kinds_of policy.params) [] it.query →
-    Conforms policy.schema d → ContextFits (kinds_of policy.params) c → All (InAnswer it.query c d) it.rows → RecordFits policy it
+AnswersAreRecords =
+    (policy : Policy) (c : Context) (d : RowSet) (it : TraceEntry) →
+    IsQuery policy.schema (kinds_of policy.params) [] it.query → Conforms policy.schema d →
+    ContextFits (kinds_of policy.params) c → All (InAnswer it.query c d) it.rows →
+    RecordFits policy it
 
 -- where the question fits, its problem does
 abbrev pub QuestionIsProblem : Type 0
-QuestionIsProblem = (policy : Policy) (c : Context) (trace : List TraceEntry) (q : Query) → QuestionFits policy c trace q → ProblemFits (problem_of policy c trace q)
+QuestionIsProblem =
+    (policy : Policy) (c : Context) (trace : List TraceEntry) (q : Query) →
+    QuestionFits policy c trace q → ProblemFits (problem_of policy c trace q)

@@ -1,4 +1,5 @@
--- Problems that are put together by hand: what of a draft is well formed, and its first part that isn't.
+-- Problems that are put together by hand: what of a draft is well formed, and its first part that
+-- isn't.
 use Rattle.std.specs.Prelude.{ℕ, List, [], All, Option, Some, None}
 use Rattle.std.specs.List.{AllZip}
 use Rattle.ba_model.specs.Fit.{AtomFits, IsQuery, PolicyFits, kind_of, kinds_of}
@@ -8,7 +9,7 @@ use Rattle.ba_model.specs.declared.query.Operand.{Operand}
 use Rattle.ba_model.specs.declared.query.Query.{Query}
 use Rattle.ba_model.specs.declared.schema.Kind.{Kind}
 use Rattle.ba_kernel.specs.Courses.{EntryFits, LinksFit, RowOperandFits, RuleFits}
-use Rattle.ba_kernel.specs.Refusals.{IsFirstWithout}
+use Rattle.ba_kernel.specs.Steps.{IsFirstWithout}
 use Rattle.ba_kernel.specs.declared.draft.ProblemDraft.{ProblemDraft}
 use Rattle.ba_kernel.specs.declared.draft.ProblemFault.{ProblemFault}
 use Rattle.ba_kernel.specs.declared.draft.ProblemFault.TheVariants.{BadEntry, BadAssumed, BadGoal}
@@ -16,7 +17,13 @@ use Rattle.ba_kernel.specs.declared.problem.Problem.{Problem}
 
 -- the problem with the draft's content
 abbrev pub problem_from : ProblemDraft → Problem
-problem_from draft = record { policy = draft.policy; vars = draft.vars; assumed = draft.assumed; entries = draft.entries; goal = draft.goal }
+problem_from draft = record {
+  policy = draft.policy;
+  vars = draft.vars;
+  assumed = draft.assumed;
+  entries = draft.entries;
+  goal = draft.goal;
+}
 
 -- a query for the problem's policy and variables
 abbrev pub IsQueryIn : Problem → Query → Type 0
@@ -35,8 +42,10 @@ pub record IsWellFormed (p : Problem) : Type 0 where
 -- the first part that isn't well formed: of the entries, then of the assumed atoms, then the goal
 pub data IsFirstBad (p : Problem) : ProblemFault → Type 0 where
   bad_entry : {n : ℕ} → IsFirstWithout (EntryFits p) p.entries n → IsFirstBad p (BadEntry n)
-  bad_assumed : {n : ℕ} → All (EntryFits p) p.entries → IsFirstWithout (IsAssumedIn p) p.assumed n → IsFirstBad p (BadAssumed n)
-  bad_goal : All (EntryFits p) p.entries → All (IsAssumedIn p) p.assumed → ¬ (IsQueryIn p p.goal) → IsFirstBad p BadGoal
+  bad_assumed : {n : ℕ} → All (EntryFits p) p.entries →
+      IsFirstWithout (IsAssumedIn p) p.assumed n → IsFirstBad p (BadAssumed n)
+  bad_goal : All (EntryFits p) p.entries → All (IsAssumedIn p) p.assumed →
+      ¬ (IsQueryIn p p.goal) → IsFirstBad p BadGoal
 
 -- the links, rules and views of the policy are as their readers ensure
 pub record IsChecked (policy : Policy) : Type 0 where
@@ -51,6 +60,11 @@ abbrev pub MayStand : Problem → Option Kind → Operand → Type 0
 MayStand p None operand = ⊥
 MayStand p (Some kind) operand = RowOperandFits p kind operand
 
+-- the kind of an operand over these tables
+abbrev pub kind_in : Problem → List ℕ → Operand → Option Kind
+kind_in p from operand =
+    kind_of p.policy.schema (kinds_of p.policy.params) p.vars from operand
+
 -- the row has an operand for each of the head's, over these tables, that may stand for its kind
 abbrev pub Stands : Problem → List ℕ → List Operand → List Operand → Type 0
-Stands p from head row = AllZip (λ x operand. MayStand p (kind_of p.policy.schema (kinds_of p.policy.params) p.vars from x) operand) head row
+Stands p from head row = AllZip (λ x operand. MayStand p (kind_in p from x) operand) head row

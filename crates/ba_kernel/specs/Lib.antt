@@ -1,6 +1,6 @@
 pub mod Problems
 pub mod Effects
-pub mod Refusals
+pub mod Steps
 pub mod Courses
 pub mod Soundness
 pub mod Tests

@@ -1,4 +1,4 @@
--- Parts of the tests for new steps.
+-- What the tests for new steps are made of.
 use Rattle.std.specs.Prelude.{◌≡◌, ℕ, ◌+◌, min, Bool, true, false, ◌⊎◌, List, All, Any, Option, Some, None}
 use Rattle.std.specs.List.{zip}
 use Rattle.ba_model.specs.declared.policy.View.{View}
@@ -16,11 +16,12 @@ use Rattle.ba_facts.specs.declared.term.Side.TheVariants.{One, Two}
 use Rattle.ba_facts.specs.declared.term.Term.{Term}
 use Rattle.ba_facts.specs.declared.term.TermAtom.{TermAtom}
 use Rattle.ba_facts.specs.Matches.{IsLiveAtom, round_of}
-use Rattle.ba_kernel.specs.News.{AreEqualIn, EntryIsMet, IsOfNewKind, IsRound, IsRoundOfEntry, IsSplitRound, SplitTells, Tells}
+use Rattle.ba_kernel.specs.Steps.{AreEqualIn, EntryIsMet, IsOfNewKind, IsRound, IsRoundOfEntry, IsSplitRound, SplitTells, Tells}
 use Rattle.ba_kernel.specs.declared.problem.Problem.{Problem}
 use Rattle.ba_kernel.specs.declared.step.Step.{Step}
 
--- the other fact is of the link's target table on the fact's side, and is shown equal to it in the link's columns
+-- the other fact is of the link's target table on the fact's side, and is shown equal to it in the
+-- link's columns
 pub record IsTargetOf (b : Branch) (f : Fact) (it : Link) (other : Fact) : Type 0 where
   pub side : other.side ≡ f.side
   pub table : other.table ≡ it.target
@@ -60,9 +61,12 @@ least_of None n = n
 least_of (Some m) None = Some m
 least_of (Some m) (Some n) = Some (min m n)
 
--- the atom is one of a live mapping to these facts: of one of the parts to the side, with the row for its head if there is one
-abbrev pub IsAtomOfParts : Branch → Side → List Part → Option (List Term) → TermAtom → List ℕ → Type 0
-IsAtomOfParts b side parts row atom facts = Any (λ part. IsLiveAtom b side part row atom facts) parts
+-- the atom is one of a live mapping to these facts: of one of the parts to the side, with the row
+-- for its head if there is one
+abbrev pub IsAtomOfParts :
+    Branch → Side → List Part → Option (List Term) → TermAtom → List ℕ → Type 0
+IsAtomOfParts b side parts row atom facts =
+    Any (λ part. IsLiveAtom b side part row atom facts) parts
 
 -- no part of the query is past the limits
 abbrev pub IsWithin : Query → Type 0
@@ -70,11 +74,13 @@ IsWithin q = All PartWithin q.parts
 
 -- of one of the views to side One
 abbrev pub IsAtomOfViews : Branch → List View → TermAtom → List ℕ → Type 0
-IsAtomOfViews b views atom facts = Any (λ view. IsAtomOfParts b One view.query.parts None atom facts) views
+IsAtomOfViews b views atom facts =
+    Any (λ view. IsAtomOfParts b One view.query.parts None atom facts) views
 
 -- of one of the parts to either side
 abbrev pub IsAtomOfSides : Branch → List Part → TermAtom → List ℕ → Type 0
-IsAtomOfSides b parts atom facts = IsAtomOfParts b One parts None atom facts ⊎ IsAtomOfParts b Two parts None atom facts
+IsAtomOfSides b parts atom facts =
+    IsAtomOfParts b One parts None atom facts ⊎ IsAtomOfParts b Two parts None atom facts
 
 -- of the left query of one of the rules to either side
 abbrev pub IsAtomOfRules : Branch → List Rule → TermAtom → List ℕ → Type 0

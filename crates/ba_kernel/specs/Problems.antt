@@ -46,10 +46,18 @@ operand_at vars (Param n) = Param n
 operand_at vars (Var n) = variable_at n (slice_get vars n)
 
 abbrev pub atom_at : List Value → Atom → Atom
-atom_at vars atom = record { op = atom.op; left = operand_at vars atom.left; right = operand_at vars atom.right }
+atom_at vars atom = record {
+  op = atom.op;
+  left = operand_at vars atom.left;
+  right = operand_at vars atom.right;
+}
 
 abbrev pub part_at : List Value → Part → Part
-part_at vars part = record { from = part.from; conds = map (atom_at vars) part.conds; head = map (operand_at vars) part.head }
+part_at vars part = record {
+  from = part.from;
+  conds = map (atom_at vars) part.conds;
+  head = map (operand_at vars) part.head;
+}
 
 abbrev pub query_at : List Value → Query → Query
 query_at vars q = record { parts = map (part_at vars) q.parts }
@@ -71,7 +79,9 @@ IsTraceAt p i trace = AllZip (IsEntryAt i) p.entries trace
 
 -- each instance's question is strongly compliant after its trace
 abbrev pub StrongAll : Problem → Type 0
-StrongAll p = (i : Instance) (trace : List TraceEntry) → IsInstance p i → IsTraceAt p i trace → Strong p.policy i.context trace (query_at i.vars p.goal)
+StrongAll p =
+    (i : Instance) (trace : List TraceEntry) → IsInstance p i → IsTraceAt p i trace →
+    Strong p.policy i.context trace (query_at i.vars p.goal)
 
 -- two databases and a row that break the strong compliance of an instance's question
 abbrev pub Breaks : Problem → Instance → List TraceEntry → RowSet → RowSet → List Value → Type 0
@@ -98,5 +108,7 @@ problem_of policy c trace q = record {
 
 -- where the problem of a question is strongly compliant in every instance, the question is
 abbrev pub ProblemIsQuestion : Type 0
-ProblemIsQuestion = (policy : Policy) (c : Context) (trace : List TraceEntry) (q : Query) → ContextFits (kinds_of policy.params) c →
-    StrongAll (problem_of policy c trace q) → Strong policy c trace q
+ProblemIsQuestion =
+    (policy : Policy) (c : Context) (trace : List TraceEntry) (q : Query) →
+    ContextFits (kinds_of policy.params) c → StrongAll (problem_of policy c trace q) →
+    Strong policy c trace q

@@ -3,7 +3,7 @@ use Rattle.std.specs.Prelude.{◌≡◌, ◌≢◌, ℕ, List, [], length, take,
 use Rattle.ba_model.specs.declared.failure.Failure.{Failure}
 use Rattle.ba_model.specs.declared.failure.Failure.TheVariants.{NoMemory, Fault}
 use Rattle.ba_kernel.specs.Courses.{AllClosed, ProblemFits, Runs, Slots, branch_of}
-use Rattle.ba_kernel.specs.Tests.{Course, IsCourse, IsPassed, IsRefused, IsRefusedAt, PassesAt, Proof, open_at}
+use Rattle.ba_kernel.specs.Tests.{Course, IsCourse, IsPassed, IsRefused, IsRefusedAt, Proof, open_at}
 use Rattle.ba_kernel.specs.declared.problem.Problem.{Problem}
 use Rattle.ba_kernel.specs.declared.replaying.ReplayFault.{ReplayFault}
 use Rattle.ba_kernel.specs.declared.replaying.ReplayFault.TheVariants.{Refused, Open}
@@ -23,7 +23,8 @@ pub record StaysOpen (p : Problem) (steps : List Step) : Type 0 where
   pub open_ : ¬ (AllClosed slots)
 
 -- the steps before the number are accepted, and the step of the number is refused with this fault
-pub record RefusesAt (p : Problem) (steps : List Step) (number : ℕ) (fault : StepFault) : Type 0 where
+pub record RefusesAt (p : Problem) (steps : List Step) (number : ℕ) (fault : StepFault) :
+    Type 0 where
   pub slots : Slots
   pub runs : Runs p (take number steps) slots
   pub step : Step
@@ -34,16 +35,15 @@ abbrev pub HasFault : Problem → List Step → ReplayFault → Type 0
 HasFault p steps (Refused number fault) = RefusesAt p steps number fault
 HasFault p steps Open = StaysOpen p steps
 
--- memory is wanting: for the start, which takes none where the goal has no part, or for a step that passes its tests after those before it
-pub data WantsMemory (p : Problem) (steps : List Step) : Type 0 where
-  for_start : p.goal.parts ≢ [] → WantsMemory p steps
-  for_step : {slots : Slots} {step : Step} (number : ℕ) → Runs p (take number steps) slots → slice_get steps number ≡ Some step →
-      PassesAt p (open_at slots (branch_of step)) step → WantsMemory p steps
+-- want of memory may be told: the goal has a part. Of none no branch is made, and no step is taken.
+abbrev pub MayWantMemory : Problem → Type 0
+MayWantMemory p = p.goal.parts ≢ []
 
--- the answer is the proof that the steps are, or a fault that they have; or memory is wanting
+-- the answer is the proof that the steps are, or a fault that they have; or want of memory, which
+-- stands in place of either
 abbrev pub Replays : Problem → List Step → Result Proof (Failure ReplayFault) → Type 0
 Replays p steps (Ok proof) = Closes p steps × (proof ≡ record { problem = p; steps = steps })
-Replays p steps (Err NoMemory) = WantsMemory p steps
+Replays p steps (Err NoMemory) = MayWantMemory p
 Replays p steps (Err (Fault fault)) = HasFault p steps fault
 
 -- ---- the law
@@ -51,15 +51,18 @@ Replays p steps (Err (Fault fault)) = HasFault p steps fault
 -- steps that close a problem have no fault, and others have one at most
 pub record HasOneEnd (p : Problem) (steps : List Step) : Type 0 where
   pub no_fault : (fault : ReplayFault) → Closes p steps → ¬ (HasFault p steps fault)
-  pub one_fault : (fault other : ReplayFault) → HasFault p steps fault → HasFault p steps other → fault ≡ other
+  pub one_fault : (fault other : ReplayFault) → HasFault p steps fault → HasFault p steps other →
+      fault ≡ other
 
 abbrev pub ReplaysHaveOneEnd : Type 0
 ReplaysHaveOneEnd = (p : Problem) (steps : List Step) → ProblemFits p → HasOneEnd p steps
 
 -- ---- one step
 
--- the next step of a course is refused with the fault, which has its number; or memory is wanting for it, and it passes its tests
+-- the next step of a course is refused with the fault, which has its number; or want of memory is
+-- told, and it passes its tests
 abbrev pub IsNextRefused : Course → Step → Failure ReplayFault → Type 0
 IsNextRefused c step NoMemory = IsCourse c × IsPassed c step
 IsNextRefused c step (Fault Open) = ⊥
-IsNextRefused c step (Fault (Refused number fault)) = IsCourse c × (number ≡ length c.steps) × IsRefused c step fault
+IsNextRefused c step (Fault (Refused number fault)) =
+    IsCourse c × (number ≡ length c.steps) × IsRefused c step fault

@@ -22,16 +22,18 @@ HasTargetWith b f it u = (number : ℕ) × IsTermOf b.facts u number × IsTarget
 
 -- each target of the link has one of the unknowns
 abbrev pub HaveTargets : Branch → Fact → Link → List ℕ → Type 0
-HaveTargets b f it unknowns = (number : ℕ) → IsTargetAt b f it number → (u : ℕ) × Contains unknowns u × IsTermOf b.facts u number
+HaveTargets b f it unknowns =
+    (number : ℕ) → IsTargetAt b f it number →
+    (u : ℕ) × Contains unknowns u × IsTermOf b.facts u number
 
 abbrev pub HaveTargetsIfAny : Branch → Fact → Link → Option (List ℕ) → Type 0
 HaveTargetsIfAny b f it None = Unit {0}
 HaveTargetsIfAny b f it (Some unknowns) = HaveTargets b f it unknowns
 
 -- each unknown that the term is the same as is one of these
-abbrev pub AreTheSame : Known → Term → List ℕ → Type 0
-AreTheSame k t unknowns = (u : ℕ) → TheSame k t (Unknown u) → Contains unknowns u
+abbrev pub AreUnknownsOf : Known → Term → List ℕ → Type 0
+AreUnknownsOf k t unknowns = (u : ℕ) → TheSame k t (Unknown u) → Contains unknowns u
 
-abbrev pub AreTheSameIfAny : Known → Term → Option (List ℕ) → Type 0
-AreTheSameIfAny k t None = Unit {0}
-AreTheSameIfAny k t (Some unknowns) = AreTheSame k t unknowns
+abbrev pub AreUnknownsOfIfAny : Known → Term → Option (List ℕ) → Type 0
+AreUnknownsOfIfAny k t None = Unit {0}
+AreUnknownsOfIfAny k t (Some unknowns) = AreUnknownsOf k t unknowns

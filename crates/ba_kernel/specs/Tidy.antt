@@ -1,5 +1,5 @@
 -- What a case is built from: terms that are there, and lessons that are added in turn.
-use Rattle.std.specs.Prelude.{◌≡◌, ◌⊎◌, ℕ, ◌+◌, ◌<◌, List, All, Any, Option, Some, length, map}
+use Rattle.std.specs.Prelude.{◌≡◌, ◌⊎◌, ℕ, ◌<◌, List, All, Any, Option, Some, length, map}
 use Rattle.std.specs.List.{AllZip}
 use Rattle.ba_model.specs.Fit.{PartFits, kinds_of}
 use Rattle.ba_model.specs.SchemaFaults.{columns_of}
@@ -12,16 +12,14 @@ use Rattle.ba_model.specs.declared.schema.Kind.{Kind}
 use Rattle.ba_model.specs.declared.schema.Schema.{Schema}
 use Rattle.ba_model.specs.declared.value.Value.{Value}
 use Rattle.ba_kernel.specs.Courses.{IsStartOf}
-use Rattle.ba_kernel.specs.Effects.{IsCase, IsSide, with_lessons}
+use Rattle.ba_kernel.specs.Effects.{IsSide, with_lessons}
 use Rattle.ba_facts.specs.Known.{Known}
 use Rattle.ba_facts.specs.Knowing.{IsThere}
-use Rattle.ba_facts.specs.Matches.{round_of, row_of, term_of}
+use Rattle.ba_facts.specs.Matches.{term_of}
 use Rattle.ba_facts.specs.declared.branch.Branch.{Branch}
 use Rattle.ba_kernel.specs.declared.problem.Problem.{Problem}
 use Rattle.ba_facts.specs.declared.term.Fact.{Fact}
 use Rattle.ba_facts.specs.declared.term.Lesson.{Lesson}
-use Rattle.ba_facts.specs.declared.term.Lesson.TheVariants.{Same}
-use Rattle.ba_facts.specs.declared.term.Side.{Side}
 use Rattle.ba_facts.specs.declared.term.Term.{Term}
 
 -- the operand stands for a term
@@ -75,16 +73,6 @@ pub record Learns (found : List (Option Lesson)) (old new : Branch) : Type 0 whe
   pub lessons : List Lesson
   pub are : found ≡ map Some lessons
   pub new_is : new ≡ with_lessons old lessons
-
--- the facts give a row, and these are the cases where the parts give it on the side, a round later
-pub record AreNext (s : Schema) (b : Branch) (side : Side) (part : Part) (facts : List ℕ) (parts : List Part) (cases : List Branch) : Type 0 where
-  pub row : List Term
-  pub row_is : row_of b facts part.head ≡ map Some row
-  pub cases_are : AllZip (IsCase s b side (1 + round_of b facts) row) parts cases
-
--- the two are the same
-abbrev pub same_pair : Term × Term → Lesson
-same_pair two = Same two.0 two.1
 
 -- ---- literals of a query
 

@@ -1,9 +1,9 @@
 //! The cases that a step leads to.
 ghost use Rattle.std.specs.Prelude.{◌≡◌, [], IfOk, IsTrue, Some};
 ghost use Rattle.ba_kernel.specs.Courses.{ProblemFits};
-ghost use Rattle.ba_kernel.specs.Effects.{Leads};
+ghost use Rattle.ba_kernel.specs.Steps.{Leads, Passes};
+ghost use Rattle.ba_kernel.specs.Tests.{IsTidy};
 ghost use Rattle.ba_kernel.specs.Spares.{LeadsTo};
-ghost use Rattle.ba_kernel.specs.Tests.{IsTidy, Passes};
 
 pub mod build;
 mod entry;
@@ -82,7 +82,8 @@ pub fn again(
 ) -> Result<Option<Owned<Branch>>, AllocError>
     requires fits { ProblemFits problem.now }
     requires one { (new : Branch) × LeadsTo problem.now branch step.now new }
-    ensures { IfOk result (λ it. (new : Branch) → LeadsTo problem.now branch step.now new → it ≡ Some new) }
+    ensures { IfOk result (λ it. (new : Branch) →
+        LeadsTo problem.now branch step.now new → it ≡ Some new) }
 {
     let mut cases = cases_of(alloc, problem, branch, step)?;
     Ok(cases.pop())

@@ -1,12 +1,12 @@
 //! Problems that are put together by hand.
 ghost use Rattle.std.specs.Prelude.{◌≡◌, ◌↔◌, IfErr, IfOk, IsTrue};
-ghost use Rattle.ba_model.specs.Fit.{OpFits, kind_of, kinds_of};
+ghost use Rattle.ba_model.specs.Fit.{OpFits};
 ghost use Rattle.ba_model.specs.Readings.{OfFault};
 ghost use Rattle.ba_model.specs.declared.query.Operand.TheVariants.{Val};
 ghost use Rattle.ba_model.specs.declared.value.Value.TheVariants.{Null};
 ghost use Rattle.ba_kernel.specs.Courses.{EntryFits, ProblemFits};
-ghost use Rattle.ba_kernel.specs.Drafts.{IsAssumedIn, IsChecked, IsFirstBad, IsQueryIn, IsWellFormed, MayStand, Stands, problem_from};
-ghost use Rattle.ba_kernel.specs.Tests.{FirstWithout};
+ghost use Rattle.ba_kernel.specs.Drafts.{IsAssumedIn, IsChecked, IsFirstBad, IsQueryIn, IsWellFormed, MayStand, Stands, kind_in, problem_from};
+ghost use Rattle.ba_kernel.specs.Steps.{FirstWithout};
 
 use crate::problem::{Problem, ProblemEntry};
 use ba_model::{
@@ -25,14 +25,15 @@ pub struct ProblemDraft {
     pub goal: Shared<Query>,
 }
 
-/// The first part of a draft that isn't well formed: of its entries, then of its assumed atoms, each
-/// by its number from 0, then its goal.
+/// The first part of a draft that isn't well formed: of its entries, then of its assumed atoms,
+/// each by its number from 0, then its goal.
 #[derive(Clone, Copy, Debug, PartialEq, Eq)]
 pub enum ProblemFault {
     /// The entry's query isn't one for the policy and the variables, or its row hasn't the query's
     /// width and kinds (NULL is of each kind), or a parameter or variable in it isn't there.
     BadEntry(u64),
-    /// The assumed atom has a column, or isn't one of parameters, variables and literals of one kind.
+    /// The assumed atom has a column, or isn't one of parameters, variables and literals of one
+    /// kind.
     BadAssumed(u64),
     /// The goal isn't a query for the policy and the variables.
     BadGoal,
@@ -40,8 +41,8 @@ pub enum ProblemFault {
 
 impl Problem {
     /// The draft as a problem, with the same content, where its entries, its assumed atoms and its
-    /// goal are well formed; else its first part that isn't. It fits where its policy is one that the
-    /// readers gave. A draft with a fault is dropped.
+    /// goal are well formed; else its first part that isn't. It fits where its policy is one that
+    /// the readers gave. A draft with a fault is dropped.
     pub fn new(alloc: Global, draft: ProblemDraft) -> Result<Problem, Failure<ProblemFault>>
         ensures content { IfOk result (λ it. it ≡ problem_from draft) }
         ensures formed { IfOk result IsWellFormed }
@@ -120,8 +121,8 @@ fn first_bad_assumed(problem: &Problem) -> Option<usize>
     None
 }
 
-/// Whether an entry's query is one for the problem's policy and variables, and its row may stand for
-/// the query's head.
+/// Whether an entry's query is one for the problem's policy and variables, and its row may stand
+/// for the query's head.
 fn entry_fits(alloc: Global, problem: &Problem, entry: &ProblemEntry) -> Result<bool, AllocError>
     ensures { IfOk result (λ told. IsTrue told ↔ EntryFits problem.now entry.now) }
 {
@@ -179,7 +180,7 @@ fn stands(problem: &Problem, from: &[u32], head: &[Operand], row: &[Operand]) ->
 
 /// The kind of an operand over these tables, if it is there.
 fn kind_in(problem: &Problem, from: &[u32], operand: &Operand) -> Option<Kind>
-    ensures { result ≡ kind_of problem.now.policy.schema (kinds_of problem.now.policy.params) problem.now.vars from.now operand.now }
+    ensures { result ≡ kind_in problem.now from.now operand.now }
 {
     operand_kind(
         &problem.policy.schema,

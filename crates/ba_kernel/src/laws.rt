@@ -12,14 +12,14 @@ use ba_facts::laws::{
 };
 
 /// Where a part of a query gives a row in one side's database, two databases that fit a branch fit
-/// the case of the part, in which its facts are the rows that give it, its atoms are learned, and its
-/// head is the same as the row.
+/// the case of the part, in which its facts are the rows that give it, its atoms are learned, and
+/// its head is the same as the row.
 pub fn case_keeps_fit()
     ensures { CaseKeepsFit }
 {}
 
-/// Two databases and a row that break the strong compliance of an instance of a problem fit a branch
-/// of its start.
+/// Two databases and a row that break the strong compliance of an instance of a problem fit a
+/// branch of its start.
 pub fn start_fits()
     ensures { StartFits }
 {}
@@ -78,9 +78,9 @@ pub fn question_is_problem()
     ensures { QuestionIsProblem }
 {}
 
-/// A question is strongly compliant after a trace where each instance of its problem is: the problem
-/// without variables, in which each parameter has its value in the context, with one entry for each
-/// recorded row.
+/// A question is strongly compliant after a trace where each instance of its problem is: the
+/// problem without variables, in which each parameter has its value in the context, with one entry
+/// for each recorded row.
 pub fn problem_is_question()
     ensures { ProblemIsQuestion }
 {}

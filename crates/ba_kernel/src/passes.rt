@@ -1,7 +1,7 @@
 //! The tests of a step on a branch.
-ghost use Rattle.ba_kernel.specs.Refusals.{Refuses};
+ghost use Rattle.ba_kernel.specs.Steps.{AbsurdRefuses, EntryPasses, EntryRefuses, Passes, Refuses};
+ghost use Rattle.ba_kernel.specs.Tests.{IsTidy, PassedIsNotRefused, Tested};
 ghost use Rattle.ba_facts.specs.Shown.{Absurd};
-ghost use Rattle.ba_kernel.specs.Tests.{AbsurdRefuses, EntryPasses, EntryRefuses, IsTidy, PassedIsNotRefused, Passes, Tested};
 
 mod head;
 pub mod mapping;
@@ -19,7 +19,8 @@ use ba_facts::Branch;
 /// Whether the step passes its tests on a branch, or else the fault of the first that fails.
 pub fn tested(problem: &Problem, branch: &Branch, step: &Step) -> Result<(), StepFault>
     requires { IsTidy problem.now branch.now }
-    ensures { Tested (Passes problem.now branch.now step.now) (Refuses problem.now branch.now step.now) result }
+    ensures { Tested (Passes problem.now branch.now step.now)
+        (Refuses problem.now branch.now step.now) result }
 {
     match step {
         Step::Entry { entry, .. } => test_entry(problem, *entry),

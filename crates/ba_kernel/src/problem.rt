@@ -50,7 +50,8 @@ impl Problem {
         query: &Shared<Query>,
     ) -> Result<Problem, AllocError>
         ensures is { IfOk result (λ it. it ≡ problem_of policy.now ctx.now trace.now query.now) }
-        ensures fits { QuestionFits policy.now ctx.now trace.now query.now → IfOk result ProblemFits }
+        ensures fits { QuestionFits policy.now ctx.now trace.now query.now →
+            IfOk result ProblemFits }
     {
         of_question(alloc, policy, ctx, trace, query)
     }
@@ -185,7 +186,8 @@ fn of_question(
 
 /// Each parameter has its value.
 fn fixed_params(alloc: Global, values: &[Value]) -> Result<List<Atom>, AllocError>
-    ensures { IfOk result (λ atoms. atoms ≡ map param_is (zip (range_with_len 0 (length values.now)) values.now)) }
+    ensures { IfOk result (λ atoms.
+        atoms ≡ map param_is (zip (range_with_len 0 (length values.now)) values.now)) }
 {
     number_of(values.len())?;
     let mut atoms = Vec::new(alloc);

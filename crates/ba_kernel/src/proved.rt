@@ -13,9 +13,9 @@ use std::marker::Model;
 
 /// A problem and steps that prove it.
 ///
-/// The type keeps that the steps are at most [`ba_model::MAX_STEPS`], are accepted from the problem's start and
-/// leave no branch open, and that every instance of the problem is strongly compliant. Nothing but
-/// [`crate::Search::close`] makes one.
+/// The type keeps that the steps are at most [`ba_model::MAX_STEPS`], are accepted from the
+/// problem's start and leave no branch open, and that every instance of the problem is strongly
+/// compliant. Nothing but [`crate::Search::close`] makes one.
 #[derive(Drop)]
 pub struct Proved {
     problem: Problem,

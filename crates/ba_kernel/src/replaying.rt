@@ -25,8 +25,8 @@ pub enum ReplayFault {
 ///
 /// Else `Refused` tells the first step that isn't accepted and its fault, or `Open` that all are
 /// accepted and a branch is open. Steps have one such end
-/// ([`crate::laws::replays_have_one_end`]). `NoMemory` tells that memory was wanting for the start,
-/// or for a step that isn't refused after those before it; it leaves nothing behind.
+/// ([`crate::laws::replays_have_one_end`]). `NoMemory` may stand in place of any of these, and
+/// leaves nothing behind; where the goal has no part, no memory is taken and none is told.
 pub fn replay(
     alloc: Global,
     problem: Problem,

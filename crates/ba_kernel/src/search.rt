@@ -4,7 +4,7 @@ ghost use Rattle.ba_model.specs.Limits.{most_steps};
 ghost use Rattle.ba_kernel.specs.Courses.{AllClosed, IsStart, ProblemFits, Takes, after, branch_of};
 ghost use Rattle.ba_kernel.specs.News.{IsNewAt, IsNewRound};
 ghost use Rattle.ba_kernel.specs.Spares.{IsLastOn, IsSpare};
-ghost use Rattle.ba_kernel.specs.Tests.{IsCourse, IsErrorOf, IsPassed, LeadsAt, first_case, open_at, other_cases};
+ghost use Rattle.ba_kernel.specs.Tests.{IsCourse, IsErrorOf, IsPassed, IsLed, first_case, open_at, other_cases};
 
 use crate::cases::{again, cases_of, closes};
 use crate::laws::runs_are_tidy;
@@ -20,19 +20,19 @@ use std::alloc::{AllocError, Global};
 use std::marker::Model;
 use std::mem;
 
-/// A derivation that is going on: a problem, the steps that were accepted, and the branches that are
-/// still open, by number.
+/// A derivation that is going on: a problem, the steps that were accepted, and the branches that
+/// are still open, by number.
 ///
 /// Whatever two databases and row break the strong compliance of an instance of the problem, they
-/// fit one of the open branches: the type keeps that its steps are accepted from the problem's start,
-/// and each accepted step is sound ([`crate::laws::runs_are_sound`]).
+/// fit one of the open branches: the type keeps that its steps are accepted from the problem's
+/// start, and each accepted step is sound ([`crate::laws::runs_are_sound`]).
 #[derive(Drop)]
 pub struct Search {
     problem: Problem,
     steps: List<Step>,
     slots: Vec<Option<Owned<Branch>>>,
-    /// The branch of the last step from before it, if the step made one case of it. The next step on
-    /// that branch is made of it, after the last one, so that nothing is copied.
+    /// The branch of the last step from before it, if the step made one case of it. The next step
+    /// on that branch is made of it, after the last one, so that nothing is copied.
     before: Option<Owned<Branch>>,
 }
 
@@ -44,14 +44,16 @@ impl Model for Search {
 
     ghost view = { λ s. record { problem = s.problem; steps = s.steps; slots = s.slots.items } };
 
-    ghost invariant = { λ s. IsCourse (record { problem = s.problem; steps = s.steps; slots = s.slots.items })
-        × IsSpare (record { problem = s.problem; steps = s.steps; slots = s.slots.items }) s.before };
+    ghost invariant = { λ s.
+        IsCourse (record { problem = s.problem; steps = s.steps; slots = s.slots.items }) ×
+        IsSpare (record { problem = s.problem; steps = s.steps; slots = s.slots.items })
+        s.before };
 }
 
 impl Search {
     /// The start of a problem's derivation: for each part of the goal a branch, in which the part
-    /// gives the goal row on side One and what is assumed is true. It takes no memory where the goal
-    /// has no part.
+    /// gives the goal row on side One and what is assumed is true. It takes no memory where the
+    /// goal has no part.
     pub fn start(alloc: Global, problem: Problem) -> Result<Search, AllocError>
         requires { ProblemFits problem }
         ensures problem { IfOk result (λ it. it.problem ≡ problem) }
@@ -70,10 +72,10 @@ impl Search {
 
     /// Takes a step, if it passes its tests.
     ///
-    /// The cases that it leads to take the branch's place: the first keeps its number, and the others
-    /// get the next ones. Else `Fault` says which test fails first, or `NoMemory` that the step passes
-    /// its tests and there is no memory for the cases; then the search is as before, and the step is
-    /// dropped.
+    /// The cases that it leads to take the branch's place: the first keeps its number, and the
+    /// others get the next ones. Else `Fault` says which test fails first. `NoMemory` may come in
+    /// place of the cases, and never of a fault: it is told of a step that passes its tests alone.
+    /// After either the search is as before, and the step is dropped.
     pub fn apply(&mut self, alloc: Global, step: Step) -> Result<(), Failure<StepFault>>
         requires { length self.old.steps < most_steps }
         ensures taken { OnOk result (Takes self.old.problem self.old.slots step self.new.slots) }
@@ -83,9 +85,24 @@ impl Search {
         ensures err { OnErr result (self.new ≡ self.old) }
     {
         self.test(&step)?;
-        let cases = self.cases(alloc, &step)?;
-        self.put(alloc, step, cases)?;
+        self.take(alloc, step)?;
         Ok(())
+    }
+
+    /// Takes a step that passes its tests, which aren't made again: a new step is one.
+    ///
+    /// The cases that it leads to take the branch's place: the first keeps its number, and the
+    /// others get the next ones. Without memory the search is as before, and the step is dropped.
+    pub fn take(&mut self, alloc: Global, step: Step) -> Result<(), AllocError>
+        requires few { length self.old.steps < most_steps }
+        requires passes { IsPassed self.old step }
+        ensures taken { OnOk result (Takes self.old.problem self.old.slots step self.new.slots) }
+        ensures steps { OnOk result (self.new.steps ≡ self.old.steps ++ step ∷ []) }
+        ensures problem { OnOk result (self.new.problem ≡ self.old.problem) }
+        ensures err { OnErr result (self.new ≡ self.old) }
+    {
+        let cases = self.cases(alloc, &step)?;
+        self.put(alloc, step, cases)
     }
 
     // Whether a step passes its tests on an open branch.
@@ -106,7 +123,7 @@ impl Search {
     // The cases that a step leads to, which passes its tests.
     fn cases(&mut self, alloc: Global, step: &Step) -> Result<Vec<Owned<Branch>>, AllocError>
         requires { IsPassed self.old step.now }
-        ensures ok { IfOk result (λ cases. LeadsAt self.old.problem (open_at self.old.slots (branch_of step.now)) step.now cases.items) }
+        ensures ok { IfOk result (λ cases. IsLed self.old step.now cases.items) }
         ensures same { self.new ≡ self.old }
     {
         runs_are_tidy();
@@ -117,8 +134,8 @@ impl Search {
         cases_of(alloc, &self.problem, branch, step)
     }
 
-    // The branch of a number, which is open: as it was before the last step, brought up to it, or else
-    // a copy.
+    // The branch of a number, which is open: as it was before the last step, brought up to it, or
+    // else a copy.
     fn base(&mut self, alloc: Global, number: u32) -> Result<Owned<Branch>, AllocError>
         requires { (b : Branch) × (open_at self.old.slots number ≡ Some b) }
         ensures branch { IfOk result (λ branch. open_at self.old.slots number ≡ Some branch) }
@@ -135,14 +152,16 @@ impl Search {
 
     // The branch of a number, if it is kept from before the last step.
     fn spare(&mut self, alloc: Global, number: u32) -> Result<Option<Owned<Branch>>, AllocError>
-        ensures spare { IfOk result (λ spare. (b : Branch) → spare ≡ Some b → open_at self.old.slots number ≡ Some b) }
+        ensures spare { IfOk result (λ spare. (b : Branch) →
+            spare ≡ Some b → open_at self.old.slots number ≡ Some b) }
         ensures same { self.new ≡ self.old }
     {
         let before = self.before.take();
         self.brought_up(alloc, number, before)
     }
 
-    // What is kept from before the last step, brought up to it, if that was on the branch of the number.
+    // What is kept from before the last step, brought up to it, if that was on the branch of the
+    // number.
     fn brought_up(
         &self,
         alloc: Global,
@@ -150,7 +169,8 @@ impl Search {
         before: Option<Owned<Branch>>,
     ) -> Result<Option<Owned<Branch>>, AllocError>
         requires { IsSpare self.now before }
-        ensures { IfOk result (λ spare. (b : Branch) → spare ≡ Some b → open_at self.now.slots number ≡ Some b) }
+        ensures { IfOk result (λ spare. (b : Branch) →
+            spare ≡ Some b → open_at self.now.slots number ≡ Some b) }
     {
         let Some(old) = before else {
             return Ok(None);
@@ -185,8 +205,9 @@ impl Search {
         cases: Vec<Owned<Branch>>,
     ) -> Result<(), AllocError>
         requires few { length self.old.steps < most_steps }
-        requires leads { LeadsAt self.old.problem (open_at self.old.slots (branch_of step)) step cases.items }
-        ensures slots { OnOk result (self.new.slots ≡ after self.old.slots (branch_of step) cases.items) }
+        requires leads { IsLed self.old step cases.items }
+        ensures slots { OnOk result
+            (self.new.slots ≡ after self.old.slots (branch_of step) cases.items) }
         ensures steps { OnOk result (self.new.steps ≡ self.old.steps ++ step ∷ []) }
         ensures problem { OnOk result (self.new.problem ≡ self.old.problem) }
         ensures err { OnErr result (self.new ≡ self.old) }
@@ -253,7 +274,8 @@ impl Search {
     pub fn close(self) -> Result<Proved, Search>
         ensures exact { IsOk result ↔ AllClosed self.slots }
         ensures course { IsCourse self }
-        ensures proved { IfOk result (λ it. it ≡ record { problem = self.problem; steps = self.steps }) }
+        ensures proved { IfOk result (λ it.
+            it ≡ record { problem = self.problem; steps = self.steps }) }
         ensures err { IfErr result (λ it. it ≡ self) }
     {
         if !self.is_closed() {
@@ -262,10 +284,11 @@ impl Search {
         Ok(Proved::of_closed(self.problem, self.steps, self.slots))
     }
 
-    /// The round of the step, if it is new: its branch is open, it passes its tests, and it tells the
-    /// branch what isn't there yet.
+    /// The round of the step, if it is new: its branch is open, it passes its tests, and it tells
+    /// the branch what isn't there yet.
     pub fn new_round(&self, step: &Step) -> Option<u64>
-        ensures { IsNewRound self.now.problem (open_at self.now.slots (branch_of step.now)) step.now result }
+        ensures { IsNewRound self.now.problem (open_at self.now.slots (branch_of step.now))
+            step.now result }
     {
         runs_are_tidy();
         match self.branch(step.branch()) {
@@ -274,10 +297,11 @@ impl Search {
         }
     }
 
-    /// Whether the step is new: its branch is open, it passes its tests, and it tells the branch what
-    /// isn't there yet.
+    /// Whether the step is new: its branch is open, it passes its tests, and it tells the branch
+    /// what isn't there yet.
     pub fn is_new(&self, step: &Step) -> bool
-        ensures { IsTrue result ↔ IsNewAt self.now.problem (open_at self.now.slots (branch_of step.now)) step.now }
+        ensures { IsTrue result
+            ↔ IsNewAt self.now.problem (open_at self.now.slots (branch_of step.now)) step.now }
     {
         self.new_round(step).is_some()
     }
@@ -288,7 +312,8 @@ fn first_and_others(
     alloc: Global,
     cases: Vec<Owned<Branch>>,
 ) -> Result<(Option<Owned<Branch>>, Vec<Option<Owned<Branch>>>), AllocError>
-    ensures { IfOk result (λ two. (two.0 ≡ first_case cases.items) × (two.1.items ≡ other_cases cases.items)) }
+    ensures { IfOk result (λ two.
+        (two.0 ≡ first_case cases.items) × (two.1.items ≡ other_cases cases.items)) }
 {
     let mut rest = cases.into_iter();
     let first = rest.next();
@@ -296,8 +321,8 @@ fn first_and_others(
     Ok((first, others))
 }
 
-// Puts the cases in the place of the step's branch, which it gives, and adds the step. Without memory
-// neither changes.
+// Puts the cases in the place of the step's branch, which it gives, and adds the step. Without
+// memory neither changes.
 fn add_step(
     alloc: Global,
     slots: &mut Vec<Option<Owned<Branch>>>,
@@ -307,7 +332,8 @@ fn add_step(
 ) -> Result<Option<Owned<Branch>>, AllocError>
     requires { branch_of step < length slots.old.items }
     ensures old { IfOk result (λ old. old ≡ open_at slots.old.items (branch_of step)) }
-    ensures slots { OnOk result (slots.new.items ≡ after slots.old.items (branch_of step) cases.items) }
+    ensures slots { OnOk result
+        (slots.new.items ≡ after slots.old.items (branch_of step) cases.items) }
     ensures steps { OnOk result (steps.new ≡ steps.old ++ step ∷ []) }
     ensures err { OnErr result ((slots.new.items ≡ slots.old.items) × (steps.new ≡ steps.old)) }
 {

@@ -10,8 +10,8 @@ use ba_facts::{Branch, Side, Term, TermAtom, number_after};
 use ba_model::{Atom, Duplicate, Operand, Owned, Part};
 use std::alloc::{AllocError, Global};
 
-/// For each of the parts the case where it gives the row. The last one is made of the branch itself,
-/// and the others of copies.
+/// For each of the parts the case where it gives the row. The last one is made of the branch
+/// itself, and the others of copies.
 pub fn part_cases(
     alloc: Global,
     problem: &Problem,
@@ -23,7 +23,9 @@ pub fn part_cases(
 ) -> Result<Vec<Owned<Branch>>, AllocError>
     requires ready { IsReady old row.now }
     requires fits { All (IsPartFor problem.now.policy.schema (length row.now)) parts.now }
-    ensures { IfOk result (λ cases. AllZip (IsCase problem.now.policy.schema old side round row.now) parts.now cases.items) }
+    ensures { IfOk result (λ cases.
+        AllZip (IsCase problem.now.policy.schema old side round row.now)
+        parts.now cases.items) }
 {
     let Some((last, front)) = parts.split_last() else {
         return Ok(Vec::new(alloc));
@@ -47,7 +49,9 @@ fn copied_cases(
 ) -> Result<Vec<Owned<Branch>>, AllocError>
     requires ready { IsReady old.now row.now }
     requires fits { All (IsPartFor problem.now.policy.schema (length row.now)) parts.now }
-    ensures { IfOk result (λ cases. AllZip (IsCase problem.now.policy.schema old.now side round row.now) parts.now cases.items) }
+    ensures { IfOk result (λ cases.
+        AllZip (IsCase problem.now.policy.schema old.now side round row.now)
+        parts.now cases.items) }
 {
     let mut cases = Vec::new(alloc);
     for part in parts {
@@ -88,7 +92,8 @@ fn add_part(
 ) -> Result<(), AllocError>
     requires ready { IsReady new.old row.now }
     requires fits { IsPartFor problem.now.policy.schema (length row.now) part.now }
-    ensures { OnOk result (IsCase problem.now.policy.schema new.old side round row.now part.now new.new) }
+    ensures { OnOk result
+        (IsCase problem.now.policy.schema new.old side round row.now part.now new.new) }
 {
     let numbers = numbers_from(alloc, new.facts.len(), part.from.len())?;
     let facts = numbers.as_slice();
@@ -122,7 +127,8 @@ pub fn add_facts(
     round: u32,
     from: &[u32],
 ) -> Result<(), AllocError>
-    ensures { OnOk result (new.new ≡ with_facts problem.now.policy.schema side round new.old from.now) }
+    ensures { OnOk result
+        (new.new ≡ with_facts problem.now.policy.schema side round new.old from.now) }
 {
     for table in from {
         new.add_fact(alloc, side, *table, problem.columns(*table), round)?;
@@ -139,7 +145,8 @@ pub fn assume_all(
 ) -> Result<(), AllocError>
     requires there { FactsAreThere new.old }
     requires terms { All (HasTerms (rows_at new.old facts.now)) conds.now }
-    ensures { OnOk result (Learns (map (lesson_of (rows_at new.old facts.now)) conds.now) new.old new.new) }
+    ensures { OnOk result
+        (Learns (map (lesson_of (rows_at new.old facts.now)) conds.now) new.old new.new) }
 {
     for atom in conds {
         let left = operand_term(alloc, new, facts, &atom.left)?;
@@ -165,7 +172,9 @@ fn equate_all(
     requires there { FactsAreThere new.old }
     requires terms { All (HasTerm (rows_at new.old facts.now)) head.now }
     requires row { TermsAreThere new.old.known row.now }
-    ensures { OnOk result (Learns (map (same_of (rows_at new.old facts.now)) (zip head.now row.now)) new.old new.new) }
+    ensures { OnOk result
+        (Learns (map (same_of (rows_at new.old facts.now)) (zip head.now row.now))
+        new.old new.new) }
 {
     for (i, operand) in head.iter().enumerate() {
         let left = operand_term(alloc, new, facts, operand)?;

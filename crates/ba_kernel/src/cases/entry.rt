@@ -1,9 +1,10 @@
 //! The cases of rows that are known to be rows of a query.
 ghost use Rattle.std.specs.Prelude.{◌≡◌, All, IfOk, length, map};
 ghost use Rattle.ba_kernel.specs.Courses.{ProblemFits};
-ghost use Rattle.ba_kernel.specs.Effects.{EntryLeads, RuleLeads, ViewLeads, rows_at};
-ghost use Rattle.ba_kernel.specs.Tests.{EntryPasses, IsTidy, RulePasses, ViewPasses};
-ghost use Rattle.ba_kernel.specs.Tidy.{AreNext, FactsAreThere, HasTerm, IsPartFor};
+ghost use Rattle.ba_kernel.specs.Effects.{AreNext, rows_at};
+ghost use Rattle.ba_kernel.specs.Steps.{EntryLeads, EntryPasses, RuleLeads, RulePasses, ViewLeads, ViewPasses};
+ghost use Rattle.ba_kernel.specs.Tests.{IsTidy};
+ghost use Rattle.ba_kernel.specs.Tidy.{FactsAreThere, HasTerm, IsPartFor};
 
 use crate::cases::build::part_cases;
 use crate::cases::rounds::{entry_round, next_round};
@@ -92,7 +93,8 @@ fn next_cases(
     requires there { FactsAreThere branch }
     requires terms { All (HasTerm (rows_at branch facts.now)) part.now.head }
     requires fits { All (IsPartFor problem.now.policy.schema (length part.now.head)) parts.now }
-    ensures { IfOk result (λ cases. AreNext problem.now.policy.schema branch side part.now facts.now parts.now cases.items) }
+    ensures { IfOk result (λ cases.
+        AreNext problem.now.policy.schema branch side part.now facts.now parts.now cases.items) }
 {
     let operands = part.head.as_slice();
     let terms = operand_row(alloc, &branch, facts, operands)?;

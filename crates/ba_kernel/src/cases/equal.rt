@@ -2,9 +2,10 @@
 ghost use Rattle.std.specs.Prelude.{◌≡◌, ◌∷◌, [], IfOk, OnOk, length, map};
 ghost use Rattle.std.specs.List.{zip};
 ghost use Rattle.ba_kernel.specs.Courses.{ProblemFits};
-ghost use Rattle.ba_kernel.specs.Effects.{KeyLeads, LinkLeads, SplitFits, SplitLeads, negation, same_at, with_lessons};
-ghost use Rattle.ba_kernel.specs.Tests.{IsTidy, KeyPasses, LinkPasses};
-ghost use Rattle.ba_kernel.specs.Tidy.{HasColumns, Learns, TermsAreThere, same_pair};
+ghost use Rattle.ba_kernel.specs.Effects.{negation, same_at, same_pair, with_lessons};
+ghost use Rattle.ba_kernel.specs.Steps.{KeyLeads, KeyPasses, LinkLeads, LinkPasses, SplitLeads, SplitPasses};
+ghost use Rattle.ba_kernel.specs.Tests.{IsTidy};
+ghost use Rattle.ba_kernel.specs.Tidy.{HasColumns, Learns, TermsAreThere};
 
 use crate::cases::rounds::round_after;
 use crate::fact::{copy_fact, fact_at};
@@ -45,7 +46,8 @@ fn equate_rows(
     requires wide { length left.now ≡ length right.now }
     requires left { TermsAreThere new.old.known left.now }
     requires right { TermsAreThere new.old.known right.now }
-    ensures { OnOk result (new.new ≡ with_lessons new.old (map same_pair (zip left.now right.now))) }
+    ensures { OnOk result
+        (new.new ≡ with_lessons new.old (map same_pair (zip left.now right.now))) }
 {
     for (i, term) in left.iter().enumerate() {
         let one = term.copy(alloc)?;
@@ -118,7 +120,8 @@ fn equate_columns(
     requires wide { length columns.now ≡ length others.now }
     requires columns { HasColumns left.now columns.now }
     requires others { HasColumns right.now others.now }
-    ensures { OnOk result (Learns (map (same_at left.now right.now) (zip columns.now others.now)) new.old new.new) }
+    ensures { OnOk result
+        (Learns (map (same_at left.now right.now) (zip columns.now others.now)) new.old new.new) }
 {
     for (i, column) in columns.iter().enumerate() {
         let one = left[*column as usize].copy(alloc)?;
@@ -142,7 +145,7 @@ pub fn split_cases(
     branch: Owned<Branch>,
     atom: &TermAtom,
 ) -> Result<Vec<Owned<Branch>>, AllocError>
-    requires { SplitFits branch atom.now }
+    requires { SplitPasses branch atom.now }
     ensures { IfOk result (λ cases. SplitLeads branch atom.now cases.items) }
 {
     let mut second = branch.owned_copy(alloc)?;
@@ -169,7 +172,8 @@ fn negation(alloc: Global, atom: &TermAtom) -> Result<TermAtom, AllocError>
 
 /// The comparison that is true where the atom isn't, and its sides.
 fn negated(atom: &TermAtom) -> (Op, &Term, &Term)
-    ensures { negation atom.now ≡ record { op = result.0; left = result.1.now; right = result.2.now } }
+    ensures { negation atom.now
+        ≡ record { op = result.0; left = result.1.now; right = result.2.now } }
 {
     let TermAtom { op, left, right } = atom;
     match op {

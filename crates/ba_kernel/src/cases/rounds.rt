@@ -48,7 +48,8 @@ fn greater(a: u32, b: u32) -> u32
 }
 
 fn fact_round(branch: &Branch, number: u32) -> u32
-    ensures { result ≡ unwrap_or (option_map (λ fact. fact.round) (slice_get branch.now.facts number)) 0 }
+    ensures { result
+        ≡ unwrap_or (option_map (λ fact. fact.round) (slice_get branch.now.facts number)) 0 }
 {
     match branch.facts.find(number as usize) {
         Some(fact) => fact.round,

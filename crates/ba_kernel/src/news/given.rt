@@ -2,7 +2,7 @@
 ghost use Rattle.std.specs.Prelude.{◌↔◌, All, IsTrue};
 ghost use Rattle.ba_facts.specs.Matches.{row_of};
 ghost use Rattle.ba_kernel.specs.Courses.{ProblemFits};
-ghost use Rattle.ba_kernel.specs.News.{EntryIsMet, IsGiven, RuleIsMet, ViewIsMet};
+ghost use Rattle.ba_kernel.specs.Steps.{EntryIsMet, IsGiven, RuleIsMet, ViewIsMet};
 ghost use Rattle.ba_model.specs.Fit.{PartWithin};
 
 use crate::passes::mapping::side_of;
@@ -22,8 +22,8 @@ pub fn entry_is_met(problem: &Problem, branch: &Branch, entry: u64) -> bool
     is_given(branch, Side::One, parts, it.row.as_slice(), &[])
 }
 
-/// Whether the row that the facts give of the rule's left part is given, on their side, of its right
-/// query.
+/// Whether the row that the facts give of the rule's left part is given, on their side, of its
+/// right query.
 pub fn rule_is_met(problem: &Problem, branch: &Branch, rule: u32, part: u32, facts: &[u32]) -> bool
     requires { ProblemFits problem.now }
     ensures { IsTrue result ↔ RuleIsMet problem.now branch.now rule part facts.now }
@@ -66,7 +66,8 @@ fn is_given(
     facts: &[u32],
 ) -> bool
     requires { All PartWithin parts.now }
-    ensures { IsTrue result ↔ IsGiven branch.now side (row_of branch.now facts.now operands.now) parts.now }
+    ensures { IsTrue result
+        ↔ IsGiven branch.now side (row_of branch.now facts.now operands.now) parts.now }
 {
     for part in parts {
         if branch.is_answered(part, side, operands, facts) {

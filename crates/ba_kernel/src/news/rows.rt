@@ -4,8 +4,8 @@ ghost use Rattle.std.specs.List.{AllZip, zip};
 ghost use Rattle.ba_facts.specs.Laid.{IsLaid};
 ghost use Rattle.ba_facts.specs.Shown.{TheSame};
 ghost use Rattle.ba_kernel.specs.NewParts.{IsTargetOf};
-ghost use Rattle.ba_kernel.specs.News.{AreEqualIn, KeyIsMet, LinkIsMet};
-ghost use Rattle.ba_kernel.specs.Targets.{AreTheSameIfAny, HasTargetWith, HaveTargetsIfAny, IsTargetAt};
+ghost use Rattle.ba_kernel.specs.Steps.{AreEqualIn, KeyIsMet, LinkIsMet};
+ghost use Rattle.ba_kernel.specs.Targets.{AreUnknownsOfIfAny, HasTargetWith, HaveTargetsIfAny, IsTargetAt};
 
 use crate::passes::row::link_of;
 use crate::problem::Problem;
@@ -89,7 +89,7 @@ fn sought(branch: &Branch, fact: &Fact, link: &Link) -> Option<Vec<u32>>
 
 /// The unknowns that the term is the same as, where they can be told.
 fn sought_by(branch: &Branch, term: &Term) -> Option<Vec<u32>>
-    ensures { AreTheSameIfAny branch.now.known term.now (option_map (λ it. it.items) result) }
+    ensures { AreUnknownsOfIfAny branch.now.known term.now (option_map (λ it. it.items) result) }
 {
     if !branch.known.is_only_class(term.by_ref()) {
         return None;
@@ -131,8 +131,8 @@ fn has_target_among(branch: &Branch, fact: &Fact, link: &Link) -> bool
         .any(|other| is_target_of(branch, fact, link, other))
 }
 
-/// Whether the other fact is of the link's target table on the fact's side, and is shown equal to it
-/// in the link's columns.
+/// Whether the other fact is of the link's target table on the fact's side, and is shown equal to
+/// it in the link's columns.
 fn is_target_of(branch: &Branch, fact: &Fact, link: &Link, other: &Fact) -> bool
     ensures { IsTrue result ↔ IsTargetOf branch.now fact.now link.now other.now }
 {
@@ -155,7 +155,8 @@ fn are_equal_in(
     columns: &[u32],
     others: &[u32],
 ) -> bool
-    ensures { IsTrue result ↔ All (AreEqualIn branch.now left.now right.now) (zip columns.now others.now) }
+    ensures { IsTrue result
+        ↔ All (AreEqualIn branch.now left.now right.now) (zip columns.now others.now) }
 {
     let mut pairs = columns.iter().zip(others);
     pairs.all(|(one, two)| is_equal_in(branch, left, right, *one, *two))

@@ -4,7 +4,7 @@ ghost use Rattle.std.specs.Option.{option_copied};
 ghost use Rattle.ba_facts.specs.Matches.{LeastRound};
 ghost use Rattle.ba_kernel.specs.Courses.{ProblemFits};
 ghost use Rattle.ba_kernel.specs.NewParts.{IsAtomOfParts, IsAtomOfRules, IsAtomOfSides, IsAtomOfViews, IsToldSplit, IsWithin, MayTell, least_of};
-ghost use Rattle.ba_kernel.specs.News.{IsCandidate, IsOfNewKind};
+ghost use Rattle.ba_kernel.specs.Steps.{IsCandidate, IsOfNewKind};
 ghost use Rattle.ba_model.specs.Fit.{PartWithin};
 
 use crate::passes::split::neither_null;
@@ -35,7 +35,8 @@ fn may_tell(branch: &Branch, atom: &TermAtom) -> bool
 }
 
 fn is_of_new_kind(branch: &Branch, atom: &TermAtom) -> bool
-    ensures { IsTrue result ↔ IsOfNewKind branch.now.known atom.now.op atom.now.left atom.now.right }
+    ensures { IsTrue result
+        ↔ IsOfNewKind branch.now.known atom.now.op atom.now.left atom.now.right }
 {
     match atom.op {
         Op::Eq => false,
@@ -101,7 +102,8 @@ fn parts_round(
     atom: &TermAtom,
 ) -> Option<u32>
     requires { All PartWithin parts.now }
-    ensures { LeastRound branch.now (IsAtomOfParts branch.now side parts.now (option_copied row.entry) atom.now) result }
+    ensures { LeastRound branch.now
+        (IsAtomOfParts branch.now side parts.now (option_copied row.entry) atom.now) result }
 {
     let mut least = None;
     for part in parts {

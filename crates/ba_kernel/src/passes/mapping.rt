@@ -1,9 +1,9 @@
 //! Whether facts are a part's.
 ghost use Rattle.std.specs.Prelude.{◌↔◌, IsTrue, MatchOption};
 ghost use Rattle.ba_kernel.specs.Effects.{rows_at};
+ghost use Rattle.ba_kernel.specs.Steps.{FactsPass, FactsRefuse, FirstWithout, SomeSide};
+ghost use Rattle.ba_kernel.specs.Tests.{Tested};
 ghost use Rattle.ba_facts.specs.Matches.{IsFactOf, IsMapping, IsShown};
-ghost use Rattle.ba_kernel.specs.Refusals.{FactsRefuse, SomeSide};
-ghost use Rattle.ba_kernel.specs.Tests.{FactsPass, FirstWithout, Tested};
 
 use crate::step::StepFault;
 use ba_facts::{Branch, Side};
@@ -11,7 +11,8 @@ use ba_model::Part;
 
 /// Whether the facts are the part's on the side and show each of its atoms.
 pub fn test_facts(branch: &Branch, side: Side, part: &Part, facts: &[u32]) -> Result<(), StepFault>
-    ensures { Tested (FactsPass branch.now side part.now facts.now) (FactsRefuse branch.now side part.now facts.now) result }
+    ensures { Tested (FactsPass branch.now side part.now facts.now)
+        (FactsRefuse branch.now side part.now facts.now) result }
 {
     if !is_mapping(branch, side, part.from.as_slice(), facts) {
         return Err(StepFault::BadFact);
@@ -24,14 +25,16 @@ pub fn test_facts(branch: &Branch, side: Side, part: &Part, facts: &[u32]) -> Re
 
 /// The first atom of the part that isn't shown of the facts' terms, by its number.
 pub fn first_hidden(branch: &Branch, part: &Part, facts: &[u32]) -> Option<usize>
-    ensures { FirstWithout (IsShown branch.now.known (rows_at branch.now facts.now)) part.now.conds result }
+    ensures { FirstWithout (IsShown branch.now.known (rows_at branch.now facts.now))
+        part.now.conds result }
 {
     branch.undecided(part, facts)
 }
 
 /// The side on which the facts are the part's. Both are for a part without tables: then it is One.
 pub fn side_of(branch: &Branch, part: &Part, facts: &[u32]) -> Option<Side>
-    ensures { MatchOption result (¬ (SomeSide branch.now part.now facts.now)) (λ side. IsMapping branch.now side part.now.from facts.now) }
+    ensures { MatchOption result (¬ (SomeSide branch.now part.now facts.now))
+        (λ side. IsMapping branch.now side part.now.from facts.now) }
 {
     if is_mapping(branch, Side::One, part.from.as_slice(), facts) {
         Some(Side::One)

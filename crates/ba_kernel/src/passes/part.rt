@@ -1,7 +1,7 @@
 //! The tests of steps by a rule, a view or the question, on the facts of one of its parts.
 ghost use Rattle.std.specs.Prelude.{MatchOption};
-ghost use Rattle.ba_kernel.specs.Refusals.{GoalRefuses, IsRulePart, IsViewPart, RuleRefuses, SomeRulePart, SomeViewPart, ViewRefuses};
-ghost use Rattle.ba_kernel.specs.Tests.{GoalPasses, IsTidy, RulePasses, Tested, ViewPasses};
+ghost use Rattle.ba_kernel.specs.Steps.{GoalPasses, GoalRefuses, IsRulePart, IsViewPart, RulePasses, RuleRefuses, SomeRulePart, SomeViewPart, ViewPasses, ViewRefuses};
+ghost use Rattle.ba_kernel.specs.Tests.{IsTidy, Tested};
 
 use crate::passes::head::first_different;
 use crate::passes::mapping::{first_hidden, side_of, test_facts};
@@ -18,7 +18,8 @@ pub fn test_rule(
     part: u32,
     facts: &[u32],
 ) -> Result<(), StepFault>
-    ensures { Tested (RulePasses problem.now branch.now rule part facts.now) (RuleRefuses problem.now branch.now rule part facts.now) result }
+    ensures { Tested (RulePasses problem.now branch.now rule part facts.now)
+        (RuleRefuses problem.now branch.now rule part facts.now) result }
 {
     let Some(it) = rule_part(problem, rule, part) else {
         return Err(StepFault::BadRule);
@@ -40,7 +41,8 @@ pub fn test_view(
     part: u32,
     facts: &[u32],
 ) -> Result<(), StepFault>
-    ensures { Tested (ViewPasses problem.now branch.now view part facts.now) (ViewRefuses problem.now branch.now view part facts.now) result }
+    ensures { Tested (ViewPasses problem.now branch.now view part facts.now)
+        (ViewRefuses problem.now branch.now view part facts.now) result }
 {
     let Some(it) = view_part(problem, view, part) else {
         return Err(StepFault::BadRule);
@@ -57,7 +59,8 @@ pub fn test_goal(
     facts: &[u32],
 ) -> Result<(), StepFault>
     requires { IsTidy problem.now branch.now }
-    ensures { Tested (GoalPasses problem.now branch.now part facts.now) (GoalRefuses problem.now branch.now part facts.now) result }
+    ensures { Tested (GoalPasses problem.now branch.now part facts.now)
+        (GoalRefuses problem.now branch.now part facts.now) result }
 {
     let Some(it) = problem.goal_part(part) else {
         return Err(StepFault::BadRule);
@@ -71,7 +74,8 @@ pub fn test_goal(
 
 /// The part of the number of the rule's left query.
 fn rule_part(problem: &Problem, rule: u32, part: u32) -> Option<&Part>
-    ensures { MatchOption result (¬ (SomeRulePart problem.now rule part)) (λ it. IsRulePart problem.now rule part it.now) }
+    ensures { MatchOption result (¬ (SomeRulePart problem.now rule part))
+        (λ it. IsRulePart problem.now rule part it.now) }
 {
     match problem.rule(rule) {
         Some(of) => of.left.parts.find(part as usize),
@@ -81,7 +85,8 @@ fn rule_part(problem: &Problem, rule: u32, part: u32) -> Option<&Part>
 
 /// The part of the number of the view.
 fn view_part(problem: &Problem, view: u32, part: u32) -> Option<&Part>
-    ensures { MatchOption result (¬ (SomeViewPart problem.now view part)) (λ it. IsViewPart problem.now view part it.now) }
+    ensures { MatchOption result (¬ (SomeViewPart problem.now view part))
+        (λ it. IsViewPart problem.now view part it.now) }
 {
     match problem.view(view) {
         Some(of) => of.query.parts.find(part as usize),

@@ -1,8 +1,7 @@
 //! The tests of steps by a key or a link, on the rows that they name.
 ghost use Rattle.std.specs.Prelude.{◌↔◌, IsTrue, MatchOption};
-ghost use Rattle.ba_kernel.specs.Effects.{AreEqualAt, ArePair, IsKeyOf, IsLinkOf, IsNotNullAt};
-ghost use Rattle.ba_kernel.specs.Refusals.{KeyRefuses, LinkRefuses, SomeKey, SomeLink, SomePair};
-ghost use Rattle.ba_kernel.specs.Tests.{FirstWithout, KeyPasses, LinkPasses, Tested};
+ghost use Rattle.ba_kernel.specs.Steps.{AreEqualAt, ArePair, FirstWithout, IsKeyOf, IsLinkOf, IsNotNullAt, KeyPasses, KeyRefuses, LinkPasses, LinkRefuses, SomeKey, SomeLink, SomePair};
+ghost use Rattle.ba_kernel.specs.Tests.{Tested};
 
 use crate::fact::find_fact;
 use crate::problem::Problem;
@@ -18,7 +17,8 @@ pub fn test_key(
     left: u32,
     right: u32,
 ) -> Result<(), StepFault>
-    ensures { Tested (KeyPasses problem.now.policy.schema branch.now key left right) (KeyRefuses problem.now branch.now key left right) result }
+    ensures { Tested (KeyPasses problem.now.policy.schema branch.now key left right)
+        (KeyRefuses problem.now branch.now key left right) result }
 {
     let Some((f, g)) = pair_of(branch, left, right) else {
         return Err(StepFault::BadFact);
@@ -39,7 +39,8 @@ pub fn test_key(
 
 /// Whether the columns of a link of the fact's table are shown not null.
 pub fn test_link(problem: &Problem, branch: &Branch, link: u32, fact: u32) -> Result<(), StepFault>
-    ensures { Tested (LinkPasses problem.now.policy.schema branch.now link fact) (LinkRefuses problem.now branch.now link fact) result }
+    ensures { Tested (LinkPasses problem.now.policy.schema branch.now link fact)
+        (LinkRefuses problem.now branch.now link fact) result }
 {
     let Some(f) = find_fact(branch, fact as usize) else {
         return Err(StepFault::BadFact);
@@ -55,7 +56,8 @@ pub fn test_link(problem: &Problem, branch: &Branch, link: u32, fact: u32) -> Re
 
 /// The facts of the two numbers, if they are of one side and table.
 fn pair_of(branch: &Branch, left: u32, right: u32) -> Option<(&Fact, &Fact)>
-    ensures { MatchOption result (¬ (SomePair branch.now left right)) (λ two. ArePair branch.now left right two.0.now two.1.now) }
+    ensures { MatchOption result (¬ (SomePair branch.now left right))
+        (λ two. ArePair branch.now left right two.0.now two.1.now) }
 {
     let f = branch.facts.find(left as usize)?;
     let g = branch.facts.find(right as usize)?;
@@ -68,7 +70,8 @@ fn pair_of(branch: &Branch, left: u32, right: u32) -> Option<(&Fact, &Fact)>
 
 /// The key of the number of the fact's table.
 fn key_of<'a>(problem: &'a Problem, fact: &Fact, key: u32) -> Option<&'a List<u32>>
-    ensures { MatchOption result (¬ (SomeKey problem.now fact.now key)) (λ columns. IsKeyOf problem.now.policy.schema fact.now key columns.now) }
+    ensures { MatchOption result (¬ (SomeKey problem.now fact.now key))
+        (λ columns. IsKeyOf problem.now.policy.schema fact.now key columns.now) }
 {
     match problem.table(fact.table) {
         Some(table) => table.keys.find(key as usize),
@@ -78,7 +81,8 @@ fn key_of<'a>(problem: &'a Problem, fact: &Fact, key: u32) -> Option<&'a List<u3
 
 /// The link of the number of the fact's table.
 pub fn link_of<'a>(problem: &'a Problem, fact: &Fact, link: u32) -> Option<&'a Link>
-    ensures { MatchOption result (¬ (SomeLink problem.now fact.now link)) (λ it. IsLinkOf problem.now.policy.schema fact.now link it.now) }
+    ensures { MatchOption result (¬ (SomeLink problem.now fact.now link))
+        (λ it. IsLinkOf problem.now.policy.schema fact.now link it.now) }
 {
     match problem.table(fact.table) {
         Some(table) => table.links.find(link as usize),

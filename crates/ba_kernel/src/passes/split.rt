@@ -1,11 +1,10 @@
 //! The test of a step that splits a branch by an atom.
 ghost use Rattle.std.specs.Prelude.{◌≡◌, ◌↔◌, IsTrue, MatchOption, option_map, slice_get};
-ghost use Rattle.ba_kernel.specs.Effects.{MayBeSplit, SplitFits};
+ghost use Rattle.ba_kernel.specs.Steps.{AreOfKind, MayBeSplit, SidesAreThere, SomeKind, SplitPasses, SplitRefuses};
+ghost use Rattle.ba_kernel.specs.Tests.{Tested};
 ghost use Rattle.ba_facts.specs.Knowing.{IsThere};
 ghost use Rattle.ba_facts.specs.Laws.{TermOpFits, kind_of_term};
-ghost use Rattle.ba_kernel.specs.Refusals.{SidesAreThere, SplitRefuses};
 ghost use Rattle.ba_facts.specs.Shown.{NeitherNull};
-ghost use Rattle.ba_kernel.specs.Tests.{AreOfKind, SomeKind, Tested};
 
 use crate::step::StepFault;
 use ba_facts::{Branch, Term, TermAtom};
@@ -13,7 +12,7 @@ use ba_model::{Kind, Op, Same, Value};
 
 /// Whether the atom may be split.
 pub fn test_split(branch: &Branch, atom: &TermAtom) -> Result<(), StepFault>
-    ensures { Tested (SplitFits branch.now atom.now) (SplitRefuses branch.now atom.now) result }
+    ensures { Tested (SplitPasses branch.now atom.now) (SplitRefuses branch.now atom.now) result }
 {
     if !sides_are_there(branch, atom) {
         return Err(StepFault::BadFact);
@@ -45,7 +44,7 @@ fn is_there(branch: &Branch, term: &Term) -> bool
 
 /// Whether the sides are of one kind that the comparison is of, and it may be split.
 fn split_fits(branch: &Branch, atom: &TermAtom) -> bool
-    ensures { IsTrue result ↔ SplitFits branch.now atom.now }
+    ensures { IsTrue result ↔ SplitPasses branch.now atom.now }
 {
     match kind_of_sides(branch, atom) {
         Some(kind) => op_fits(atom.op, kind) && may_be_split(branch, atom),
@@ -55,7 +54,8 @@ fn split_fits(branch: &Branch, atom: &TermAtom) -> bool
 
 /// The kind of both sides, if they have one.
 fn kind_of_sides(branch: &Branch, atom: &TermAtom) -> Option<Kind>
-    ensures { MatchOption result (¬ (SomeKind branch.now atom.now)) (AreOfKind branch.now atom.now) }
+    ensures { MatchOption result (¬ (SomeKind branch.now atom.now))
+        (AreOfKind branch.now atom.now) }
 {
     let left = kind_of_term(branch, &atom.left)?;
     let right = kind_of_term(branch, &atom.right)?;

@@ -2,7 +2,8 @@ use Rattle.std.proofs.Common.{[], length, subst, sym}
 use Rattle.std.proofs.lemmas.Result.{IfOk-weaker}
 use Rattle.std.specs.List.{All, AllZip}
 use Rattle.ba_kernel.proofs.BuildNext.{entry_leads, entry_parts, entry_terms, head_gives, ready_as, tidy_there}
-use Rattle.ba_kernel.specs.Effects.{EntryLeads, IsCase}
+use Rattle.ba_kernel.specs.Effects.{IsCase}
+use Rattle.ba_kernel.specs.Steps.{EntryLeads}
 use Rattle.ba_kernel.specs.Tidy.{HasTerm, IsPartFor}
 use Rattle.ba_facts.specs.declared.term.Side.TheVariants.{One}
 use Rattle.ba_kernel.proofs.cases.entry.entry_cases.Goals as goal

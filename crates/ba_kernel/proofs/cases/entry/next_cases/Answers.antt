@@ -4,8 +4,7 @@ use Rattle.ba_facts.specs.Matches.{round_of, row_of}
 use Rattle.ba_facts.specs.declared.branch.Branch.{Branch}
 use Rattle.std.proofs.lemmas.Result.{IfOk-weaker}
 use Rattle.ba_kernel.proofs.BuildNext.{fits_row, head_gives, next_is, ready_as}
-use Rattle.ba_kernel.specs.Effects.{IsCase}
-use Rattle.ba_kernel.specs.Tidy.{AreNext}
+use Rattle.ba_kernel.specs.Effects.{AreNext, IsCase}
 use Rattle.ba_kernel.proofs.cases.entry.next_cases.Goals as goal
 
 pub part_cases-requires-clause-ready : goal.part_cases-requires-clause-ready

@@ -3,8 +3,9 @@ use Rattle.std.proofs.lemmas.Result.{IfOk-weaker}
 use Rattle.std.specs.List.{All, slice_get}
 use Rattle.ba_facts.specs.declared.branch.Branch.{Branch}
 use Rattle.ba_kernel.proofs.BuildSteps.{rule_first, rule_leads, rule_parts, rule_some, rule_terms}
-use Rattle.ba_kernel.specs.Effects.{RuleLeads}
-use Rattle.ba_kernel.specs.Tidy.{AreNext, IsPartFor}
+use Rattle.ba_kernel.specs.Effects.{AreNext}
+use Rattle.ba_kernel.specs.Steps.{RuleLeads}
+use Rattle.ba_kernel.specs.Tidy.{IsPartFor}
 use Rattle.ba_kernel.proofs.cases.entry.rule_cases.Goals as goal
 
 pub bounds-facts-0 : goal.bounds-facts-0

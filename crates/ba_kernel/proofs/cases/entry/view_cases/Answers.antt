@@ -2,8 +2,9 @@ use Rattle.std.proofs.Common.{length, subst, sym}
 use Rattle.std.proofs.lemmas.Result.{IfOk-weaker}
 use Rattle.std.specs.List.{All}
 use Rattle.ba_kernel.proofs.BuildNext.{view_leads, view_parts, view_terms}
-use Rattle.ba_kernel.specs.Effects.{ViewLeads}
-use Rattle.ba_kernel.specs.Tidy.{AreNext, IsPartFor}
+use Rattle.ba_kernel.specs.Effects.{AreNext}
+use Rattle.ba_kernel.specs.Steps.{ViewLeads}
+use Rattle.ba_kernel.specs.Tidy.{IsPartFor}
 use Rattle.ba_facts.specs.declared.term.Side.TheVariants.{Two}
 use Rattle.ba_kernel.proofs.cases.entry.view_cases.Goals as goal
 

@@ -3,9 +3,8 @@ use Rattle.std.specs.List.{zip}
 use Rattle.std.proofs.lemmas.List.{take_all}
 use Rattle.ba_kernel.proofs.ZipLemmas.{pair_at, pair_below, zip_short}
 use Rattle.ba_kernel.proofs.BuildSteps.{pairs_more}
-use Rattle.ba_kernel.specs.Effects.{with_lessons}
+use Rattle.ba_kernel.specs.Effects.{same_pair, with_lessons}
 use Rattle.ba_facts.specs.Laws.{with_lesson}
-use Rattle.ba_kernel.specs.Tidy.{same_pair}
 use Rattle.ba_facts.specs.declared.term.Lesson.TheVariants.{Same}
 use Rattle.ba_kernel.proofs.cases.equal.equate_rows.Goals as goal
 

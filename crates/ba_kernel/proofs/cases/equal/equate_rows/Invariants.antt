@@ -1,7 +1,6 @@
 use Rattle.std.proofs.Common.{◌≡◌, map, take}
 use Rattle.std.specs.List.{zip}
-use Rattle.ba_kernel.specs.Effects.{with_lessons}
-use Rattle.ba_kernel.specs.Tidy.{same_pair}
+use Rattle.ba_kernel.specs.Effects.{same_pair, with_lessons}
 use Rattle.ba_kernel.proofs.cases.equal.equate_rows.Given as goal
 
 -- the pairs so far were made the same

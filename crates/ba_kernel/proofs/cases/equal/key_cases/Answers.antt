@@ -3,7 +3,7 @@ use Rattle.std.proofs.Common.{◌≡◌, ◌∷◌, [], Some, subst}
 use Rattle.std.specs.List.{slice_get}
 use Rattle.ba_facts.specs.declared.branch.Branch.{Branch}
 use Rattle.ba_kernel.proofs.BuildSteps.{fact_terms, key_leads, key_wide}
-use Rattle.ba_kernel.specs.Effects.{KeyLeads}
+use Rattle.ba_kernel.specs.Steps.{KeyLeads}
 use Rattle.ba_kernel.proofs.cases.equal.key_cases.Goals as goal
 
 pub equate_rows-requires-clause-wide : goal.equate_rows-requires-clause-wide

@@ -1,7 +1,7 @@
 use Rattle.std.proofs.Common.{◌≡◌, ◌∷◌, [], subst, sym}
 use Rattle.std.proofs.lemmas.Result.{IfOk-weaker}
 use Rattle.ba_facts.specs.declared.branch.Branch.{Branch}
-use Rattle.ba_kernel.specs.Effects.{LinkLeads}
+use Rattle.ba_kernel.specs.Steps.{LinkLeads}
 use Rattle.ba_kernel.proofs.cases.equal.link_cases.Goals as goal
 
 pub returns : goal.returns

@@ -2,7 +2,7 @@ use Rattle.std.proofs.Common.{rules}
 use Rattle.std.proofs.lemmas.Iterator.{YieldsList-from_slice, YieldsList-from_zip, cases_from_all}
 use Rattle.std.specs.List.{zip}
 use Rattle.ba_kernel.proofs.NewLemmas.{all_found}
-use Rattle.ba_kernel.specs.News.{AreEqualIn}
+use Rattle.ba_kernel.specs.Steps.{AreEqualIn}
 use Rattle.ba_kernel.proofs.news.rows.are_equal_in.Goals as goal
 
 pub returns : goal.returns

@@ -1,6 +1,6 @@
 use Rattle.std.proofs.Common.{sym}
 use Rattle.std.proofs.lemmas.Result.{err_from_is_err_and}
-use Rattle.ba_kernel.specs.Refusals.{GoalRefuses}
+use Rattle.ba_kernel.specs.Steps.{GoalRefuses}
 use Rattle.ba_kernel.proofs.PassLemmas.{goal_differs, goal_wide}
 use Rattle.ba_kernel.proofs.passes.part.test_goal.Goals as goal
 

@@ -1,4 +1,4 @@
-use Rattle.ba_kernel.specs.Refusals.{RuleRefuses}
+use Rattle.ba_kernel.specs.Steps.{RuleRefuses}
 use Rattle.ba_kernel.proofs.passes.part.test_rule.Goals as goal
 
 pub returns-in_default : goal.returns-in_default

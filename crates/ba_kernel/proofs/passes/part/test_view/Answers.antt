@@ -1,4 +1,4 @@
-use Rattle.ba_kernel.specs.Refusals.{ViewRefuses}
+use Rattle.ba_kernel.specs.Steps.{ViewRefuses}
 use Rattle.ba_kernel.proofs.PassLemmas.{tested_as}
 use Rattle.ba_kernel.proofs.passes.part.test_view.Goals as goal
 

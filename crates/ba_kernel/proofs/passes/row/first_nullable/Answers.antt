@@ -1,6 +1,6 @@
 use Rattle.ba_kernel.proofs.PassLemmas.{number_first, number_more}
 use Rattle.ba_facts.proofs.PlaceLemmas.{all_places}
-use Rattle.ba_kernel.specs.Effects.{IsNotNullAt}
+use Rattle.ba_kernel.specs.Steps.{IsNotNullAt}
 use Rattle.ba_kernel.proofs.passes.row.first_nullable.Goals as goal
 
 pub returns-then-not-is_not_null_at : goal.returns-then-not-is_not_null_at

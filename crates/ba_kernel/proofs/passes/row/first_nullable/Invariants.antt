@@ -1,5 +1,5 @@
 use Rattle.std.proofs.Common.{◌≡◌, ℕ, ◌<◌, Some, slice_get}
-use Rattle.ba_kernel.specs.Effects.{IsNotNullAt}
+use Rattle.ba_kernel.specs.Steps.{IsNotNullAt}
 use Rattle.ba_kernel.proofs.passes.row.first_nullable.Given as goal
 
 -- the row is shown not null in each column so far

@@ -1,6 +1,6 @@
 use Rattle.ba_kernel.proofs.PassLemmas.{number_first, number_more}
 use Rattle.ba_facts.proofs.PlaceLemmas.{all_places}
-use Rattle.ba_kernel.specs.Effects.{AreEqualAt}
+use Rattle.ba_kernel.specs.Steps.{AreEqualAt}
 use Rattle.ba_kernel.proofs.passes.row.first_unequal.Goals as goal
 
 pub returns-then-not-are_equal_at : goal.returns-then-not-are_equal_at

@@ -1,5 +1,5 @@
 use Rattle.std.proofs.Common.{◌≡◌, ℕ, ◌<◌, Some, slice_get}
-use Rattle.ba_kernel.specs.Effects.{AreEqualAt}
+use Rattle.ba_kernel.specs.Steps.{AreEqualAt}
 use Rattle.ba_kernel.proofs.passes.row.first_unequal.Given as goal
 
 -- the rows are shown equal in each column so far

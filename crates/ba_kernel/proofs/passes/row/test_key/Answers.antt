@@ -1,5 +1,5 @@
 use Rattle.ba_kernel.proofs.PassLemmas.{key_hidden}
-use Rattle.ba_kernel.specs.Refusals.{KeyRefuses}
+use Rattle.ba_kernel.specs.Steps.{KeyRefuses}
 use Rattle.ba_kernel.proofs.passes.row.test_key.Goals as goal
 
 pub returns-in_default : goal.returns-in_default

@@ -1,6 +1,6 @@
 use Rattle.std.proofs.Common.{sym}
 use Rattle.ba_kernel.proofs.PassLemmas.{link_hidden}
-use Rattle.ba_kernel.specs.Refusals.{LinkRefuses}
+use Rattle.ba_kernel.specs.Steps.{LinkRefuses}
 use Rattle.ba_kernel.proofs.passes.row.test_link.Goals as goal
 
 pub returns-in_default : goal.returns-in_default

@@ -1,4 +1,4 @@
-use Rattle.ba_kernel.specs.Refusals.{SplitRefuses}
+use Rattle.ba_kernel.specs.Steps.{SplitRefuses}
 use Rattle.ba_kernel.proofs.passes.split.test_split.Goals as goal
 
 pub returns-then-not-sides_are_there : goal.returns-then-not-sides_are_there
