@@ -15,7 +15,8 @@ use Rattle.ba_facts.specs.declared.term.Side.TheVariants.{One, Two}
 use Rattle.ba_facts.specs.declared.term.Term.{Term}
 use Rattle.ba_kernel.proofs.CaseFactLemmas.{zip_append}
 use Rattle.ba_kernel.specs.Courses.{IsOpen, IsStartOf, Runs, Slots, Takes, after, branch_of, nothing_known}
-use Rattle.ba_kernel.specs.Effects.{IsCase, Leads, with_fact, with_facts, with_lessons}
+use Rattle.ba_kernel.specs.Effects.{IsCase, with_fact, with_facts, with_lessons}
+use Rattle.ba_kernel.specs.Steps.{Leads}
 use Rattle.ba_kernel.specs.declared.problem.Problem.{Problem}
 use Rattle.ba_kernel.specs.declared.step.Step.{Step}
 use Rattle.ba_kernel.specs.declared.step.Step.TheVariants as steps

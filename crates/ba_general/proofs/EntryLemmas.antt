@@ -4,7 +4,7 @@ use Rattle.std.proofs.lemmas.List.Elements.{Contains-append_cases, Contains-get_
 use Rattle.std.proofs.lemmas.Option.{slice_get_within}
 use Rattle.ba_model.proofs.ElementLemmas.{Contains-cases, Contains-nil}
 use Rattle.ba_kernel.specs.Courses.{Runs, Slots, Takes}
-use Rattle.ba_kernel.specs.Effects.{EntryLeads, Leads}
+use Rattle.ba_kernel.specs.Steps.{EntryLeads, Leads}
 use Rattle.ba_kernel.specs.Replays.{Closes}
 use Rattle.ba_kernel.specs.declared.problem.Problem.{Problem}
 use Rattle.ba_kernel.specs.declared.step.Step.{Step}
@@ -14,7 +14,7 @@ use Rattle.ba_general.specs.Retold.{AreNamed}
 taken_there : (p : Problem) (old new : Slots) (step : Step) (branch entry : ℕ) → Takes p old step new → step ≡ steps.Entry branch entry → entry < length p.entries
 taken_there p old new step branch entry takes same =
     let leads : EntryLeads p takes.branch entry takes.cases = subst (λ (s : Step). Leads p takes.branch s takes.cases) same takes.leads in
-    slice_get_within p.entries entry leads.it leads.there
+    slice_get_within p.entries entry leads.passes.it leads.passes.there
 
 entry_there : (p : Problem) (taken : List Step) (slots : Slots) (branch entry : ℕ) → Runs p taken slots → Contains taken (steps.Entry branch entry) →
     entry < length p.entries

@@ -21,7 +21,7 @@ use Rattle.ba_facts.proofs.NameLemmas.{value_cases}
 use Rattle.ba_facts.specs.Known.{OneClass}
 use Rattle.ba_facts.specs.Knowing.{sort_of}
 use Rattle.ba_facts.specs.Laws.{kind_of_term}
-use Rattle.ba_facts.specs.Matches.{AreTheSame, IsFactOf, IsMapping, IsShown, round_of, term_of, terms_at}
+use Rattle.ba_facts.specs.Matches.{AreTheSame, IsFactOf, IsMapping, IsShown, round_of, row_of, term_of, terms_at}
 use Rattle.ba_facts.specs.Shown.{ShowsOf}
 use Rattle.ba_facts.specs.declared.branch.Branch.{Branch}
 use Rattle.ba_facts.specs.declared.term.Fact.{Fact}
@@ -35,8 +35,10 @@ use Rattle.ba_facts.specs.declared.term.Term.TheVariants as terms
 use Rattle.ba_facts.specs.declared.term.TermAtom.{TermAtom}
 use Rattle.ba_kernel.proofs.CaseFactLemmas.{zip_append, zip_length}
 use Rattle.ba_kernel.specs.Courses.{AllClosed, IsStart, IsStartOf, Runs, Slots, Takes, after, branch_of, nothing_known}
-use Rattle.ba_kernel.specs.Effects.{AreEqualAt, EntryLeads, GoalLeads, IsCase, IsEntryRound, IsLiteralOf, IsNotNullAt, IsSide, KeyLeads, Leads, LinkLeads, MayBeSplit, RuleLeads, SharesLiteral, SplitFits, SplitLeads, ViewLeads, Yields}
-use Rattle.ba_kernel.specs.Effects.{lesson_of, negation, rows_at, same_at, same_of, with_fact, with_facts, with_lessons}
+use Rattle.ba_kernel.specs.Effects.{IsCase, IsEntryRound, IsLiteralOf, IsSide, SharesLiteral, lesson_of, negation, rows_at, same_at, same_of, with_fact}
+use Rattle.ba_kernel.specs.Effects.{with_facts, with_lessons}
+use Rattle.ba_kernel.specs.Steps.{AreEqualAt, EntryLeads, FactsPass, GoalLeads, IsNotNullAt, KeyLeads, Leads, LinkLeads, MayBeSplit, RuleLeads, SplitLeads}
+use Rattle.ba_kernel.specs.Steps.{SplitPasses, ViewLeads}
 use Rattle.ba_kernel.specs.Replays.{Closes}
 use Rattle.ba_kernel.specs.declared.problem.Problem.{Problem}
 use Rattle.ba_kernel.specs.declared.problem.ProblemEntry.{ProblemEntry}
@@ -204,11 +206,10 @@ module _ (values : List Value) (b c : Branch) (h : Grows values b c) where
   kind_stays (terms.Param n) kind e = ap (λ (ks : List Kind). slice_get ks n) h.at.params ∙ e
   kind_stays (terms.Var n) kind e = h.at.vars.of n kind e
 
-  split_stays : (atom : TermAtom) → SplitFits b atom → SplitFits c atom
+  split_stays : (atom : TermAtom) → SplitPasses b atom → SplitPasses c atom
   split_stays atom f = record {
     kind = f.kind;
-    left_is = kind_stays atom.left f.kind f.left_is;
-    right_is = kind_stays atom.right f.kind f.right_is;
+    sides = record { left = kind_stays atom.left f.kind f.sides.left; right = kind_stays atom.right f.kind f.sides.right };
     op = f.op;
     may = may_stay atom.op atom.left atom.right f.may;
   }
@@ -275,12 +276,14 @@ module _ (values : List Value) (b c : Branch) (h : Grows values b c) where
       let more = cases_stay s side round other row line xs ys cases at.1 rows are.1 in
       (it.0 ∷ more.0, (it.1, more.1), (it.2, more.2))
 
-  yield_stays : (side : Side) (part : Part) (facts : List ℕ) (row : List Term) → Yields b side part facts row → Yields c side part facts row
-  yield_stays side part facts row y = record {
-    mapping = mapping_stays values b c h.at side part.from facts y.mapping;
-    shown = conds_stay facts part.conds part.conds (part_itself values part).conds y.shown;
-    head = ap (λ (rs : List (List Term)). map (term_of rs) part.head) (rows_stay values b c h.at facts) ∙ y.head;
+  pass_stays : (side : Side) (part : Part) (facts : List ℕ) → FactsPass b side part facts → FactsPass c side part facts
+  pass_stays side part facts pass = record {
+    mapping = mapping_stays values b c h.at side part.from facts pass.mapping;
+    shown = conds_stay facts part.conds part.conds (part_itself values part).conds pass.shown;
   }
+
+  row_gives : (part : Part) (facts : List ℕ) (row : List Term) → row_of b facts part.head ≡ map Some row → row_of c facts part.head ≡ map Some row
+  row_gives part facts row is = ap (λ (rs : List (List Term)). map (term_of rs) part.head) (rows_stay values b c h.at facts) ∙ is
 
   head_stays : (rows : List (List Term)) (x y : Operand) (t u : Term) → OperandAt values x y → TermAt values t u →
       AreTheSame b.known (term_of rows x) (Some t) → AreTheSame c.known (term_of rows y) (Some u)
@@ -415,39 +418,41 @@ module _ (values : List Value) (p : Problem) (vars : List Kind) (assumed : List 
 
     entry_on : (branch n m : ℕ) → EntryNumbers values p g n m → EntryLeads p b n cases → LeadsOn b c (steps.Entry branch m) cases
     entry_on branch n m numbers l =
-        let it = numbers.of l.it l.there in
-        let row = zip_given (OperandAt values) (TermAt values) (term_of []) (term_of []) (operand_term values []) (l.it).row (it.0).row l.row (it.2).row l.row_is in
+        let it = numbers.of l.passes.it l.passes.there in
+        let row = zip_given (OperandAt values) (TermAt values) (term_of []) (term_of []) (operand_term values []) (l.passes.it).row (it.0).row l.row (it.2).row l.row_is in
         let round = round_is g (it.0).row in
-        let its = cases_stay values b c h p.policy.schema One l.round round.0 l.row row.0 (l.it).query.parts (it.0).query.parts cases (it.2).query row.2 l.cases_are in
-        (its.0, record { it = it.0; there = it.1; row = row.0; row_is = row.1; round = round.0; round_is = round.1; cases_are = its.1 }, its.2)
+        let its = cases_stay values b c h p.policy.schema One l.round round.0 l.row row.0 (l.passes.it).query.parts (it.0).query.parts cases (it.2).query row.2 l.cases_are in
+        (its.0, record { passes = record { it = it.0; there = it.1 }; row = row.0; row_is = row.1; round = round.0; round_is = round.1; cases_are = its.1 }, its.2)
 
     key_on : (branch key left right : ℕ) → KeyLeads p b key left right cases → LeadsOn b c (steps.Key branch key left right) cases
     key_on branch key left right l =
-        let f = zip_at FactLike b.facts c.facts left l.f h.at.facts l.pair.left_is in
-        let k = zip_at FactLike b.facts c.facts right l.g h.at.facts l.pair.right_is in
-        let lessons : List Lesson = map (λ two. Same two.0 two.1) (zip (l.f).terms (l.g).terms) in
+        let f = zip_at FactLike b.facts c.facts left l.passes.f h.at.facts l.passes.pair.left_is in
+        let k = zip_at FactLike b.facts c.facts right l.passes.g h.at.facts l.passes.pair.right_is in
+        let lessons : List Lesson = map (λ two. Same two.0 two.1) (zip (l.passes.f).terms (l.passes.g).terms) in
         let its : map (λ (two : Term × Term). Same two.0 two.1) (zip (f.0).terms (k.0).terms) ≡ lessons =
         ap₂ (λ (xs ys : List Term). map (λ (two : Term × Term). Same two.0 two.1) (zip xs ys)) (f.2).terms (k.2).terms in
         let each : EachIs values lessons lessons = each_zip values lessons lessons (zip_itself (LessonAt values) (lesson_itself values) lessons) in
         let grows : AllZip (Grows values) (with_lessons b lessons ∷ []) (with_lessons c lessons ∷ []) = (grown values b c h lessons lessons each, tt) in (
           with_lessons c lessons ∷ [],
           record {
-            f = f.0;
-            g = k.0;
-            pair = record {
-              left_is = f.1;
-              right_is = k.1;
-              side = (k.2).side ∙ (l.pair.side ∙ sym (f.2).side);
-              table = (k.2).table ∙ (l.pair.table ∙ sym (f.2).table);
+            passes = record {
+              f = f.0;
+              g = k.0;
+              pair = record {
+                left_is = f.1;
+                right_is = k.1;
+                side = (k.2).side ∙ (l.passes.pair.side ∙ sym (f.2).side);
+                table = (k.2).table ∙ (l.passes.pair.table ∙ sym (f.2).table);
+              };
+              columns = l.passes.columns;
+              key_of = record {
+                table = l.passes.key_of.table;
+                table_is = ap (λ (n : ℕ). slice_get p.policy.schema.tables n) (f.2).table ∙ l.passes.key_of.table_is;
+                key_is = l.passes.key_of.key_is;
+              };
+              equal = All-weaker (AreEqualAt b (l.passes.f).terms (l.passes.g).terms) (AreEqualAt c (f.0).terms (k.0).terms)
+                  (λ n. equal_stays values b c h (l.passes.f).terms (l.passes.g).terms (f.0).terms (k.0).terms n (f.2).terms (k.2).terms) l.passes.columns l.passes.equal;
             };
-            columns = l.columns;
-            key_of = record {
-              table = l.key_of.table;
-              table_is = ap (λ (n : ℕ). slice_get p.policy.schema.tables n) (f.2).table ∙ l.key_of.table_is;
-              key_is = l.key_of.key_is;
-            };
-            equal = All-weaker (AreEqualAt b (l.f).terms (l.g).terms) (AreEqualAt c (f.0).terms (k.0).terms)
-                (λ n. equal_stays values b c h (l.f).terms (l.g).terms (f.0).terms (k.0).terms n (f.2).terms (k.2).terms) l.columns l.equal;
             cases_are = ap (λ (ls : List Lesson). with_lessons c ls ∷ []) (sym its);
           },
           subst (λ (xs : List Branch). AllZip (Grows values) xs (with_lessons c lessons ∷ [])) (sym l.cases_are) grows,
@@ -456,11 +461,11 @@ module _ (values : List Value) (p : Problem) (vars : List Kind) (assumed : List 
     link_on : (branch link fact : ℕ) → LinkLeads p b link fact cases → LeadsOn b c (steps.Link branch link fact) cases
     link_on branch link fact l =
         let s = p.policy.schema in
-        let f = zip_at FactLike b.facts c.facts fact l.f h.at.facts l.fact_is in
-        let target = (l.it).target in
-        let old = with_fact s (l.f).side (1 + (l.f).round) b target in
-        let mine = with_fact s (l.f).side (1 + (f.0).round) c target in
-        let like : BranchAt values old mine = fact_like values b c h.at s (l.f).side (1 + (l.f).round) (1 + (f.0).round) target in
+        let f = zip_at FactLike b.facts c.facts fact l.passes.f h.at.facts l.passes.fact_is in
+        let target = (l.passes.it).target in
+        let old = with_fact s (l.passes.f).side (1 + (l.passes.f).round) b target in
+        let mine = with_fact s (l.passes.f).side (1 + (f.0).round) c target in
+        let like : BranchAt values old mine = fact_like values b c h.at s (l.passes.f).side (1 + (l.passes.f).round) (1 + (f.0).round) target in
         let ts : terms_at mine (length c.facts) ≡ terms_at old (length b.facts) =
         ap (λ n. terms_at mine n) count ∙ terms_like values old mine like (length b.facts) in
         let sides : terms_at (with_fact s (f.0).side (1 + (f.0).round) c target) (length c.facts) ≡ terms_at old (length b.facts) =
@@ -474,18 +479,20 @@ module _ (values : List Value) (p : Problem) (vars : List Kind) (assumed : List 
         let same : it ≡ with_lessons mine l.lessons = ap (λ (side : Side). with_lessons (with_fact s side (1 + (f.0).round) c target) l.lessons) (f.2).side in (
           it ∷ [],
           record {
-            f = f.0;
-            fact_is = f.1;
-            it = l.it;
-            link_of = record {
-              table = l.link_of.table;
-              table_is = ap (λ (n : ℕ). slice_get s.tables n) (f.2).table ∙ l.link_of.table_is;
-              link_is = l.link_of.link_is;
+            passes = record {
+              f = f.0;
+              fact_is = f.1;
+              it = l.passes.it;
+              link_of = record {
+                table = l.passes.link_of.table;
+                table_is = ap (λ (n : ℕ). slice_get s.tables n) (f.2).table ∙ l.passes.link_of.table_is;
+                link_is = l.passes.link_of.link_is;
+              };
+              not_null = All-weaker (IsNotNullAt b (l.passes.f).terms) (IsNotNullAt c (f.0).terms)
+                  (λ n. not_null_stays values b c h (l.passes.f).terms (f.0).terms n (f.2).terms) (l.passes.it).columns l.passes.not_null;
             };
-            not_null = All-weaker (IsNotNullAt b (l.f).terms) (IsNotNullAt c (f.0).terms)
-                (λ n. not_null_stays values b c h (l.f).terms (f.0).terms n (f.2).terms) (l.it).columns l.not_null;
             lessons = l.lessons;
-            lessons_are = ap₂ (λ (xs ys : List Term). map (same_at xs ys) (zip (l.it).columns (l.it).target_columns)) (f.2).terms sides ∙ l.lessons_are;
+            lessons_are = ap₂ (λ (xs ys : List Term). map (same_at xs ys) (zip (l.passes.it).columns (l.passes.it).target_columns)) (f.2).terms sides ∙ l.lessons_are;
             cases_are = refl;
           },
           subst (λ (xs : List Branch). AllZip (Grows values) xs (it ∷ [])) (sym l.cases_are) (subst (Grows values (with_lessons old l.lessons)) (sym same) grows, tt),
@@ -493,35 +500,30 @@ module _ (values : List Value) (p : Problem) (vars : List Kind) (assumed : List 
 
     rule_on : (branch rule part : ℕ) (facts : List ℕ) → RuleLeads p b rule part facts cases → LeadsOn b c (steps.Rule branch rule part facts) cases
     rule_on branch rule part facts l =
-        let its = cases_stay values b c h p.policy.schema l.side (1 + round_of b facts) (1 + round_of c facts) l.row l.row (l.it).right.parts (l.it).right.parts cases
-        (zip_itself (PartAt values) (part_itself values) (l.it).right.parts) (zip_itself (TermAt values) (term_itself values) l.row) l.cases_are in (
+        let k = l.passes in
+        let parts = (k.is_part.of).right.parts in
+        let row = (l.next).row in
+        let its = cases_stay values b c h p.policy.schema k.side (1 + round_of b facts) (1 + round_of c facts) row row parts parts cases
+        (zip_itself (PartAt values) (part_itself values) parts) (zip_itself (TermAt values) (term_itself values) row) (l.next).cases_are in (
           its.0,
           record {
-            it = l.it;
-            rule_is = l.rule_is;
-            left = l.left;
-            part_is = l.part_is;
-            side = l.side;
-            row = l.row;
-            yields = yield_stays values b c h l.side l.left facts l.row l.yields;
-            cases_are = its.1;
+            passes = record { it = k.it; is_part = k.is_part; side = k.side; pass = pass_stays values b c h k.side k.it facts k.pass };
+            next = record { row = row; row_is = row_gives values b c h k.it facts row (l.next).row_is; cases_are = its.1 };
           },
           its.2,
         )
 
     view_on : (branch view part : ℕ) (facts : List ℕ) → ViewLeads p b view part facts cases → LeadsOn b c (steps.View branch view part facts) cases
     view_on branch view part facts l =
-        let its = cases_stay values b c h p.policy.schema Two (1 + round_of b facts) (1 + round_of c facts) l.row l.row (l.it).query.parts (l.it).query.parts cases
-        (zip_itself (PartAt values) (part_itself values) (l.it).query.parts) (zip_itself (TermAt values) (term_itself values) l.row) l.cases_are in (
+        let k = l.passes in
+        let parts = (k.is_part.of).query.parts in
+        let row = (l.next).row in
+        let its = cases_stay values b c h p.policy.schema Two (1 + round_of b facts) (1 + round_of c facts) row row parts parts cases
+        (zip_itself (PartAt values) (part_itself values) parts) (zip_itself (TermAt values) (term_itself values) row) (l.next).cases_are in (
           its.0,
           record {
-            it = l.it;
-            view_is = l.view_is;
-            of = l.of;
-            part_is = l.part_is;
-            row = l.row;
-            yields = yield_stays values b c h One l.of facts l.row l.yields;
-            cases_are = its.1;
+            passes = record { it = k.it; is_part = k.is_part; pass = pass_stays values b c h One k.it facts k.pass };
+            next = record { row = row; row_is = row_gives values b c h k.it facts row (l.next).row_is; cases_are = its.1 };
           },
           its.2,
         )
@@ -532,22 +534,26 @@ module _ (values : List Value) (p : Problem) (vars : List Kind) (assumed : List 
         λ lesson. grown values b c h (lesson ∷ []) (lesson ∷ []) (each_zip values (lesson ∷ []) (lesson ∷ []) (lesson_itself values lesson, tt)) in
         let its : List Branch = with_lessons c (Holds atom ∷ []) ∷ with_lessons c (Holds (negation atom) ∷ []) ∷ [] in (
           its,
-          record { fits = split_stays values b c h atom l.fits; cases_are = refl },
+          record { passes = split_stays values b c h atom l.passes; cases_are = refl },
           subst (λ (xs : List Branch). AllZip (Grows values) xs its) (sym l.cases_are) (one (Holds atom), (one (Holds (negation atom)), tt)),
         )
 
     goal_on : (branch part : ℕ) (facts : List ℕ) → GoalLeads p b part facts cases → LeadsOn b c (steps.Goal branch part facts) cases
     goal_on branch part facts l =
-        let of = zip_at (PartAt values) p.goal.parts goal.parts part l.of goals l.part_is in
+        let of = zip_at (PartAt values) p.goal.parts goal.parts part l.passes.it goals l.passes.is_part in
         let rows = rows_stay values b c h.at facts in
-        let heads = row_stays values b c h (rows_at b facts) (l.of).head (of.0).head b.goal c.goal (of.2).head h.at.goal l.head in (
+        let heads = row_stays values b c h (rows_at b facts) (l.passes.it).head (of.0).head b.goal c.goal (of.2).head h.at.goal l.passes.head in (
           [],
           record {
-            of = of.0;
-            part_is = of.1;
-            mapping = subst (λ (from : List ℕ). IsMapping c Two from facts) (sym (of.2).from) (mapping_stays values b c h.at Two (l.of).from facts l.mapping);
-            shown = conds_stay values b c h facts (l.of).conds (of.0).conds (of.2).conds l.shown;
-            head = subst (λ (rs : List (List Term)). AllZip (AreTheSame c.known) (map (term_of rs) (of.0).head) (map Some c.goal)) (sym rows) heads;
+            passes = record {
+              it = of.0;
+              is_part = of.1;
+              pass = record {
+                mapping = subst (λ (from : List ℕ). IsMapping c Two from facts) (sym (of.2).from) (mapping_stays values b c h.at Two (l.passes.it).from facts l.passes.pass.mapping);
+                shown = conds_stay values b c h facts (l.passes.it).conds (of.0).conds (of.2).conds l.passes.pass.shown;
+              };
+              head = subst (λ (rs : List (List Term)). AllZip (AreTheSame c.known) (map (term_of rs) (of.0).head) (map Some c.goal)) (sym rows) heads;
+            };
             cases_are = refl;
           },
           subst (λ (xs : List Branch). AllZip (Grows values) xs []) (sym l.cases_are) tt,

@@ -9,7 +9,8 @@ use Rattle.ba_facts.specs.declared.branch.Branch.{Branch}
 use Rattle.ba_facts.specs.declared.term.Lesson.TheVariants.{Holds}
 use Rattle.ba_facts.specs.declared.term.Term.{Term}
 use Rattle.ba_kernel.specs.Courses.{IsOpen, Slots, Takes, after, branch_of}
-use Rattle.ba_kernel.specs.Effects.{Leads, SplitLeads, negation, with_lessons}
+use Rattle.ba_kernel.specs.Effects.{negation, with_lessons}
+use Rattle.ba_kernel.specs.Steps.{Leads, SplitLeads}
 use Rattle.ba_kernel.specs.Tests.{Course}
 use Rattle.ba_kernel.specs.declared.problem.Problem.{Problem}
 use Rattle.ba_kernel.specs.declared.step.Step.{Step}

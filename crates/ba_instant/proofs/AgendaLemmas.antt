@@ -16,7 +16,8 @@ use Rattle.ba_model.proofs.ElementLemmas.{Contains-nil}
 use Rattle.ba_facts.specs.declared.branch.Branch.{Branch}
 use Rattle.ba_facts.specs.declared.term.Fact.{Fact}
 use Rattle.ba_kernel.specs.Courses.{IsOpen, branch_of}
-use Rattle.ba_kernel.specs.News.{IsNewOn, IsNewRound, IsRound}
+use Rattle.ba_kernel.specs.News.{IsNewOn, IsNewRound}
+use Rattle.ba_kernel.specs.Steps.{IsRound}
 use Rattle.ba_kernel.specs.Tests.{Course, open_at}
 use Rattle.ba_kernel.specs.declared.problem.Problem.{Problem}
 use Rattle.ba_kernel.specs.declared.step.Step.{Step}

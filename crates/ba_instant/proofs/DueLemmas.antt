@@ -7,7 +7,8 @@ use Rattle.std.specs.Prelude.{◌≢◌, Option, Some, slice_get}
 use Rattle.ba_facts.specs.declared.branch.Branch.{Branch}
 use Rattle.ba_kernel.specs.Courses.{IsOpen, Slots, branch_of}
 use Rattle.ba_kernel.specs.Effects.{IsEntryRound}
-use Rattle.ba_kernel.specs.News.{IsNewAt, IsNewOn, IsRound}
+use Rattle.ba_kernel.specs.News.{IsNewAt, IsNewOn}
+use Rattle.ba_kernel.specs.Steps.{IsRound}
 use Rattle.ba_kernel.specs.Tests.{Course, open_at}
 use Rattle.ba_kernel.specs.declared.problem.ProblemEntry.{ProblemEntry}
 use Rattle.ba_kernel.specs.declared.step.Step.{Step}

@@ -22,7 +22,8 @@ use Rattle.ba_facts.specs.declared.term.Term.{Term}
 use Rattle.ba_kernel.proofs.CaseFactLemmas.{unknowns_from}
 use Rattle.ba_kernel.proofs.StepFits.{All-at}
 use Rattle.ba_kernel.specs.Courses.{IsStartOf, Runs, Slots, after, branch_of, nothing_known, start, next}
-use Rattle.ba_kernel.specs.Effects.{IsCase, Leads, negation, with_fact, with_facts, with_lessons}
+use Rattle.ba_kernel.specs.Effects.{IsCase, negation, with_fact, with_facts, with_lessons}
+use Rattle.ba_kernel.specs.Steps.{Leads}
 use Rattle.ba_kernel.specs.declared.problem.Problem.{Problem}
 use Rattle.ba_kernel.specs.declared.step.Step.{Step}
 use Rattle.ba_kernel.specs.declared.step.Step.TheVariants as steps

@@ -23,9 +23,10 @@ use Rattle.ba_facts.specs.declared.term.Side.TheVariants.{One, Two}
 use Rattle.ba_facts.specs.declared.term.Term.{Term}
 use Rattle.ba_facts.specs.declared.term.TermAtom.{TermAtom}
 use Rattle.ba_kernel.proofs.StepFits.{All-at, Contains-at}
-use Rattle.ba_kernel.specs.Effects.{AreEqualAt, IsKeyOf, IsLinkOf, IsNotNullAt, MayBeSplit, SplitFits, with_lessons}
-use Rattle.ba_kernel.specs.News.{IsCandidate, IsNewOn, IsOfNewKind, IsRound, IsSplitRound, SplitTells, of_view, of_goal, of_rule}
-use Rattle.ba_kernel.specs.Tests.{FactsPass, KeyPasses, LinkPasses, RulePasses, ViewPasses}
+use Rattle.ba_kernel.specs.Effects.{with_lessons}
+use Rattle.ba_kernel.specs.News.{IsNewOn}
+use Rattle.ba_kernel.specs.Steps.{AreEqualAt, FactsPass, IsCandidate, IsKeyOf, IsLinkOf, IsNotNullAt, IsOfNewKind, IsRound, IsSplitRound, KeyPasses, LinkPasses}
+use Rattle.ba_kernel.specs.Steps.{MayBeSplit, RulePasses, SplitPasses, SplitTells, ViewPasses, of_goal, of_rule, of_view}
 use Rattle.ba_kernel.specs.declared.problem.Problem.{Problem}
 use Rattle.ba_kernel.specs.declared.step.Step.{Step}
 use Rattle.ba_kernel.specs.declared.step.Step.TheVariants as steps
@@ -344,12 +345,11 @@ module _ (p : Problem) (b : Branch) (moves : List Move) (lessons : List Lesson) 
   new_kind_back IsNull x y first second h = tt
   new_kind_back NotNull x y first second h = tt
 
-  fits_back : (atom : TermAtom) → Old atom.left → Old atom.right → SplitFits c atom → SplitFits b atom
+  fits_back : (atom : TermAtom) → Old atom.left → Old atom.right → SplitPasses c atom → SplitPasses b atom
   fits_back atom first second h =
       record {
         kind = h.kind;
-        left_is = sym (same_kind p b lessons atom.left) ∙ h.left_is;
-        right_is = sym (same_kind p b lessons atom.right) ∙ h.right_is;
+        sides = record { left = sym (same_kind p b lessons atom.left) ∙ h.sides.left; right = sym (same_kind p b lessons atom.right) ∙ h.sides.right };
         op = h.op;
         may = may_back atom.op atom.left atom.right first second h.may;
       }

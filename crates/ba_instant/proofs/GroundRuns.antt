@@ -28,7 +28,8 @@ use Rattle.ba_kernel.proofs.StepFits.{All-at}
 use Rattle.ba_kernel.proofs.TidyLemmas.{facts_there, operand_there, row_there_more, term_there, terms_there, unknowns_kept}
 use Rattle.ba_kernel.proofs.TidyRuns.{runs_are_tidy}
 use Rattle.ba_kernel.specs.Courses.{IsStartOf, ProblemFits, Runs, Slots, after, branch_of, nothing_known, start, next}
-use Rattle.ba_kernel.specs.Effects.{KeyLeads, Leads, LinkLeads, SplitLeads, negation, negation_of, rows_at, with_facts, with_lessons}
+use Rattle.ba_kernel.specs.Effects.{negation, negation_of, rows_at, with_facts, with_lessons}
+use Rattle.ba_kernel.specs.Steps.{KeyLeads, Leads, LinkLeads, SplitLeads}
 use Rattle.ba_kernel.specs.Tests.{IsTidy}
 use Rattle.ba_kernel.specs.Tidy.{FactsAreThere, TermsAreThere}
 use Rattle.ba_kernel.specs.declared.problem.Problem.{Problem}
@@ -71,26 +72,26 @@ module _ (p : Problem) where
 
   key_there : (b : Branch) (key left right : ℕ) (cases : List Branch) → FactsAreThere b → LessonsAreThere b → KeyLeads p b key left right cases → All LessonsAreThere cases
   key_there b key left right cases facts h leads =
-      let f = fact_terms b left leads.f facts leads.pair.left_is in
-      let g = fact_terms b right leads.g facts leads.pair.right_is in
-      one_there cases _ leads.cases_are (lessons_more b _ h (pairs_there b.known leads.f.terms leads.g.terms f g))
+      let f = fact_terms b left leads.passes.f facts leads.passes.pair.left_is in
+      let g = fact_terms b right leads.passes.g facts leads.passes.pair.right_is in
+      one_there cases _ leads.cases_are (lessons_more b _ h (pairs_there b.known leads.passes.f.terms leads.passes.g.terms f g))
 
   link_there : (b : Branch) (link fact : ℕ) (cases : List Branch) → FactsAreThere b → LessonsAreThere b → LinkLeads p b link fact cases → All LessonsAreThere cases
   link_there b link fact cases facts h leads =
       let s = p.policy.schema in
-      let side = leads.f.side in
-      let round = 1 + leads.f.round in
-      let from = leads.it.target ∷ [] in
+      let side = leads.passes.f.side in
+      let round = 1 + leads.passes.f.round in
+      let from = leads.passes.it.target ∷ [] in
       let mid = with_facts s side round b from in
       let mid_facts = facts_there s side round from b facts in
-      let f = row_there_more b.known mid.known (unknowns_kept s side round from b) leads.f.terms (fact_terms b fact leads.f facts leads.fact_is) in
-      let lessons = links_there mid.known leads.f.terms (terms_at mid (length b.facts)) f (terms_there mid (length b.facts) mid_facts) _ leads.lessons leads.lessons_are in
+      let f = row_there_more b.known mid.known (unknowns_kept s side round from b) leads.passes.f.terms (fact_terms b fact leads.passes.f facts leads.passes.fact_is) in
+      let lessons = links_there mid.known leads.passes.f.terms (terms_at mid (length b.facts)) f (terms_there mid (length b.facts) mid_facts) _ leads.lessons leads.lessons_are in
       one_there cases (with_lessons mid leads.lessons) leads.cases_are (lessons_more mid leads.lessons (facts_keep s side round from b h) lessons)
 
   split_there : (b : Branch) (atom : TermAtom) (cases : List Branch) → LessonsAreThere b → SplitLeads b atom cases → All LessonsAreThere cases
   split_there b atom cases h leads =
-      let left = kind_there b atom.left leads.fits.kind leads.fits.left_is in
-      let right = kind_there b atom.right leads.fits.kind leads.fits.right_is in
+      let left = kind_there b atom.left leads.passes.kind leads.passes.sides.left in
+      let right = kind_there b atom.right leads.passes.kind leads.passes.sides.right in
       let one : (lesson : Lesson) → LessonIsThere b.known lesson → LessonsAreThere (with_lessons b (lesson ∷ [])) =
       λ lesson is. lessons_more b (lesson ∷ []) h (All-cons (LessonIsThere b.known) lesson [] is (All-nil (LessonIsThere b.known))) in
       subst (All LessonsAreThere) (sym leads.cases_are)
@@ -100,16 +101,16 @@ module _ (p : Problem) where
 
   leads_there : (b : Branch) (step : Step) (cases : List Branch) → FactsAreThere b → LessonsAreThere b → Leads p b step cases → All LessonsAreThere cases
   leads_there b (steps.Entry branch entry) cases facts h leads =
-      let row = row_there b [] leads.it.row leads.row facts leads.row_is in
-      cases_there p.policy.schema One leads.round b leads.row leads.it.query.parts cases facts row h leads.cases_are
+      let row = row_there b [] leads.passes.it.row leads.row facts leads.row_is in
+      cases_there p.policy.schema One leads.round b leads.row leads.passes.it.query.parts cases facts row h leads.cases_are
   leads_there b (steps.Key branch key left right) cases facts h leads = key_there b key left right cases facts h leads
   leads_there b (steps.Link branch link fact) cases facts h leads = link_there b link fact cases facts h leads
   leads_there b (steps.Rule branch rule part numbers) cases facts h leads =
-      let row = row_there b numbers leads.left.head leads.row facts leads.yields.head in
-      cases_there p.policy.schema leads.side (1 + round_of b numbers) b leads.row leads.it.right.parts cases facts row h leads.cases_are
+      let row = row_there b numbers leads.passes.it.head leads.next.row facts leads.next.row_is in
+      cases_there p.policy.schema leads.passes.side (1 + round_of b numbers) b leads.next.row leads.passes.is_part.of.right.parts cases facts row h leads.next.cases_are
   leads_there b (steps.View branch view part numbers) cases facts h leads =
-      let row = row_there b numbers leads.of.head leads.row facts leads.yields.head in
-      cases_there p.policy.schema Two (1 + round_of b numbers) b leads.row leads.it.query.parts cases facts row h leads.cases_are
+      let row = row_there b numbers leads.passes.it.head leads.next.row facts leads.next.row_is in
+      cases_there p.policy.schema Two (1 + round_of b numbers) b leads.next.row leads.passes.is_part.of.query.parts cases facts row h leads.next.cases_are
   leads_there b (steps.Split branch atom) cases facts h leads = split_there b atom cases h leads
   leads_there b (steps.Absurd branch) cases facts h leads = none_there cases leads.cases_are
   leads_there b (steps.Goal branch part numbers) cases facts h leads = none_there cases leads.cases_are

@@ -22,8 +22,9 @@ use Rattle.ba_facts.specs.declared.term.Term.TheVariants.{Unknown}
 use Rattle.ba_kernel.proofs.BuildNext.{row_there}
 use Rattle.ba_kernel.proofs.StepFits.{All-at}
 use Rattle.ba_kernel.specs.Courses.{IsOpen, ProblemFits, Slots, after, branch_of}
-use Rattle.ba_kernel.specs.Effects.{EntryLeads, IsCase, IsLinkOf, KeyLeads, Leads, LinkLeads, RuleLeads, ViewLeads, rows_at, with_fact, with_lessons}
-use Rattle.ba_kernel.specs.News.{IsNewOn, IsRound}
+use Rattle.ba_kernel.specs.Effects.{IsCase, rows_at, with_fact, with_lessons}
+use Rattle.ba_kernel.specs.News.{IsNewOn}
+use Rattle.ba_kernel.specs.Steps.{EntryLeads, IsLinkOf, IsRound, KeyLeads, Leads, LinkLeads, RuleLeads, ViewLeads}
 use Rattle.ba_kernel.specs.declared.problem.Problem.{Problem}
 use Rattle.ba_kernel.specs.declared.problem.ProblemEntry.{ProblemEntry}
 use Rattle.ba_kernel.specs.declared.step.Step.{Step}
@@ -37,7 +38,7 @@ use Rattle.ba_instant.proofs.LinkRowLemmas.{link_grows}
 use Rattle.ba_instant.proofs.OldFactLemmas.{round_is}
 use Rattle.ba_instant.proofs.OldSplitLemmas.{get_within_front}
 use Rattle.ba_instant.proofs.QuietLemmas.{new_was_new, quiet_stays}
-use Rattle.ba_instant.proofs.QuietStepLemmas.{yields_gives}
+use Rattle.ba_instant.proofs.QuietStepLemmas.{pass_gives}
 use Rattle.ba_instant.proofs.RoundLemmas.{round_once}
 use Rattle.ba_instant.proofs.SilentLemmas.{AreOfOne, silent_stays}
 use Rattle.ba_instant.specs.Agendas.{IsSilent}
@@ -105,43 +106,43 @@ module _ (p : Problem) (b c : Branch) (grounded : IsGrounded b) (filled : FactsA
   entry_grows : (branch entry round : ℕ) (cases : List Branch) → EntryLeads p b entry cases → BeginsWith cases c → IsQuietEntry p b entry → IsRound p b (steps.Entry branch entry) round →
       GrowsQuietly round b c
   entry_grows branch entry round cases leads begins quiet round_at =
-      let it : quiet.it ≡ leads.it = same_Some quiet.it leads.it (sym quiet.there ∙ leads.there) in
-      let round_same : leads.round ≡ round = round_once p b (steps.Entry branch entry) leads.round round (record { it = leads.it; there = leads.there; round_is = leads.round_is }) round_at in
-      let part_is : slice_get leads.it.query.parts 0 ≡ Some quiet.of = subst (λ (e : ProblemEntry). slice_get e.query.parts 0 ≡ Some quiet.of) it quiet.part_is in
+      let it : quiet.it ≡ leads.passes.it = same_Some quiet.it leads.passes.it (sym quiet.there ∙ leads.passes.there) in
+      let round_same : leads.round ≡ round = round_once p b (steps.Entry branch entry) leads.round round (record { it = leads.passes.it; there = leads.passes.there; round_is = leads.round_is }) round_at in
+      let part_is : slice_get leads.passes.it.query.parts 0 ≡ Some quiet.of = subst (λ (e : ProblemEntry). slice_get e.query.parts 0 ≡ Some quiet.of) it quiet.part_is in
       let row : quiet.row ≡ leads.row =
       rows_same quiet.row leads.row (sym (subst (λ (e : ProblemEntry). map (term_of []) e.row ≡ map Some quiet.row) it quiet.row_is) ∙ leads.row_is) in
       let gives = subst (GivesRow p.policy.schema b quiet.of quiet.rows) row quiet.gives in
-      let case = of_first (IsCase p.policy.schema b One leads.round leads.row) leads.it.query.parts cases quiet.of c leads.cases_are part_is begins in
-      let there = row_there b [] leads.it.row leads.row (record { facts = grounded.facts }) leads.row_is in
+      let case = of_first (IsCase p.policy.schema b One leads.round leads.row) leads.passes.it.query.parts cases quiet.of c leads.cases_are part_is begins in
+      let there = row_there b [] leads.passes.it.row leads.row (record { facts = grounded.facts }) leads.row_is in
       subst (λ r. GrowsQuietly r b c) round_same (case_grows p.policy.schema b One leads.round quiet.of quiet.rows leads.row gives c there case)
 
   rule_grows : (rule part : ℕ) (facts : List ℕ) (cases : List Branch) → RuleLeads p b rule part facts cases → BeginsWith cases c → IsQuietRule p b rule part facts →
       GrowsQuietly (1 + round_of b facts) b c
   rule_grows rule part facts cases leads begins quiet =
-      let it : quiet.it ≡ leads.it = same_Some quiet.it leads.it (sym quiet.rule_is ∙ leads.rule_is) in
-      let left : quiet.left ≡ leads.left =
-      same_Some quiet.left leads.left (sym (subst (λ (r : Rule). slice_get r.left.parts part ≡ Some quiet.left) it quiet.left_is) ∙ leads.part_is) in
-      let part_is : slice_get leads.it.right.parts 0 ≡ Some quiet.of = subst (λ (r : Rule). slice_get r.right.parts 0 ≡ Some quiet.of) it quiet.part_is in
-      let row : quiet.row ≡ leads.row =
-      rows_same quiet.row leads.row (sym (subst (λ (q : Part). row_of b facts q.head ≡ map Some quiet.row) left quiet.row_is) ∙ leads.yields.head) in
+      let it : quiet.it ≡ leads.passes.is_part.of = same_Some quiet.it leads.passes.is_part.of (sym quiet.rule_is ∙ leads.passes.is_part.rule_is) in
+      let left : quiet.left ≡ leads.passes.it =
+      same_Some quiet.left leads.passes.it (sym (subst (λ (r : Rule). slice_get r.left.parts part ≡ Some quiet.left) it quiet.left_is) ∙ leads.passes.is_part.part_is) in
+      let part_is : slice_get leads.passes.is_part.of.right.parts 0 ≡ Some quiet.of = subst (λ (r : Rule). slice_get r.right.parts 0 ≡ Some quiet.of) it quiet.part_is in
+      let row : quiet.row ≡ leads.next.row =
+      rows_same quiet.row leads.next.row (sym (subst (λ (q : Part). row_of b facts q.head ≡ map Some quiet.row) left quiet.row_is) ∙ leads.next.row_is) in
       let gives = subst (GivesRow p.policy.schema b quiet.of quiet.rows) row quiet.gives in
-      let case = of_first (IsCase p.policy.schema b leads.side (1 + round_of b facts) leads.row) leads.it.right.parts cases quiet.of c leads.cases_are part_is begins in
-      let there = row_there b facts leads.left.head leads.row (record { facts = grounded.facts }) leads.yields.head in
-      case_grows p.policy.schema b leads.side (1 + round_of b facts) quiet.of quiet.rows leads.row gives c there case
+      let case = of_first (IsCase p.policy.schema b leads.passes.side (1 + round_of b facts) leads.next.row) leads.passes.is_part.of.right.parts cases quiet.of c leads.next.cases_are part_is begins in
+      let there = row_there b facts leads.passes.it.head leads.next.row (record { facts = grounded.facts }) leads.next.row_is in
+      case_grows p.policy.schema b leads.passes.side (1 + round_of b facts) quiet.of quiet.rows leads.next.row gives c there case
 
   view_grows : (view part : ℕ) (facts : List ℕ) (cases : List Branch) → ViewLeads p b view part facts cases → BeginsWith cases c → IsQuietView p b view part facts →
       GrowsQuietly (1 + round_of b facts) b c
   view_grows view part facts cases leads begins quiet =
       let s = p.policy.schema in
-      let it : quiet.it ≡ leads.it = same_Some quiet.it leads.it (sym quiet.view_is ∙ leads.view_is) in
-      let part_is : slice_get leads.it.query.parts 0 ≡ Some quiet.of = subst (λ (v : View). slice_get v.query.parts 0 ≡ Some quiet.of) it quiet.part_is in
-      let of : quiet.of ≡ leads.of = same_Some quiet.of leads.of (sym part_is ∙ subst (λ n. slice_get leads.it.query.parts n ≡ Some leads.of) quiet.first leads.part_is) in
+      let it : quiet.it ≡ leads.passes.is_part.of = same_Some quiet.it leads.passes.is_part.of (sym quiet.view_is ∙ leads.passes.is_part.view_is) in
+      let part_is : slice_get leads.passes.is_part.of.query.parts 0 ≡ Some quiet.of = subst (λ (v : View). slice_get v.query.parts 0 ≡ Some quiet.of) it quiet.part_is in
+      let of : quiet.of ≡ leads.passes.it = same_Some quiet.of leads.passes.it (sym part_is ∙ subst (λ n. slice_get leads.passes.is_part.of.query.parts n ≡ Some leads.passes.it) quiet.first leads.passes.is_part.part_is) in
       let plain = subst (λ (q : Part). All (Under (IsPlain b.known) (rows_at b facts)) q.conds) of quiet.plain in
-      let gives = yields_gives s b filled One leads.of facts leads.row leads.yields plain in
-      let first : slice_get leads.it.query.parts 0 ≡ Some leads.of = part_is ∙ ap Some of in
-      let case = of_first (IsCase s b Two (1 + round_of b facts) leads.row) leads.it.query.parts cases leads.of c leads.cases_are first begins in
-      let there = row_there b facts leads.of.head leads.row (record { facts = grounded.facts }) leads.yields.head in
-      case_grows s b Two (1 + round_of b facts) leads.of (rows_at b facts) leads.row gives c there case
+      let gives = pass_gives s b filled One leads.passes.it facts leads.next.row leads.passes.pass leads.next.row_is plain in
+      let first : slice_get leads.passes.is_part.of.query.parts 0 ≡ Some leads.passes.it = part_is ∙ ap Some of in
+      let case = of_first (IsCase s b Two (1 + round_of b facts) leads.next.row) leads.passes.is_part.of.query.parts cases leads.passes.it c leads.next.cases_are first begins in
+      let there = row_there b facts leads.passes.it.head leads.next.row (record { facts = grounded.facts }) leads.next.row_is in
+      case_grows s b Two (1 + round_of b facts) leads.passes.it (rows_at b facts) leads.next.row gives c there case
 
   link_same : (link : ℕ) (f g : Fact) (it other : Link) → f ≡ g → IsLinkOf p.policy.schema f link it → IsLinkOf p.policy.schema g link other → it ≡ other
   link_same link f g it other same h k =
@@ -153,30 +154,30 @@ module _ (p : Problem) (b c : Branch) (grounded : IsGrounded b) (filled : FactsA
       GrowsQuietly (1 + round_of b (fact ∷ [])) b c
   link_grows_by link fact cases leads begins quiet =
       let s = p.policy.schema in
-      let f : quiet.f ≡ leads.f = same_Some quiet.f leads.f (sym quiet.fact_is ∙ leads.fact_is) in
-      let it : quiet.it ≡ leads.it = link_same link quiet.f leads.f quiet.it leads.it f quiet.link_of leads.link_of in
+      let f : quiet.f ≡ leads.passes.f = same_Some quiet.f leads.passes.f (sym quiet.fact_is ∙ leads.passes.fact_is) in
+      let it : quiet.it ≡ leads.passes.it = link_same link quiet.f leads.passes.f quiet.it leads.passes.it f quiet.link_of leads.passes.link_of in
       let distinct = subst (λ (l : Link). IsDistinct nat_eq l.target_columns) it quiet.distinct in
-      let there = All-at (λ (x : Fact). All (IsThere b.known) x.terms) b.facts fact leads.f grounded.facts leads.fact_is in
-      let at = round_is b fact leads.f leads.fact_is in
-      let same : 1 + leads.f.round ≡ 1 + round_of b (fact ∷ []) = omega (arith, at) in
-      let new = with_lessons (with_fact s leads.f.side (1 + leads.f.round) b leads.it.target) leads.lessons in
+      let there = All-at (λ (x : Fact). All (IsThere b.known) x.terms) b.facts fact leads.passes.f grounded.facts leads.passes.fact_is in
+      let at = round_is b fact leads.passes.f leads.passes.fact_is in
+      let same : 1 + leads.passes.f.round ≡ 1 + round_of b (fact ∷ []) = omega (arith, at) in
+      let new = with_lessons (with_fact s leads.passes.f.side (1 + leads.passes.f.round) b leads.passes.it.target) leads.lessons in
       subst (GrowsQuietly (1 + round_of b (fact ∷ [])) b) (of_one cases new c leads.cases_are begins)
-      (subst (λ r. GrowsQuietly r b new) same (link_grows s b leads.f leads.it there leads.not_null distinct leads.lessons leads.lessons_are))
+      (subst (λ r. GrowsQuietly r b new) same (link_grows s b leads.passes.f leads.passes.it there leads.passes.not_null distinct leads.lessons leads.lessons_are))
 
   key_adds : (n key one other : ℕ) (cases : List Branch) → KeyLeads p b key one other cases → BeginsWith cases c → IsQuietKey p b one other → NoneIsNew p b c n
   key_adds n key one other cases leads begins quiet =
-      let f : quiet.f ≡ leads.f = same_Some quiet.f leads.f (sym quiet.left_is ∙ leads.pair.left_is) in
-      let g : quiet.g ≡ leads.g = same_Some quiet.g leads.g (sym quiet.right_is ∙ leads.pair.right_is) in
-      let rows : AreOne b.known quiet.moves leads.f.terms leads.g.terms =
-      subst (λ (x : Fact). AreOne b.known quiet.moves x.terms leads.g.terms) f (subst (λ (x : Fact). AreOne b.known quiet.moves quiet.f.terms x.terms) g quiet.one) in
-      let lessons = map (λ (two : Term × Term). Same two.0 two.1) (zip leads.f.terms leads.g.terms) in
+      let f : quiet.f ≡ leads.passes.f = same_Some quiet.f leads.passes.f (sym quiet.left_is ∙ leads.passes.pair.left_is) in
+      let g : quiet.g ≡ leads.passes.g = same_Some quiet.g leads.passes.g (sym quiet.right_is ∙ leads.passes.pair.right_is) in
+      let rows : AreOne b.known quiet.moves leads.passes.f.terms leads.passes.g.terms =
+      subst (λ (x : Fact). AreOne b.known quiet.moves x.terms leads.passes.g.terms) f (subst (λ (x : Fact). AreOne b.known quiet.moves quiet.f.terms x.terms) g quiet.one) in
+      let lessons = map (λ (two : Term × Term). Same two.0 two.1) (zip leads.passes.f.terms leads.passes.g.terms) in
       subst (λ (d : Branch). (step : Step) (round : ℕ) → IsTelling n step → IsNewOn p d step × IsRound p d step round → IsNewOn p b step × IsRound p b step round)
       (of_one cases (with_lessons b lessons) c leads.cases_are begins)
-      (λ step round. new_before p b quiet.moves lessons quiet.quiet (told_of_rows b.known quiet.moves leads.f.terms leads.g.terms rows) n step round)
+      (λ step round. new_before p b quiet.moves lessons quiet.quiet (told_of_rows b.known quiet.moves leads.passes.f.terms leads.passes.g.terms rows) n step round)
 
   key_keeps : (key one other : ℕ) (cases : List Branch) → KeyLeads p b key one other cases → BeginsWith cases c → c.facts ≡ b.facts
   key_keeps key one other cases leads begins =
-      let lessons = map (λ (two : Term × Term). Same two.0 two.1) (zip leads.f.terms leads.g.terms) in
+      let lessons = map (λ (two : Term × Term). Same two.0 two.1) (zip leads.passes.f.terms leads.passes.g.terms) in
       subst (λ (d : Branch). d.facts ≡ b.facts) (of_one cases (with_lessons b lessons) c leads.cases_are begins) refl
 
   step_grows : (step : Step) (cases : List Branch) (round : ℕ) → Leads p b step cases → BeginsWith cases c → IsQuietStep p b step → IsRound p b step round → IsKept p b c (branch_of step) round
@@ -201,10 +202,10 @@ module _ (p : Problem) (b c : Branch) (grounded : IsGrounded b) (filled : FactsA
 
   link_ones : (link fact : ℕ) (cases : List Branch) → LinkLeads p b link fact cases → BeginsWith cases c → IsOfOne b fact → GainsOnes c
   link_ones link fact cases leads begins one =
-      let same : one.f ≡ leads.f = same_Some one.f leads.f (sym one.fact_is ∙ leads.fact_is) in
-      let side : leads.f.side ≡ One = subst (λ (x : Fact). x.side ≡ One) same one.side_is in
-      let mid = with_fact p.policy.schema leads.f.side (1 + leads.f.round) b leads.it.target in
-      let row : Fact = record { side = leads.f.side; table = leads.it.target; terms = map Unknown (range_with_len (length b.known.unknowns) (length (columns_of p.policy.schema.tables leads.it.target))); round = 1 + leads.f.round } in
+      let same : one.f ≡ leads.passes.f = same_Some one.f leads.passes.f (sym one.fact_is ∙ leads.passes.fact_is) in
+      let side : leads.passes.f.side ≡ One = subst (λ (x : Fact). x.side ≡ One) same one.side_is in
+      let mid = with_fact p.policy.schema leads.passes.f.side (1 + leads.passes.f.round) b leads.passes.it.target in
+      let row : Fact = record { side = leads.passes.f.side; table = leads.passes.it.target; terms = map Unknown (range_with_len (length b.known.unknowns) (length (columns_of p.policy.schema.tables leads.passes.it.target))); round = 1 + leads.passes.f.round } in
       subst GainsOnes (of_one cases (with_lessons mid leads.lessons) c leads.cases_are begins)
       (row ∷ [], refl, All-cons (λ (f : Fact). f.side ≡ One) row [] side (All-nil (λ (f : Fact). f.side ≡ One)))
 

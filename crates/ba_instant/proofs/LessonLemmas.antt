@@ -17,7 +17,7 @@ use Rattle.ba_facts.specs.declared.term.Side.TheVariants.{One, Two}
 use Rattle.ba_facts.specs.declared.term.Term.{Term}
 use Rattle.ba_facts.specs.declared.term.Term.TheVariants.{Unknown, Val, Param, Var}
 use Rattle.ba_kernel.specs.Effects.{with_lessons}
-use Rattle.ba_kernel.specs.News.{AreEqualIn, EntryIsMet, KeyIsMet, LinkIsMet, RuleIsMet, ViewIsMet}
+use Rattle.ba_kernel.specs.Steps.{AreEqualIn, EntryIsMet, KeyIsMet, LinkIsMet, RuleIsMet, ViewIsMet}
 use Rattle.ba_kernel.specs.declared.problem.Problem.{Problem}
 use Rattle.ba_instant.proofs.CarryLemmas.{Carries, equal, shows, the_same}
 use Rattle.ba_instant.proofs.GrowthLemmas.{carries_on}

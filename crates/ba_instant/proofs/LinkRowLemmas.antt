@@ -21,7 +21,8 @@ use Rattle.ba_facts.specs.declared.term.Lesson.TheVariants.{Same}
 use Rattle.ba_facts.specs.declared.term.Term.{Term}
 use Rattle.ba_facts.specs.declared.term.Term.TheVariants.{Param}
 use Rattle.ba_kernel.proofs.StepFits.{All-at}
-use Rattle.ba_kernel.specs.Effects.{IsNotNullAt, same_at, with_fact, with_lessons}
+use Rattle.ba_kernel.specs.Effects.{same_at, with_fact, with_lessons}
+use Rattle.ba_kernel.specs.Steps.{IsNotNullAt}
 use Rattle.ba_instant.proofs.GivenLemmas.{grows_by, mirrored, stand_in}
 use Rattle.ba_instant.proofs.MirrorLemmas.{joined_rows, own_stays}
 use Rattle.ba_instant.specs.QuietSteps.{IsFilled, IsRowFor}

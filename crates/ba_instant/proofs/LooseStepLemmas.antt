@@ -15,9 +15,10 @@ use Rattle.ba_facts.specs.declared.term.Side.{Side}
 use Rattle.ba_facts.specs.declared.term.Side.TheVariants.{One, Two}
 use Rattle.ba_facts.specs.declared.term.Term.{Term}
 use Rattle.ba_facts.specs.declared.term.TermAtom.{TermAtom}
-use Rattle.ba_kernel.specs.Effects.{AreEqualAt, IsNotNullAt, MayBeSplit, SplitFits, with_lessons}
-use Rattle.ba_kernel.specs.News.{IsCandidate, IsNewOn, IsOfNewKind, IsRound, SplitTells, of_view, of_goal, of_rule}
-use Rattle.ba_kernel.specs.Tests.{KeyPasses, LinkPasses}
+use Rattle.ba_kernel.specs.Effects.{with_lessons}
+use Rattle.ba_kernel.specs.News.{IsNewOn}
+use Rattle.ba_kernel.specs.Steps.{AreEqualAt, IsCandidate, IsNotNullAt, IsOfNewKind, IsRound, KeyPasses, LinkPasses, MayBeSplit, SplitPasses, SplitTells}
+use Rattle.ba_kernel.specs.Steps.{of_goal, of_rule, of_view}
 use Rattle.ba_kernel.specs.declared.problem.Problem.{Problem}
 use Rattle.ba_kernel.specs.declared.step.Step.TheVariants as steps
 use Rattle.ba_instant.proofs.CarryLemmas.{Carries, refutes, shows}
@@ -76,12 +77,11 @@ module _ (p : Problem) (b : Branch) (lesson : Lesson) (x : Term) (by : ℤ) (y :
   may_back IsNull s t h = h
   may_back NotNull s t h = h
 
-  fits_back : (atom : TermAtom) → SplitFits c atom → SplitFits b atom
+  fits_back : (atom : TermAtom) → SplitPasses c atom → SplitPasses b atom
   fits_back atom h =
       record {
         kind = h.kind;
-        left_is = sym (same_kind p b more atom.left) ∙ h.left_is;
-        right_is = sym (same_kind p b more atom.right) ∙ h.right_is;
+        sides = record { left = sym (same_kind p b more atom.left) ∙ h.sides.left; right = sym (same_kind p b more atom.right) ∙ h.sides.right };
         op = h.op;
         may = may_back atom.op atom.left atom.right h.may;
       }
@@ -153,7 +153,7 @@ module _ (p : Problem) (b : Branch) (lesson : Lesson) (x : Term) (by : ℤ) (y :
         (record { passes = key_passes key one two new.passes; tells = λ met. new.tells (key_met p b more one two met) })
         (is ∙ ap (λ r. 1 + r) (same_round p b more (one ∷ two ∷ [])))
 
-    module _ (atom : TermAtom) (fits : SplitFits b atom) (tells : (facts : List ℕ) → IsCandidate p b atom facts → SplitTells p b atom) where
+    module _ (atom : TermAtom) (fits : SplitPasses b atom) (tells : (facts : List ℕ) → IsCandidate p b atom facts → SplitTells p b atom) where
       not_least : (facts : List ℕ) → IsCandidate p b atom facts → 1 + round_of b facts ≤ bound → ((others : List ℕ) → IsCandidate p b atom others → round_of b facts ≤ round_of b others) → ⊥
       not_least facts candidate early least =
           let late : bound < 1 + round_of b facts =

@@ -24,7 +24,8 @@ use Rattle.ba_facts.specs.declared.term.Side.TheVariants.{One, Two}
 use Rattle.ba_facts.specs.declared.term.Term.{Term}
 use Rattle.ba_kernel.specs.Courses.{IsOpen}
 use Rattle.ba_kernel.specs.Effects.{rows_at}
-use Rattle.ba_kernel.specs.Tests.{Course, FactsPass, GoalPasses, RulePasses, ViewPasses}
+use Rattle.ba_kernel.specs.Steps.{FactsPass, GoalPasses, RulePasses, ViewPasses}
+use Rattle.ba_kernel.specs.Tests.{Course}
 use Rattle.ba_kernel.specs.declared.step.Step.{Step}
 use Rattle.ba_kernel.specs.declared.step.Step.TheVariants as steps
 use Rattle.ba_instant.proofs.ChaseLemmas.{new_on}

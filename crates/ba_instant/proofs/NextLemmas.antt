@@ -10,16 +10,13 @@ use Rattle.std.specs.Prelude.{◌≢◌, Contains, IfOk, IsTrue, Option, Some, N
 use Rattle.std.specs.declared.alloc.AllocError.{AllocError}
 use Rattle.ba_facts.proofs.PlaceLemmas.{upto as up_to_bound}
 use Rattle.ba_facts.specs.declared.branch.Branch.{Branch}
-use Rattle.ba_model.specs.declared.failure.Failure.{Failure}
-use Rattle.ba_model.specs.declared.failure.Failure.TheVariants.{Fault}
 use Rattle.ba_kernel.proofs.NewLemmas.{all_at}
-use Rattle.ba_kernel.proofs.TestLemmas.{not_both}
 use Rattle.ba_kernel.specs.Courses.{AllClosed, IsOpen, IsStart, ProblemFits, Runs, Slots, Takes, after, branch_of}
-use Rattle.ba_kernel.specs.News.{IsNewOn, IsRound}
-use Rattle.ba_kernel.specs.Tests.{Course, IsErrorOf, IsRefusedAt, open_at}
+use Rattle.ba_kernel.specs.News.{IsNewOn}
+use Rattle.ba_kernel.specs.Steps.{IsRound}
+use Rattle.ba_kernel.specs.Tests.{Course, IsPassed, PassesAt, open_at}
 use Rattle.ba_kernel.specs.declared.problem.Problem.{Problem}
 use Rattle.ba_kernel.specs.declared.step.Step.{Step}
-use Rattle.ba_kernel.specs.declared.step.StepFault.{StepFault}
 use Rattle.ba_instant.proofs.ChaseLemmas.{open_is}
 use Rattle.ba_instant.proofs.AfterSplitLemmas.{first_quiet, other_quiet, quiet_zero}
 use Rattle.ba_instant.proofs.AgendaLemmas.{none_is_agenda, older_on}
@@ -225,12 +222,10 @@ module _ (pick : Pick) (c : Course) (of : Due) (it : IsTaken pick c of) where
   abbrev step : Step
   step = of.found.step
 
-  pub not_refused : (error : Failure StepFault) (fault : StepFault) → error ≡ Fault fault → IsErrorOf c step error → ⊥
-  not_refused error fault is h =
-      let refused : IsRefusedAt c.problem (open_at c.slots (branch_of step)) step fault = subst (IsErrorOf c step) is h in
+  pub passed : IsPassed c step
+  passed =
       let due = it.picked.due in
-      not_both c.problem due.branch step fault due.new_.passes
-      (subst (λ at. IsRefusedAt c.problem at step fault) (open_is c.slots (branch_of step) due.branch due.open_) refused)
+      subst (λ at. PassesAt c.problem at step) (sym (open_is c.slots (branch_of step) due.branch due.open_)) due.new_.passes
 
   pub searches_on : (new : Course) → Searches pick c.problem c.steps c.slots → Takes c.problem c.slots step new.slots → new.steps ≡ c.steps ++ step ∷ [] →
       new.problem ≡ c.problem → Searches pick new.problem new.steps new.slots

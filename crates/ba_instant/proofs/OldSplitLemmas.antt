@@ -23,8 +23,8 @@ use Rattle.ba_facts.specs.declared.term.Term.{Term}
 use Rattle.ba_facts.specs.declared.term.Term.TheVariants.{Unknown, Val, Param, Var}
 use Rattle.ba_facts.specs.declared.term.TermAtom.{TermAtom}
 use Rattle.ba_kernel.proofs.TidyLemmas.{term_there}
-use Rattle.ba_kernel.specs.Effects.{MayBeSplit, SplitFits}
-use Rattle.ba_kernel.specs.News.{IsCandidate, IsNewOn, IsOfNewKind, IsRound, IsSplitRound, SplitTells, of_view, of_goal, of_rule}
+use Rattle.ba_kernel.specs.News.{IsNewOn}
+use Rattle.ba_kernel.specs.Steps.{IsCandidate, IsOfNewKind, IsRound, IsSplitRound, MayBeSplit, SplitPasses, SplitTells, of_goal, of_rule, of_view}
 use Rattle.ba_kernel.specs.declared.problem.Problem.{Problem}
 use Rattle.ba_kernel.specs.declared.step.Step.TheVariants as steps
 use Rattle.ba_instant.proofs.CarryLemmas.{Carries}
@@ -102,12 +102,11 @@ module _ (p : Problem) (b c : Branch) (grounded : IsGrounded b) (growth : IsQuie
   may_back IsNull x y first second h = h
   may_back NotNull x y first second h = h
 
-  fits_back : (atom : TermAtom) → IsThere k atom.left × IsThere k atom.right → SplitFits c atom → SplitFits b atom
+  fits_back : (atom : TermAtom) → IsThere k atom.left × IsThere k atom.right → SplitPasses c atom → SplitPasses b atom
   fits_back atom both h =
       record {
         kind = h.kind;
-        left_is = kind_back atom.left h.kind both.0 h.left_is;
-        right_is = kind_back atom.right h.kind both.1 h.right_is;
+        sides = record { left = kind_back atom.left h.kind both.0 h.sides.left; right = kind_back atom.right h.kind both.1 h.sides.right };
         op = h.op;
         may = may_back atom.op atom.left atom.right both.0 both.1 h.may;
       }

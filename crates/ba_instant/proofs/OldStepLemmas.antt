@@ -17,9 +17,9 @@ use Rattle.ba_facts.specs.declared.term.Side.TheVariants.{One, Two}
 use Rattle.ba_facts.specs.declared.term.Term.{Term}
 use Rattle.ba_kernel.proofs.StepFits.{All-at}
 use Rattle.ba_kernel.proofs.TidyLemmas.{term_there}
-use Rattle.ba_kernel.specs.Effects.{AreEqualAt, IsNotNullAt}
-use Rattle.ba_kernel.specs.News.{AreEqualIn, EntryIsMet, IsNewOn, IsRound, KeyIsMet, LinkIsMet, RuleIsMet, ViewIsMet}
-use Rattle.ba_kernel.specs.Tests.{FactsPass, KeyPasses, LinkPasses, RulePasses, ViewPasses}
+use Rattle.ba_kernel.specs.News.{IsNewOn}
+use Rattle.ba_kernel.specs.Steps.{AreEqualAt, AreEqualIn, EntryIsMet, FactsPass, IsNotNullAt, IsRound, KeyIsMet, KeyPasses, LinkIsMet, LinkPasses, RuleIsMet}
+use Rattle.ba_kernel.specs.Steps.{RulePasses, ViewIsMet, ViewPasses}
 use Rattle.ba_kernel.specs.declared.problem.Problem.{Problem}
 use Rattle.ba_kernel.specs.declared.step.Step.{Step}
 use Rattle.ba_kernel.specs.declared.step.Step.TheVariants as steps

@@ -12,9 +12,8 @@ use Rattle.ba_facts.specs.declared.branch.Branch.{Branch}
 use Rattle.ba_facts.specs.declared.term.Fact.{Fact}
 use Rattle.ba_facts.specs.declared.term.Term.{Term}
 use Rattle.ba_kernel.specs.Courses.{IsOpen, branch_of}
-use Rattle.ba_kernel.specs.Effects.{AreEqualAt}
-use Rattle.ba_kernel.specs.News.{IsRound}
-use Rattle.ba_kernel.specs.Tests.{Course, KeyPasses}
+use Rattle.ba_kernel.specs.Steps.{AreEqualAt, IsRound, KeyPasses}
+use Rattle.ba_kernel.specs.Tests.{Course}
 use Rattle.ba_kernel.specs.declared.step.Step.{Step}
 use Rattle.ba_kernel.specs.declared.step.Step.TheVariants as steps
 use Rattle.ba_instant.proofs.ChaseLemmas.{new_on}

@@ -17,7 +17,7 @@ use Rattle.ba_facts.specs.declared.branch.Branch.{Branch}
 use Rattle.ba_facts.specs.declared.term.Fact.{Fact}
 use Rattle.ba_facts.specs.declared.term.Term.{Term}
 use Rattle.ba_facts.specs.declared.term.Term.TheVariants.{Unknown}
-use Rattle.ba_kernel.specs.Effects.{AreEqualAt}
+use Rattle.ba_kernel.specs.Steps.{AreEqualAt}
 use Rattle.ba_instant.proofs.PairLemmas.{shared_by}
 use Rattle.ba_instant.specs.Scans.{AreRecent}
 use Rattle.ba_instant.specs.Partners.{ArePartners, Gains, HasAny, IsEqualIn, IsEqualOnAny}

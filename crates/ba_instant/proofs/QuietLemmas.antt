@@ -4,7 +4,8 @@ use Rattle.std.proofs.lemmas.Bool.{cases_lt}
 use Rattle.ba_facts.specs.declared.branch.Branch.{Branch}
 use Rattle.ba_kernel.specs.Courses.{branch_of}
 use Rattle.ba_kernel.specs.Effects.{IsEntryRound}
-use Rattle.ba_kernel.specs.News.{IsNewOn, IsRound}
+use Rattle.ba_kernel.specs.News.{IsNewOn}
+use Rattle.ba_kernel.specs.Steps.{IsRound}
 use Rattle.ba_kernel.specs.declared.problem.Problem.{Problem}
 use Rattle.ba_kernel.specs.declared.problem.ProblemEntry.{ProblemEntry}
 use Rattle.ba_kernel.specs.declared.step.Step.{Step}

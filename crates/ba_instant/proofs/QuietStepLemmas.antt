@@ -11,14 +11,15 @@ use Rattle.ba_model.specs.declared.query.Operand.{Operand}
 use Rattle.ba_model.specs.declared.query.Part.{Part}
 use Rattle.ba_model.specs.declared.schema.Schema.{Schema}
 use Rattle.ba_facts.specs.Known.{Known, itself}
-use Rattle.ba_facts.specs.Matches.{IsFactOf, IsMapping, IsShown, Under, term_of, terms_at}
+use Rattle.ba_facts.specs.Matches.{IsFactOf, IsMapping, IsShown, Under, row_of, term_of, terms_at}
 use Rattle.ba_facts.specs.Shown.{ShowsOf}
 use Rattle.ba_facts.specs.declared.branch.Branch.{Branch}
 use Rattle.ba_facts.specs.declared.term.Fact.{Fact}
 use Rattle.ba_facts.specs.declared.term.Side.{Side}
 use Rattle.ba_facts.specs.declared.term.Term.{Term}
 use Rattle.ba_kernel.proofs.StepFits.{All-at}
-use Rattle.ba_kernel.specs.Effects.{Yields, rows_at}
+use Rattle.ba_kernel.specs.Effects.{rows_at}
+use Rattle.ba_kernel.specs.Steps.{FactsPass}
 use Rattle.ba_instant.specs.QuietSteps.{FactsAreFilled, GivesRow, IsOneWith, IsPlain, IsRowFor}
 use Rattle.ba_instant.specs.Windows.{IsToldOf}
 
@@ -81,11 +82,11 @@ module _ (s : Schema) (b : Branch) (filled : FactsAreFilled s b) where
       let rest : map (term_of rows) head ≡ map Some row = cc in
       (record { term = t; is = first; class = itself }, head_given rows head row rest)
 
-  pub yields_gives : (side : Side) (part : Part) (facts : List ℕ) (row : List Term) → Yields b side part facts row → All (Under (IsPlain k) (rows_at b facts)) part.conds →
+  pub pass_gives : (side : Side) (part : Part) (facts : List ℕ) (row : List Term) → FactsPass b side part facts → row_of b facts part.head ≡ map Some row → All (Under (IsPlain k) (rows_at b facts)) part.conds →
       GivesRow s b part (rows_at b facts) row
-  yields_gives side part facts row h plain =
+  pass_gives side part facts row h row_is plain =
       record {
         rows_for = fact_rows side part.from facts h.mapping;
         told = told_as_shown b (rows_at b facts) part.conds h.shown plain;
-        head = head_given (rows_at b facts) part.head row h.head;
+        head = head_given (rows_at b facts) part.head row row_is;
       }

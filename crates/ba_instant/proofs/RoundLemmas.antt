@@ -5,7 +5,8 @@ use Rattle.ba_facts.specs.Matches.{round_of}
 use Rattle.ba_facts.specs.declared.branch.Branch.{Branch}
 use Rattle.ba_facts.specs.declared.term.TermAtom.{TermAtom}
 use Rattle.ba_kernel.specs.Effects.{IsEntryRound, SharesLiteral}
-use Rattle.ba_kernel.specs.News.{IsNewAt, IsNewRound, IsRound, IsSplitRound}
+use Rattle.ba_kernel.specs.News.{IsNewAt, IsNewRound}
+use Rattle.ba_kernel.specs.Steps.{IsRound, IsSplitRound}
 use Rattle.ba_kernel.specs.declared.problem.Problem.{Problem}
 use Rattle.ba_kernel.specs.declared.problem.ProblemEntry.{ProblemEntry}
 use Rattle.ba_kernel.specs.declared.step.Step.{Step}

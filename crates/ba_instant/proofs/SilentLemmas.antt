@@ -12,7 +12,7 @@ use Rattle.ba_facts.specs.declared.term.Side.TheVariants.{One, Two}
 use Rattle.ba_facts.specs.declared.term.Term.{Term}
 use Rattle.ba_kernel.proofs.TidyLemmas.{term_there}
 use Rattle.ba_kernel.specs.News.{IsNewOn}
-use Rattle.ba_kernel.specs.Tests.{GoalPasses}
+use Rattle.ba_kernel.specs.Steps.{GoalPasses}
 use Rattle.ba_kernel.specs.declared.problem.Problem.{Problem}
 use Rattle.ba_kernel.specs.declared.step.Step.TheVariants as steps
 use Rattle.ba_instant.proofs.CarryLemmas.{absurd_back}

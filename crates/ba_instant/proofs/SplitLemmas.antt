@@ -14,9 +14,9 @@ use Rattle.ba_facts.specs.declared.term.Side.TheVariants.{One, Two}
 use Rattle.ba_facts.specs.declared.term.Term.{Term}
 use Rattle.ba_facts.specs.declared.term.TermAtom.{TermAtom}
 use Rattle.ba_kernel.specs.Courses.{IsOpen}
-use Rattle.ba_kernel.specs.News.{IsCandidate, IsOfNewKind}
-use Rattle.ba_kernel.specs.NewParts.{IsAtomOfParts, IsAtomOfRules, IsAtomOfViews}
+use Rattle.ba_kernel.specs.Steps.{IsCandidate, IsOfNewKind}
 use Rattle.ba_kernel.specs.Tests.{Course}
+use Rattle.ba_kernel.specs.NewParts.{IsAtomOfParts, IsAtomOfRules, IsAtomOfViews}
 use Rattle.ba_kernel.specs.declared.step.Step.{Step}
 use Rattle.ba_kernel.specs.declared.step.Step.TheVariants as steps
 use Rattle.ba_instant.proofs.ChaseLemmas.{new_on}

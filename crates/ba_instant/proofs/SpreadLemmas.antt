@@ -20,7 +20,7 @@ use Rattle.ba_facts.specs.declared.term.Side.{Side}
 use Rattle.ba_facts.specs.declared.term.Term.{Term}
 use Rattle.ba_facts.specs.declared.term.TermAtom.{TermAtom}
 use Rattle.ba_kernel.specs.Courses.{IsOpen}
-use Rattle.ba_kernel.specs.News.{IsOfNewKind}
+use Rattle.ba_kernel.specs.Steps.{IsOfNewKind}
 use Rattle.ba_kernel.specs.Tests.{Course}
 use Rattle.ba_kernel.specs.declared.step.Step.{Step}
 use Rattle.ba_kernel.specs.declared.step.Step.TheVariants as steps

@@ -11,7 +11,7 @@ use Rattle.ba_facts.specs.declared.term.Term.TheVariants.{Unknown}
 use Rattle.ba_facts.specs.declared.term.TermAtom.{TermAtom}
 use Rattle.ba_instant.specs.Offers.{fact_round}
 use Rattle.ba_kernel.proofs.StepFits.{Contains-at}
-use Rattle.ba_kernel.specs.News.{IsCandidate, IsSplitRound, of_view, of_goal, of_rule}
+use Rattle.ba_kernel.specs.Steps.{IsCandidate, IsSplitRound, of_goal, of_rule, of_view}
 use Rattle.ba_kernel.specs.declared.problem.Problem.{Problem}
 use Rattle.ba_model.specs.declared.query.Atom.{Atom}
 use Rattle.ba_model.specs.declared.query.Operand.{Operand}

@@ -9,7 +9,7 @@ use Rattle.ba_facts.specs.declared.branch.Branch.{Branch}
 use Rattle.ba_facts.specs.declared.matches.search.Wanted.TheVariants.{Shown}
 use Rattle.ba_facts.specs.declared.term.Side.{Side}
 use Rattle.ba_kernel.specs.Courses.{branch_of}
-use Rattle.ba_kernel.specs.News.{IsRound}
+use Rattle.ba_kernel.specs.Steps.{IsRound}
 use Rattle.ba_kernel.specs.Tests.{Course}
 use Rattle.ba_kernel.specs.declared.step.Step.{Step}
 use Rattle.ba_kernel.specs.declared.step.Step.TheVariants as steps

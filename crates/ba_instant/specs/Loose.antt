@@ -10,7 +10,8 @@ use Rattle.ba_facts.specs.declared.term.Lesson.TheVariants.{Holds}
 use Rattle.ba_facts.specs.declared.term.Term.{Term}
 use Rattle.ba_facts.specs.declared.term.TermAtom.{TermAtom}
 use Rattle.ba_kernel.specs.Effects.{with_lessons}
-use Rattle.ba_kernel.specs.News.{IsNewOn, IsRound}
+use Rattle.ba_kernel.specs.News.{IsNewOn}
+use Rattle.ba_kernel.specs.Steps.{IsRound}
 use Rattle.ba_kernel.specs.declared.problem.Problem.{Problem}
 use Rattle.ba_kernel.specs.declared.step.Step.{Step}
 use Rattle.ba_instant.specs.Offers.{IsEntryOf, IsKeyStep, IsLinkStep, IsSplitStep}

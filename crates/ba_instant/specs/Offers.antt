@@ -21,9 +21,10 @@ use Rattle.ba_facts.specs.declared.term.Side.TheVariants.{One, Two}
 use Rattle.ba_facts.specs.declared.term.Term.{Term}
 use Rattle.ba_facts.specs.declared.term.TermAtom.{TermAtom}
 use Rattle.ba_kernel.specs.Courses.{branch_of}
-use Rattle.ba_kernel.specs.News.{IsNewAt, IsRound}
+use Rattle.ba_kernel.specs.News.{IsNewAt}
+use Rattle.ba_kernel.specs.Steps.{FactsPass, IsRound}
+use Rattle.ba_kernel.specs.Tests.{Course, open_at}
 use Rattle.ba_kernel.specs.NewParts.{IsAtomOfParts, IsAtomOfRules, IsAtomOfSides, IsAtomOfViews}
-use Rattle.ba_kernel.specs.Tests.{Course, FactsPass, open_at}
 use Rattle.ba_kernel.specs.declared.problem.Problem.{Problem}
 use Rattle.ba_kernel.specs.declared.step.Step.{Step}
 use Rattle.ba_kernel.specs.declared.step.Step.TheVariants as steps

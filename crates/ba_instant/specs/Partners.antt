@@ -4,7 +4,7 @@ use Rattle.ba_model.specs.declared.schema.Schema.{Schema}
 use Rattle.ba_facts.specs.Laid.{IsTermOf}
 use Rattle.ba_facts.specs.declared.branch.Branch.{Branch}
 use Rattle.ba_facts.specs.declared.term.Fact.{Fact}
-use Rattle.ba_kernel.specs.Effects.{AreEqualAt}
+use Rattle.ba_kernel.specs.Steps.{AreEqualAt}
 use Rattle.ba_instant.specs.Scans.{ShareKey}
 
 -- each fact that passes the test of some key with the one is one of these

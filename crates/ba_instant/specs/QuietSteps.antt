@@ -20,8 +20,9 @@ use Rattle.ba_facts.specs.declared.term.Side.{Side}
 use Rattle.ba_facts.specs.declared.term.Side.TheVariants.{One}
 use Rattle.ba_facts.specs.declared.term.Term.{Term}
 use Rattle.ba_kernel.specs.Courses.{IsOpen, ProblemFits, Runs, Slots, Takes, branch_of}
-use Rattle.ba_kernel.specs.Effects.{IsCase, IsLinkOf, rows_at}
-use Rattle.ba_kernel.specs.News.{IsNewOn, IsRound}
+use Rattle.ba_kernel.specs.Effects.{IsCase, rows_at}
+use Rattle.ba_kernel.specs.News.{IsNewOn}
+use Rattle.ba_kernel.specs.Steps.{IsLinkOf, IsRound}
 use Rattle.ba_kernel.specs.declared.problem.Problem.{Problem}
 use Rattle.ba_kernel.specs.declared.problem.ProblemEntry.{ProblemEntry}
 use Rattle.ba_kernel.specs.declared.step.Step.{Step}

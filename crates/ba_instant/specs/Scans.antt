@@ -9,9 +9,9 @@ use Rattle.ba_facts.specs.Matches.{round_of}
 use Rattle.ba_facts.specs.declared.branch.Branch.{Branch}
 use Rattle.ba_facts.specs.declared.term.Fact.{Fact}
 use Rattle.ba_kernel.specs.Courses.{IsOpen}
-use Rattle.ba_kernel.specs.Effects.{AreEqualAt}
-use Rattle.ba_kernel.specs.News.{IsNewOn, IsRound}
-use Rattle.ba_kernel.specs.Tests.{Course, KeyPasses}
+use Rattle.ba_kernel.specs.News.{IsNewOn}
+use Rattle.ba_kernel.specs.Steps.{AreEqualAt, IsRound, KeyPasses}
+use Rattle.ba_kernel.specs.Tests.{Course}
 use Rattle.ba_kernel.specs.declared.problem.Problem.{Problem}
 use Rattle.ba_kernel.specs.declared.step.Step.{Step}
 use Rattle.ba_kernel.specs.declared.step.Step.TheVariants as steps

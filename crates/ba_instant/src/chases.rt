@@ -1,6 +1,6 @@
 //! Entries and links.
 ghost use Rattle.std.specs.Prelude.{◌≡◌, ◌<◌, IfOk, OnOk, length};
-ghost use Rattle.ba_kernel.specs.News.{IsRoundOfEntry};
+ghost use Rattle.ba_kernel.specs.Steps.{IsRoundOfEntry};
 ghost use Rattle.ba_kernel.specs.declared.step.Step.TheVariants.{Entry};
 ghost use Rattle.ba_instant.specs.Scans.{ImprovesBy, IsScan, schema_of};
 ghost use Rattle.ba_instant.specs.Offers.{IsEntryOf, IsLinkOfFact, IsLinkStep, links_at};

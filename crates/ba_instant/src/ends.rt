@@ -14,7 +14,7 @@ use crate::quiet::{left_after, quiet_round};
 use crate::waiting::Waiting;
 use ba_facts::Branch;
 use ba_kernel::{Problem, Proved, Search, Step};
-use ba_model::{Duplicate, Failure, List, Owned};
+use ba_model::{Duplicate, List, Owned};
 use std::alloc::{AllocError, Global};
 
 /// A problem, the steps that were taken from its start, and an open branch that they leave, on
@@ -146,14 +146,9 @@ fn take(alloc: Global, search: &mut Search, pick: Pick, due: Due) -> Result<Wait
     let quiet = quiet_round(search, &found);
     let left = left_after(alloc, search, &found, agenda)?;
     let mut waiting = Waiting::beside(alloc, search, &found.step, left);
-    match search.apply(alloc, found.step) {
-        Ok(()) => {
-            keep_quiet(alloc, search, pick, quiet, &mut waiting)?;
-            Ok(waiting)
-        }
-        Err(Failure::NoMemory) => Err(AllocError),
-        Err(Failure::Fault(_)) => unreachable!(),
-    }
+    search.take(alloc, found.step)?;
+    keep_quiet(alloc, search, pick, quiet, &mut waiting)?;
+    Ok(waiting)
 }
 
 /// The proof that the search is, of which no branch is open.

@@ -3,7 +3,7 @@ ghost use Rattle.std.specs.Prelude.{◌≡◌, ◌↔◌, All, Any, IfOk, IsTrue
 ghost use Rattle.ba_facts.specs.Known.{seen};
 ghost use Rattle.ba_facts.specs.Shown.{IsEqual};
 ghost use Rattle.ba_kernel.specs.Courses.{IsOpen};
-ghost use Rattle.ba_kernel.specs.Effects.{AreEqualAt};
+ghost use Rattle.ba_kernel.specs.Steps.{AreEqualAt};
 ghost use Rattle.ba_instant.specs.Scans.{AreEqualBy, ImprovesBy, IsKeyOf, IsKeyWith, IsPair, IsScan, IsTimelyKey, IsTurn, ShareKey, schema_of};
 ghost use Rattle.ba_instant.specs.Offers.{IsKeyOfPair, IsKeyStep, keys_at};
 ghost use Rattle.ba_instant.specs.Partners.{ArePartners};

@@ -21,7 +21,7 @@ use Rattle.ba_proof.specs.Checked.{Checks, HasFault, IsNextFault, IsStrongQuesti
 use Rattle.ba_proof.specs.declared.checking.CheckFault.{CheckFault}
 use Rattle.ba_proof.specs.declared.checking.CheckFault.TheVariants.{NotShown, StillOpen}
 
--- a step is refused, or memory is wanting for it
+-- a step is refused, or want of memory is told of it
 pub refused : (c : Course) (p : Problem) (steps yielded rest : List Step) (step : Step) (e : Failure CheckFault) → c.problem ≡ p → c.steps ≡ yielded →
     steps ≡ yielded ++ step ∷ rest → IsNextFault c step e → Checks p steps (Err e)
 refused c p steps yielded rest step NoMemory of so_far whole h = lemmas.refused c p steps yielded rest step NoMemory of so_far whole h

@@ -11,7 +11,7 @@ use Rattle.ba_comply.specs.Comply.{Strong}
 use Rattle.ba_comply.specs.declared.trace.TraceEntry.{TraceEntry}
 use Rattle.ba_kernel.specs.Courses.{RuleFits, Runs, Slots}
 use Rattle.ba_kernel.specs.Problems.{problem_of}
-use Rattle.ba_kernel.specs.Replays.{Closes, RefusesAt, WantsMemory}
+use Rattle.ba_kernel.specs.Replays.{Closes, MayWantMemory, RefusesAt}
 use Rattle.ba_kernel.specs.Tests.{Course, IsCourse, IsPassed, IsRefused, Proof}
 use Rattle.ba_kernel.specs.declared.problem.Problem.{Problem}
 use Rattle.ba_kernel.specs.declared.step.Step.{Step}
@@ -34,10 +34,11 @@ abbrev pub HasFault : Problem → List Step → CheckFault → Type 0
 HasFault p steps (NotShown step fault) = RefusesAt p steps step fault
 HasFault p steps (StillOpen branches) = LeavesOpen p steps branches
 
--- the answer is the proof that the steps are, or a fault that they have; or memory is wanting
+-- the answer is the proof that the steps are, or a fault that they have; or want of memory, which
+-- stands in place of either
 abbrev pub Checks : Problem → List Step → Result Proof (Failure CheckFault) → Type 0
 Checks p steps (Ok proof) = Closes p steps × (proof ≡ record { problem = p; steps = steps })
-Checks p steps (Err NoMemory) = WantsMemory p steps
+Checks p steps (Err NoMemory) = MayWantMemory p
 Checks p steps (Err (Fault fault)) = HasFault p steps fault
 
 -- whatever question it is the problem of is strongly compliant under its context and after its rows
@@ -53,7 +54,8 @@ pub record IsPolicy (policy : Policy) : Type 0 where
 
 -- ---- one step
 
--- the next step of a course is refused with the fault, which has its number; or memory is wanting for it, and it passes its tests
+-- the next step of a course is refused with the fault, which has its number; or want of memory is
+-- told, and it passes its tests
 abbrev pub IsNextFault : Course → Step → Failure CheckFault → Type 0
 IsNextFault c step NoMemory = IsCourse c × IsPassed c step
 IsNextFault c step (Fault (StillOpen branches)) = ⊥

@@ -21,12 +21,14 @@ pub enum CheckFault {
     StillOpen { branches: u32 },
 }
 
-/// The proof, if it is one: each step is accepted, one after another from the start of the problem, and in the end no branch is open.
-/// Then the problem's question is strongly compliant under its context and after its rows.
+/// The proof, if it is one: each step is accepted, one after another from the start of the problem,
+/// and in the end no branch is open. Then the problem's question is strongly compliant under its
+/// context and after its rows.
 ///
-/// Else `NotShown` tells the first step that isn't accepted and the first of its tests that fails, or `StillOpen` that all are accepted and
-/// how many branches are open. Nothing is searched for: only the steps that are given are taken. `NoMemory` tells that memory was wanting
-/// for the start, or for a step that isn't refused after those before it; it leaves nothing behind.
+/// Else `NotShown` tells the first step that isn't accepted and the first of its tests that fails,
+/// or `StillOpen` that all are accepted and how many branches are open. Nothing is searched for:
+/// only the steps that are given are taken. `NoMemory` may stand in place of any of these, and
+/// leaves nothing behind; where the goal has no part, no memory is taken and none is told.
 pub fn check(alloc: Global, proof: Proof) -> Result<Proved, Failure<CheckFault>>
     requires fits { ProblemFits proof.problem }
     requires few { length proof.steps ≤ most_steps }

@@ -16,7 +16,8 @@ use Rattle.ba_facts.specs.declared.term.Term.{Term}
 use Rattle.ba_facts.specs.declared.term.Term.TheVariants as terms
 use Rattle.ba_kernel.proofs.StepFits.{All-at}
 use Rattle.ba_kernel.specs.Courses.{IsStartOf, Runs, Slots, after, branch_of, nothing_known, start, next}
-use Rattle.ba_kernel.specs.Effects.{IsCase, Leads, rows_at, with_fact, with_facts, with_lessons}
+use Rattle.ba_kernel.specs.Effects.{IsCase, rows_at, with_fact, with_facts, with_lessons}
+use Rattle.ba_kernel.specs.Steps.{Leads}
 use Rattle.ba_kernel.specs.Tests.{FactIsTidy}
 use Rattle.ba_kernel.specs.declared.problem.Problem.{Problem}
 use Rattle.ba_kernel.specs.declared.step.Step.{Step}
@@ -117,16 +118,16 @@ module _ (c : Context) (p : Problem) where
   none_fixed cases e = subst (All (IsFixedOn c)) (sym e) (All-nil (IsFixedOn c))
 
   leads_fixed : (b : Branch) (step : Step) (cases : List Branch) → IsFixedOn c b → Leads p b step cases → All (IsFixedOn c) cases
-  leads_fixed b (steps.Entry branch entry) cases h leads = cases_fixed c s One leads.round b leads.row leads.it.query.parts cases h leads.cases_are
+  leads_fixed b (steps.Entry branch entry) cases h leads = cases_fixed c s One leads.round b leads.row leads.passes.it.query.parts cases h leads.cases_are
   leads_fixed b (steps.Key branch key left right) cases h leads = one_fixed (with_lessons b _) cases leads.cases_are (lessons_fixed c s b _ h)
   leads_fixed b (steps.Link branch link fact) cases h leads =
-      let target = with_fact s leads.f.side (1 + leads.f.round) b leads.it.target in
+      let target = with_fact s leads.passes.f.side (1 + leads.passes.f.round) b leads.passes.it.target in
       one_fixed (with_lessons target leads.lessons) cases leads.cases_are
-      (lessons_fixed c s target leads.lessons (fact_fixed c s leads.f.side (1 + leads.f.round) b leads.it.target h))
+      (lessons_fixed c s target leads.lessons (fact_fixed c s leads.passes.f.side (1 + leads.passes.f.round) b leads.passes.it.target h))
   leads_fixed b (steps.Rule branch rule part facts) cases h leads =
-      cases_fixed c s leads.side (1 + round_of b facts) b leads.row leads.it.right.parts cases h leads.cases_are
+      cases_fixed c s leads.passes.side (1 + round_of b facts) b leads.next.row leads.passes.is_part.of.right.parts cases h leads.next.cases_are
   leads_fixed b (steps.View branch view part facts) cases h leads =
-      cases_fixed c s Two (1 + round_of b facts) b leads.row leads.it.query.parts cases h leads.cases_are
+      cases_fixed c s Two (1 + round_of b facts) b leads.next.row leads.passes.is_part.of.query.parts cases h leads.next.cases_are
   leads_fixed b (steps.Split branch atom) cases h leads =
       subst (All (IsFixedOn c)) (sym leads.cases_are)
       (All-cons (IsFixedOn c) (with_lessons b _) (with_lessons b _ ∷ []) (lessons_fixed c s b _ h)

@@ -1,6 +1,7 @@
 //! Shapes of queries.
 ghost use Rattle.std.specs.Prelude.{◌≡◌, ◌%◌, ◌↔◌, IfOk, IsTrue, map};
 ghost use Rattle.std.specs.List.{sum};
+ghost use Rattle.ba_model.specs.Limits.{shard_count};
 ghost use Rattle.ba_template.specs.Shapes.{shape_atom, shape_of, shape_operand, shape_part, shard_of, weight};
 
 use ba_model::{Atom, Duplicate, Kind, List, Op, Operand, Part, Query, SHARDS, Same};
