@@ -89,27 +89,27 @@ Added p b step cases = AllZip (CaseAdds p.policy.schema b) (adds p (tables_of b)
 pub cases_add : (p : Problem) (b : Branch) (step : Step) (cases : List Branch) → Leads p b step cases → Added p b step cases
 cases_add p b (steps.Entry branch entry) cases h =
     subst (λ (ts : Layout). AllZip (CaseAdds p.policy.schema b) ts cases)
-    (sym (ap (λ it. unwrap_or (option_map (λ e. from_of e.query.parts) it) []) h.there))
-    (parts_added p.policy.schema b One h.round h.row h.it.query.parts cases h.cases_are)
+    (sym (ap (λ it. unwrap_or (option_map (λ e. from_of e.query.parts) it) []) h.passes.there))
+    (parts_added p.policy.schema b One h.round h.row h.passes.it.query.parts cases h.cases_are)
 cases_add p b (steps.Key branch key left right) cases h =
     one_added p.policy.schema b [] _ cases h.cases_are (nothing_added p.policy.schema b _ _ refl)
 cases_add p b (steps.Link branch link fact) cases h =
-    let at : slice_get (tables_of b) fact ≡ Some h.f.table = table_at b.facts fact h.f h.fact_is in
-    let target : option_and_then (λ n. option_and_then (λ (table : Table). slice_get table.links link) (slice_get p.policy.schema.tables n)) (slice_get (tables_of b) fact) ≡ Some h.it =
+    let at : slice_get (tables_of b) fact ≡ Some h.passes.f.table = table_at b.facts fact h.passes.f h.passes.fact_is in
+    let target : option_and_then (λ n. option_and_then (λ (table : Table). slice_get table.links link) (slice_get p.policy.schema.tables n)) (slice_get (tables_of b) fact) ≡ Some h.passes.it =
     ap (option_and_then (λ n. option_and_then (λ (table : Table). slice_get table.links link) (slice_get p.policy.schema.tables n))) at ∙
-    (ap (option_and_then (λ (table : Table). slice_get table.links link)) h.link_of.table_is ∙ h.link_of.link_is) in
+    (ap (option_and_then (λ (table : Table). slice_get table.links link)) h.passes.link_of.table_is ∙ h.passes.link_of.link_is) in
     subst (λ (ts : Layout). AllZip (CaseAdds p.policy.schema b) ts cases)
     (sym (ap (λ o. one_of_table (option_map (λ (it : Link). it.target) o)) target))
-    (one_added p.policy.schema b (h.it.target ∷ []) _ cases h.cases_are
-    (facts_added p.policy.schema h.f.side (1 + h.f.round) b _ (h.it.target ∷ []) h.lessons refl))
+    (one_added p.policy.schema b (h.passes.it.target ∷ []) _ cases h.cases_are
+    (facts_added p.policy.schema h.passes.f.side (1 + h.passes.f.round) b _ (h.passes.it.target ∷ []) h.lessons refl))
 cases_add p b (steps.Rule branch rule part facts) cases h =
     subst (λ (ts : Layout). AllZip (CaseAdds p.policy.schema b) ts cases)
-    (sym (ap (λ it. unwrap_or (option_map (λ e. from_of e.right.parts) it) []) h.rule_is))
-    (parts_added p.policy.schema b h.side _ h.row h.it.right.parts cases h.cases_are)
+    (sym (ap (λ it. unwrap_or (option_map (λ e. from_of e.right.parts) it) []) h.passes.is_part.rule_is))
+    (parts_added p.policy.schema b h.passes.side _ h.next.row h.passes.is_part.of.right.parts cases h.next.cases_are)
 cases_add p b (steps.View branch view part facts) cases h =
     subst (λ (ts : Layout). AllZip (CaseAdds p.policy.schema b) ts cases)
-    (sym (ap (λ it. unwrap_or (option_map (λ e. from_of e.query.parts) it) []) h.view_is))
-    (parts_added p.policy.schema b Two _ h.row h.it.query.parts cases h.cases_are)
+    (sym (ap (λ it. unwrap_or (option_map (λ e. from_of e.query.parts) it) []) h.passes.is_part.view_is))
+    (parts_added p.policy.schema b Two _ h.next.row h.passes.is_part.of.query.parts cases h.next.cases_are)
 cases_add p b (steps.Split branch atom) cases h =
     subst (AllZip (CaseAdds p.policy.schema b) ([] ∷ [] ∷ [])) (sym h.cases_are)
     (nothing_added p.policy.schema b _ _ refl, (nothing_added p.policy.schema b _ _ refl, tt))

@@ -507,7 +507,12 @@ module _ (values : List Value) (p : Problem) (vars : List Kind) (assumed : List 
         (zip_itself (PartAt values) (part_itself values) parts) (zip_itself (TermAt values) (term_itself values) row) (l.next).cases_are in (
           its.0,
           record {
-            passes = record { it = k.it; is_part = k.is_part; side = k.side; pass = pass_stays values b c h k.side k.it facts k.pass };
+            passes = record {
+              it = k.it;
+              is_part = record { of = k.is_part.of; rule_is = k.is_part.rule_is; part_is = k.is_part.part_is };
+              side = k.side;
+              pass = pass_stays values b c h k.side k.it facts k.pass;
+            };
             next = record { row = row; row_is = row_gives values b c h k.it facts row (l.next).row_is; cases_are = its.1 };
           },
           its.2,
@@ -522,7 +527,11 @@ module _ (values : List Value) (p : Problem) (vars : List Kind) (assumed : List 
         (zip_itself (PartAt values) (part_itself values) parts) (zip_itself (TermAt values) (term_itself values) row) (l.next).cases_are in (
           its.0,
           record {
-            passes = record { it = k.it; is_part = k.is_part; pass = pass_stays values b c h One k.it facts k.pass };
+            passes = record {
+              it = k.it;
+              is_part = record { of = k.is_part.of; view_is = k.is_part.view_is; part_is = k.is_part.part_is };
+              pass = pass_stays values b c h One k.it facts k.pass;
+            };
             next = record { row = row; row_is = row_gives values b c h k.it facts row (l.next).row_is; cases_are = its.1 };
           },
           its.2,
@@ -569,7 +578,7 @@ module _ (values : List Value) (p : Problem) (vars : List Kind) (assumed : List 
     leads_on (steps.Absurd branch) new at l =
         subst (λ (it : Step). LeadsOn b c it cases) (sym at) (
           [],
-          record { absurd = absurd_follows b.known c.known (follows values b c h) l.absurd; cases_are = refl },
+          record { passes = absurd_follows b.known c.known (follows values b c h) l.passes; cases_are = refl },
           subst (λ (xs : List Branch). AllZip (Grows values) xs []) (sym l.cases_are) tt,
         )
     leads_on (steps.Goal branch part facts) new at l = subst (λ (it : Step). LeadsOn b c it cases) (sym at) (goal_on branch part facts l)
