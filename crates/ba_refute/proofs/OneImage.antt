@@ -1,5 +1,5 @@
 -- A branch that isn't absurd has one image at most.
-use Rattle.std.proofs.Common.{◌≡◌, ◌∙◌, ℕ, ℤ, pos, zero, suc, ◌+◌, ◌<◌, ◌≤◌, [], ◌∷◌, ◌++◌, ◌×◌, ◌⊎◌, List, Contains, All, Option, Some, None, ap, arith, get_or, inl, inr, length, refl, subst, sym, take, ⊎_elim}
+use Rattle.std.proofs.Common.{◌≡◌, ◌∙◌, ℕ, ℤ, pos, zero, suc, ◌+◌, ◌<◌, ◌≤◌, [], ◌∷◌, ◌++◌, ◌⊎◌, List, Contains, All, Option, Some, None, ap, arith, get_or, inl, inr, length, refl, subst, sym, take, ⊎_elim}
 use Rattle.std.proofs.lemmas.Bool.{cases_lt}
 use Rattle.std.proofs.lemmas.Cmp.{nat_cmp_total}
 use Rattle.std.proofs.lemmas.Int.{by_lt_z, ints}
@@ -53,7 +53,7 @@ module _ {X : Type 0} (xs ys : List X) (same_length : length xs ≡ length ys) (
 
   pub lists_one : xs ≡ ys
   lists_one =
-      sym (take_all xs (length xs) (omega arith)) ∙ taken_one (length xs) (omega arith) ∙ take_all ys (length xs) (omega (arith, same_length))
+      sym (take_all (length xs) xs (omega arith)) ∙ taken_one (length xs) (omega arith) ∙ take_all (length xs) ys (omega (arith, same_length))
 
 -- ---- numbers
 
@@ -116,7 +116,7 @@ module _ (k : Known) (used : List ℤ) (nodes : List ℕ) (xs ys : List ℤ) (h 
 
   pub numbers_one : xs ≡ ys
   numbers_one =
-      sym (take_all xs (length nodes) (omega (arith, h.len))) ∙ numbers_taken (length nodes) (omega arith) ∙ take_all ys (length nodes) (omega (arith, g.len))
+      sym (take_all (length nodes) xs (omega (arith, h.len))) ∙ numbers_taken (length nodes) (omega arith) ∙ take_all (length nodes) ys (omega (arith, g.len))
 
 -- ---- nodes
 

@@ -2,7 +2,7 @@
 use Rattle.std.proofs.Common.{◌≡◌, ◌↔◌, ℕ, zero, suc, ◌+◌, ◌-◌, ◌<◌, ◌≤◌, ◌∷◌, ◌++◌, [], Bool, IsTrue, List, All, Result, Ok, Err, get_or, length, sym, subst, take, arith, ⊎_elim}
 use Rattle.std.proofs.lemmas.Bool.{cases_lt}
 use Rattle.std.proofs.lemmas.List.{take_all, take_more}
-use Rattle.std.proofs.lemmas.List.Elements.{All-contains, All-push, All-weaker, AllZip-push}
+use Rattle.std.proofs.lemmas.List.Elements.{All-contains, All-more, All-push, All-weaker, AllZip-push}
 use Rattle.std.proofs.lemmas.Map.Keys.{sorted_from_all_adjacent}
 use Rattle.std.specs.List.{AllZip, slice_get}
 use Rattle.std.specs.List.Sorted.{IsStrictlySortedBy}
@@ -100,5 +100,10 @@ pub order_whole : (d : RowSet) (lists news all : List (List (List Value))) (i : 
     AllZip SameRows (take i lists) news → IsInOrder d (record { tables = all })
 order_whole d lists news all i past seen is rising same = record {
   rising = subst (All (IsStrictlySortedBy row_cmp)) (sym is) rising;
-  same = subst (λ z. AllZip SameRows d.tables z) (sym is) (subst (λ z. AllZip SameRows z news) seen (subst (λ z. AllZip SameRows z news) (take_all lists i past) same));
+  same = subst (λ z. AllZip SameRows d.tables z) (sym is) (subst (λ z. AllZip SameRows z news) seen (subst (λ z. AllZip SameRows z news) (take_all i lists past) same));
 }
+
+pub rising_more : (lists : List (List (List Value))) (i : ℕ) (list seen : List (List Value)) → i < length lists → list ≡ slice_index_or lists i list → seen ≡ list →
+    IsStrictlySortedBy row_cmp seen → All (IsStrictlySortedBy row_cmp) (take i lists) → All (IsStrictlySortedBy row_cmp) (take (i + 1) lists)
+rising_more lists i list seen less is same rising before =
+    All-more (IsStrictlySortedBy row_cmp) lists i list less before (subst (IsStrictlySortedBy row_cmp) is (subst (IsStrictlySortedBy row_cmp) same rising))
