@@ -1,35 +1,25 @@
 -- Steps on facts that a part is mapped to.
-use Rattle.std.proofs.Common.{◌≡◌, ◌∙◌, ℕ, ◌+◌, ◌<◌, ◌≤◌, inl, inr, List, [], ◌∷◌, ◌++◌, length, map, refl, sym, ap, subst, arith, append_assoc}
-use Rattle.std.proofs.lemmas.List.{map-append}
-use Rattle.std.proofs.lemmas.List.Elements.{All-contains}
+use Rattle.std.proofs.Common.{◌≡◌, ◌∙◌, ℕ, ◌<◌, ◌≤◌, inl, inr, List, [], ◌∷◌, ◌++◌, length, map, refl, sym, ap, subst, arith, append_assoc}
 use Rattle.std.proofs.lemmas.Option.{slice_get_within}
 use Rattle.std.specs.List.{All, Any}
-use Rattle.std.specs.Prelude.{Option, Some, None, option_and_then, slice_get}
+use Rattle.std.specs.Prelude.{Option, Some, slice_get}
 use Rattle.ba_model.specs.declared.policy.View.{View}
-use Rattle.ba_model.specs.declared.query.Atom.{Atom}
-use Rattle.ba_model.specs.declared.query.Op.{Op}
-use Rattle.ba_model.specs.declared.query.Operand.{Operand}
-use Rattle.ba_model.specs.declared.query.Operand.TheVariants.{Col, Val, Param, Var}
 use Rattle.ba_model.specs.declared.query.Part.{Part}
 use Rattle.ba_model.specs.declared.schema.Rule.{Rule}
-use Rattle.ba_facts.proofs.Elements.{get_append_old}
 use Rattle.ba_facts.proofs.WalkLemmas.{completes_last, last_completes, pruned}
-use Rattle.ba_facts.specs.Matches.{IsFactOf, IsMapping, IsShown, IsUndecided, Under, term_of, terms_at}
-use Rattle.ba_kernel.proofs.NewLemmas.{all_at}
+use Rattle.ba_facts.specs.Matches.{IsFactOf, IsMapping, IsShown, terms_at}
 use Rattle.ba_facts.specs.Walks.{FailsAt}
 use Rattle.ba_facts.specs.declared.branch.Branch.{Branch}
 use Rattle.ba_facts.specs.declared.walk.Wanted.TheVariants.{Shown}
 use Rattle.ba_facts.specs.declared.term.Side.{Side}
 use Rattle.ba_facts.specs.declared.term.Side.TheVariants.{One, Two}
-use Rattle.ba_facts.specs.declared.term.Term.{Term}
 use Rattle.ba_kernel.specs.Courses.{IsOpen}
-use Rattle.ba_kernel.specs.Effects.{rows_at}
 use Rattle.ba_kernel.specs.Tests.{Course, FactsPass, GoalPasses, RulePasses, ViewPasses}
 use Rattle.ba_kernel.specs.declared.step.Step.{Step}
 use Rattle.ba_kernel.specs.declared.step.Step.TheVariants as steps
 use Rattle.ba_instant.proofs.ChaseLemmas.{new_on}
-use Rattle.ba_instant.proofs.OfferLemmas.{improves_as, improves_end, improves_next, improves_none}
-use Rattle.ba_instant.specs.Offers.{Improves, IsMapped, IsMappedFrom, IsNewIn, IsOfForm, IsOfSides, OfAny, Upto, step_of}
+use Rattle.ba_instant.proofs.OfferLemmas.{improves_as, improves_none}
+use Rattle.ba_instant.specs.Offers.{Improves, IsMapped, IsMappedFrom, IsNewIn, IsOfForm, IsOfSides, step_of}
 use Rattle.ba_instant.specs.declared.batch.Batch.{Batch}
 use Rattle.ba_instant.specs.declared.mapped.Form.{Form}
 use Rattle.ba_instant.specs.declared.mapped.Form.TheVariants.{OfRule, OfView, OfGoal}

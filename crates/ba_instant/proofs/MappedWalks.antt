@@ -1,20 +1,18 @@
 -- The walk of a mapped part.
-use Rattle.std.proofs.Common.{◌≡◌, ℕ, ◌⊎◌, inl, inr, List, [], ◌∷◌, ◌++◌, length, map, refl, sym, ap, subst, arith}
+use Rattle.std.proofs.Common.{◌≡◌, ℕ, inl, inr, List, [], ◌∷◌, ◌++◌, length, map, refl, sym, subst, arith}
 use Rattle.std.specs.List.{All, Any}
 use Rattle.std.specs.Prelude.{Option}
-use Rattle.ba_model.specs.declared.query.Part.{Part}
 use Rattle.ba_facts.specs.Matches.{IsFactOf, Under, terms_at}
 use Rattle.ba_facts.specs.Walks.{AreMet, Composes, FailsAt, IsHopeless, IsSpared, IsWanted, every}
 use Rattle.ba_facts.specs.declared.branch.Branch.{Branch}
 use Rattle.ba_facts.specs.declared.walk.Walk.{Walk}
-use Rattle.ba_facts.specs.declared.walk.Wanted.{Wanted}
 use Rattle.ba_facts.specs.declared.walk.Wanted.TheVariants.{Shown}
 use Rattle.ba_kernel.specs.declared.step.Step.{Step}
 use Rattle.ba_instant.proofs.MapLemmas.{From, mapped_hopeless, mapped_joined, mapped_off, mapped_on, mapped_parted, mapped_whole}
-use Rattle.ba_instant.proofs.OfferWalks.{along, back_along, improves_less, offered_all, offered_every, offers_compose, offers_spared}
+use Rattle.ba_instant.proofs.OfferWalks.{along, back_along, improves_less, offered_all, offers_compose, offers_spared}
 use Rattle.ba_instant.proofs.OvertakenLemmas.{mapped_overtaken}
 use Rattle.ba_instant.proofs.TakeLemmas.{last_all, not_timely}
-use Rattle.ba_instant.specs.Offers.{Improves, IsStepAmong, IsStepOf, step_of}
+use Rattle.ba_instant.specs.Offers.{IsStepAmong, IsStepOf, step_of}
 use Rattle.ba_instant.specs.Scans.{AreEnough, AreOld, ImprovesBy, IsNoUse, IsScan, IsTimelyOf, IsWalkOf}
 use Rattle.ba_instant.specs.declared.batch.Batch.{Batch}
 use Rattle.ba_instant.specs.declared.mapped.Mapped.{Mapped}

@@ -1,22 +1,19 @@
 -- The walk of a spread.
-use Rattle.std.proofs.Common.{◌≡◌, ℕ, ◌⊎◌, inl, inr, List, [], ◌∷◌, ◌++◌, map, refl, sym, subst}
+use Rattle.std.proofs.Common.{◌≡◌, ℕ, List, [], ◌∷◌, ◌++◌, map, refl, sym, subst}
 use Rattle.std.proofs.lemmas.List.Elements.{All-contains}
 use Rattle.std.specs.List.{All, Any, Contains}
 use Rattle.std.specs.Option.{option_copied}
 use Rattle.std.specs.Prelude.{Option}
-use Rattle.ba_model.specs.declared.query.Part.{Part}
 use Rattle.ba_facts.specs.Alike.{AreAlike}
-use Rattle.ba_facts.specs.Matches.{HeadIs, IsFactOf, IsLive, Under, terms_at}
+use Rattle.ba_facts.specs.Matches.{HeadIs, IsFactOf, Under, terms_at}
 use Rattle.ba_facts.specs.Walks.{AreMet, Composes, IsLost, IsSpared, IsWanted, every}
 use Rattle.ba_facts.specs.declared.branch.Branch.{Branch}
 use Rattle.ba_facts.specs.declared.walk.Walk.{Walk}
-use Rattle.ba_facts.specs.declared.walk.Wanted.{Wanted}
 use Rattle.ba_facts.specs.declared.walk.Wanted.TheVariants.{Live}
 use Rattle.ba_kernel.specs.declared.step.Step.{Step}
 use Rattle.ba_instant.proofs.OfferLemmas.{improves_none}
 use Rattle.ba_instant.proofs.OfferWalks.{along, back_along, offered_all, offers_compose, offers_same, offers_spared}
 use Rattle.ba_instant.proofs.SpreadLemmas.{by_alike, lost, spread_dead, spread_joined, spread_off, spread_on, spread_parted, spread_whole}
-use Rattle.ba_instant.specs.Offers.{Improves}
 use Rattle.ba_instant.specs.Scans.{ImprovesBy, IsWalkOf}
 use Rattle.ba_instant.specs.Spreads.{IsLikeSplits, IsLiveWith, IsSplitAmong, IsSplitFrom, IsSplitOf}
 use Rattle.ba_instant.specs.declared.batch.Batch.{Batch}
