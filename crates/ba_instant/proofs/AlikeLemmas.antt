@@ -265,14 +265,3 @@ choices_alone b cond place fact alone is apart = subst (AreChoices b cond place 
       sound = All-cons (IsLike b fact) fact [] (inl refl) (All-nil (IsLike b fact));
       complete = λ n like. let in_ = Contains-push [] fact in (in_.0, fact, in_.1, in_.2, inr apart);
     }
-
--- ---- facts that were tried
-
-pub tried_more : (tried all : List ℕ) (fact : ℕ) → all ≡ tried → All (λ other. other < fact) tried → All (λ other. other < fact + 1) all
-tried_more tried all fact is h = subst (All (λ other. other < fact + 1)) (sym is) (All-weaker (λ other. other < fact) (λ other. other < fact + 1) (λ other below. omega (arith, below)) tried h)
-
-pub tried_push : (tried all : List ℕ) (fact : ℕ) → all ≡ tried ++ fact ∷ [] → All (λ other. other < fact) tried → All (λ other. other < fact + 1) all
-tried_push tried all fact is h =
-    subst (All (λ other. other < fact + 1)) (sym is)
-    (All-append (λ other. other < fact + 1) tried (fact ∷ []) (tried_more tried tried fact refl h)
-    (All-cons (λ other. other < fact + 1) fact [] (omega arith) (All-nil (λ other. other < fact + 1))))

@@ -3,6 +3,8 @@ mod RoundLemmas
 mod OfferLemmas
 mod ChaseLemmas
 mod MapLemmas
+mod OfferWalks
+mod MappedWalks
 mod SplitLemmas
 mod DueLemmas
 mod LateLemmas
@@ -41,6 +43,7 @@ mod ChoiceLemmas
 mod StandingLemmas
 mod AlikeLemmas
 mod SpreadLemmas
+mod SpreadWalks
 mod PlaceLemmas
 mod LessonLemmas
 mod UnmovedLemmas

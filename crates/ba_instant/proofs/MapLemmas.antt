@@ -1,79 +1,40 @@
 -- Steps on facts that a part is mapped to.
-use Rattle.std.proofs.Common.{◌≡◌, ◌∙◌, ℕ, ◌+◌, ◌<◌, ◌≤◌, inl, inr, List, [], ◌∷◌, ◌++◌, length, map, refl, sym, ap, subst, arith, append_assoc}
-use Rattle.std.proofs.lemmas.List.{map-append}
-use Rattle.std.proofs.lemmas.List.Elements.{All-contains}
+use Rattle.std.proofs.Common.{◌≡◌, ◌∙◌, ℕ, ◌<◌, ◌≤◌, inl, inr, List, [], ◌∷◌, ◌++◌, length, map, refl, sym, ap, subst, arith, append_assoc}
 use Rattle.std.proofs.lemmas.Option.{slice_get_within}
 use Rattle.std.specs.List.{All, Any}
-use Rattle.std.specs.Prelude.{Option, Some, None, option_and_then, slice_get}
+use Rattle.std.specs.Prelude.{Option, Some, slice_get}
 use Rattle.ba_model.specs.declared.policy.View.{View}
-use Rattle.ba_model.specs.declared.query.Atom.{Atom}
-use Rattle.ba_model.specs.declared.query.Op.{Op}
-use Rattle.ba_model.specs.declared.query.Operand.{Operand}
-use Rattle.ba_model.specs.declared.query.Operand.TheVariants.{Col, Val, Param, Var}
 use Rattle.ba_model.specs.declared.query.Part.{Part}
 use Rattle.ba_model.specs.declared.schema.Rule.{Rule}
-use Rattle.ba_facts.proofs.Elements.{get_append_old}
-use Rattle.ba_facts.proofs.SearchingLemmas.{completes_last, last_completes}
-use Rattle.ba_facts.specs.Matches.{IsFactOf, IsMapping, IsShown, IsUndecided, Under, term_of, terms_at}
-use Rattle.ba_kernel.proofs.NewLemmas.{all_at}
-use Rattle.ba_facts.specs.Shown.{ShowsOf}
+use Rattle.ba_facts.proofs.WalkLemmas.{completes_last, last_completes, pruned}
+use Rattle.ba_facts.specs.Matches.{IsFactOf, IsMapping, IsShown, terms_at}
+use Rattle.ba_facts.specs.Walks.{FailsAt}
 use Rattle.ba_facts.specs.declared.branch.Branch.{Branch}
-use Rattle.ba_facts.specs.declared.matches.search.Wanted.TheVariants.{Shown}
+use Rattle.ba_facts.specs.declared.walk.Wanted.TheVariants.{Shown}
 use Rattle.ba_facts.specs.declared.term.Side.{Side}
 use Rattle.ba_facts.specs.declared.term.Side.TheVariants.{One, Two}
-use Rattle.ba_facts.specs.declared.term.Term.{Term}
 use Rattle.ba_kernel.specs.Courses.{IsOpen}
-use Rattle.ba_kernel.specs.Effects.{rows_at}
-use Rattle.ba_kernel.specs.Steps.{FactsPass, GoalPasses, RulePasses, ViewPasses}
 use Rattle.ba_kernel.specs.Tests.{Course}
+use Rattle.ba_kernel.specs.Steps.{FactsPass, GoalPasses, RulePasses, ViewPasses}
 use Rattle.ba_kernel.specs.declared.step.Step.{Step}
 use Rattle.ba_kernel.specs.declared.step.Step.TheVariants as steps
 use Rattle.ba_instant.proofs.ChaseLemmas.{new_on}
-use Rattle.ba_instant.proofs.OfferLemmas.{improves_as, improves_end, improves_next, improves_none}
-use Rattle.ba_instant.specs.Offers.{Improves, IsHidden, IsMapped, IsMappedFrom, IsNewIn, IsOfForm, IsOfSides, OfAny, Upto, step_of}
+use Rattle.ba_instant.proofs.OfferLemmas.{improves_as, improves_none}
+use Rattle.ba_instant.specs.Offers.{Improves, IsMapped, IsMappedFrom, IsNewIn, IsOfForm, IsOfSides, step_of}
 use Rattle.ba_instant.specs.declared.batch.Batch.{Batch}
 use Rattle.ba_instant.specs.declared.mapped.Form.{Form}
 use Rattle.ba_instant.specs.declared.mapped.Form.TheVariants.{OfRule, OfView, OfGoal}
 use Rattle.ba_instant.specs.declared.order.Pick.{Pick}
 
--- ---- atoms that stay hidden as facts are added
-
-column_kept : (o p : Option (List Term)) (k : ℕ) (t : Term) → ((row : List Term) → o ≡ Some row → p ≡ Some row) →
-    option_and_then (λ row. slice_get row k) o ≡ Some t → option_and_then (λ row. slice_get row k) p ≡ Some t
-column_kept None p k t f e = cc
-column_kept (Some row) p k t f e = rw (f row refl) e
-
-term_kept : (rows more : List (List Term)) (x : Operand) (t : Term) → term_of rows x ≡ Some t → term_of (rows ++ more) x ≡ Some t
-term_kept rows more (Col p k) t e = column_kept (slice_get rows p) (slice_get (rows ++ more) p) k t (get_append_old rows more p) e
-term_kept rows more (Val v) t e = e
-term_kept rows more (Param n) t e = e
-term_kept rows more (Var n) t e = e
-
-fails_on : (P : Op → Term → Term → Type 0) (rows more : List (List Term)) (atom : Atom) → Under (λ op a b. ¬ (P op a b)) rows atom →
-    Under P (rows ++ more) atom → ⊥
-fails_on P rows more atom f h =
-    let left_kept = term_kept rows more atom.left f.left f.left_is in
-    let right_kept = term_kept rows more atom.right f.right f.right_is in
-    let left_same : h.left ≡ f.left = cc (left_kept, h.left_is) in
-    let right_same : h.right ≡ f.right = cc (right_kept, h.right_is) in
-    f.holds (subst (λ a. P atom.op a f.right) left_same (subst (λ b. P atom.op h.left b) right_same h.holds))
-
--- ---- the search through a part's tables
+-- ---- the walk over a part's tables
 
 module _ (c : Course) (pick : Pick) (b : Branch) (n : ℕ) (form : Form) (side : Side) (part : Part) where
   abbrev pub From : List ℕ → List ℕ → Step → Type 0
   From = IsMappedFrom b n form side part
 
-  hidden : (from chosen : List ℕ) → Any (IsHidden b.known (rows_at b chosen)) part.conds → (step : Step) → From from chosen step → IsNewIn c step → ⊥
-  hidden from chosen (k, atom, below, is, fails) step (facts, same, h) new =
-      let rows : map (terms_at b) facts ≡ map (terms_at b) chosen ++ map (terms_at b) h.rest =
-      ap (map (terms_at b)) h.facts_are ∙ map-append (terms_at b) chosen h.rest in
-      fails_on (ShowsOf b.known) (map (terms_at b) chosen) (map (terms_at b) h.rest) atom fails
-      (subst (λ rows. Under (ShowsOf b.known) rows atom) rows
-      (All-contains (Under (ShowsOf b.known) (map (terms_at b) facts)) part.conds atom h.meets (k, below, is)))
-
-  pub mapped_hopeless : (from chosen : List ℕ) (old : Option Batch) → Any (IsHidden b.known (rows_at b chosen)) part.conds → Improves c pick (From from chosen) old old
-  mapped_hopeless from chosen old any = improves_none c pick (From from chosen) old (hidden from chosen any)
+  pub mapped_hopeless : (from chosen : List ℕ) (old : Option Batch) → Any (FailsAt b.known Shown (map (terms_at b) chosen)) part.conds →
+      Improves c pick (From from chosen) old old
+  mapped_hopeless from chosen old any = improves_none c pick (From from chosen) old (λ step e new. pruned b side part Shown from chosen any e.0 e.2)
 
   -- no table is left
   pub mapped_on : (facts : List ℕ) (step : Step) (old new : Option Batch) → step ≡ step_of n form facts → All (IsShown b.known (map (terms_at b) facts)) part.conds →
@@ -88,52 +49,21 @@ module _ (c : Course) (pick : Pick) (b : Branch) (n : ℕ) (form : Form) (side :
       improves_none c pick (From [] facts) old
       (λ step e new. hidden (subst (λ xs. All (IsShown b.known (map (terms_at b) xs)) part.conds) (completes_last b side part Shown facts e.0 e.2) (e.2).meets))
 
-  -- as the first atom that isn't shown tells
-  pub mapped_shown : (facts : List ℕ) (step : Step) (undecided : Option ℕ) (old new : Option Batch) → step ≡ step_of n form facts →
-      IsUndecided b.known (map (terms_at b) facts) part.conds undecided → undecided ≡ None → Improves c pick (λ it. it ≡ step) old new → Improves c pick (From [] facts) old new
-  mapped_shown facts step undecided old new is tells none h =
-      mapped_on facts step old new is (subst (IsUndecided b.known (map (terms_at b) facts) part.conds) none tells) h
-
-  pub mapped_undecided : (facts : List ℕ) (undecided : Option ℕ) (number : ℕ) (old : Option Batch) →
-      IsUndecided b.known (map (terms_at b) facts) part.conds undecided → undecided ≡ Some number → Improves c pick (From [] facts) old old
-  mapped_undecided facts undecided number old tells some =
-      let first = subst (IsUndecided b.known (map (terms_at b) facts) part.conds) some tells in
-      mapped_off facts old (λ all. first.hidden (all_at (IsShown b.known (map (terms_at b) facts)) part.conds number first.atom all first.there))
-
   -- a table is left: one of its facts is chosen
-  module _ (table : ℕ) (rest chosen : List ℕ) where
-    abbrev pub By : ℕ → Step → Type 0
-    By fact step = IsFactOf b side table fact × From rest (chosen ++ fact ∷ []) step
+  pub mapped_joined : (table : ℕ) (rest chosen : List ℕ) (fact : ℕ) (step : Step) → IsFactOf b side table fact → From rest (chosen ++ fact ∷ []) step →
+      From (table ∷ rest) chosen step
+  mapped_joined table rest chosen fact step is (facts, same, h) =
+      (facts, same, record { rest = fact ∷ h.rest; facts_are = h.facts_are ∙ append_assoc chosen (fact ∷ []) h.rest; facts_of = (is, h.facts_of); meets = h.meets })
 
-    pub mapped_more : (fact : ℕ) (deeper : List ℕ) (old mid new last : Option Batch) → last ≡ new → IsFactOf b side table fact → deeper ≡ chosen ++ fact ∷ [] →
-        Improves c pick (Upto By fact) old mid → Improves c pick (From rest deeper) mid new → Improves c pick (Upto By (fact + 1)) old last
-    mapped_more fact deeper old mid new last same is are before now =
-        subst (Improves c pick (Upto By (fact + 1)) old) (sym same)
-        (improves_next c pick By fact old mid new before
-        (improves_as c pick (From rest deeper) (By fact) mid new (λ step e new. (is, subst (λ xs. From rest xs step) are e))
-        (λ step e new. subst (λ xs. From rest xs step) (sym are) e.1) now))
-
-    pub by_from : (step : Step) → OfAny By step → From (table ∷ rest) chosen step
-    by_from step (fact, (is, (facts, same, h))) =
-        (facts, same, record { rest = fact ∷ h.rest; facts_are = h.facts_are ∙ append_assoc chosen (fact ∷ []) h.rest; facts_of = (is, h.facts_of); meets = h.meets })
-
-    pub from_by : (step : Step) → From (table ∷ rest) chosen step → OfAny By step
-    from_by step (facts, same, h) = at h.rest h.facts_are h.facts_of
-      where
-        at : (left : List ℕ) → facts ≡ chosen ++ left → IsMapping b side (table ∷ rest) left → OfAny By step
-        at [] are of = absurd of
-        at (fact ∷ left) are of =
-            (fact, (of.0, (facts, same, record { rest = left; facts_are = are ∙ sym (append_assoc chosen (fact ∷ []) left); facts_of = of.1; meets = h.meets })))
-
-    pub mapped_all : (whole : List ℕ) (bound : ℕ) (old new : Option Batch) → whole ≡ table ∷ rest → length b.facts ≤ bound →
-        Improves c pick (Upto By bound) old new → Improves c pick (From whole chosen) old new
-    mapped_all whole bound old new split all h =
-        let past = λ (fact : ℕ) (step : Step) (more : bound ≤ fact) (by : By fact step) (is : IsNewIn c step).
-        let below : fact < length b.facts = slice_get_within b.facts fact (by.0).fact (by.0).there in
-        let wrong : ⊥ = omega (arith, all, more, below) in wrong in
-        subst (λ xs. Improves c pick (From xs chosen) old new) (sym split)
-        (improves_as c pick (OfAny By) (From (table ∷ rest) chosen) old new (λ step e is. by_from step e) (λ step e is. from_by step e)
-        (improves_end c pick By bound old new h past))
+  pub mapped_parted : (table : ℕ) (rest chosen : List ℕ) (step : Step) → From (table ∷ rest) chosen step →
+      (fact : ℕ) × IsFactOf b side table fact × From rest (chosen ++ fact ∷ []) step
+  mapped_parted table rest chosen step (facts, same, h) = at h.rest h.facts_are h.facts_of
+    where
+      at : (left : List ℕ) → facts ≡ chosen ++ left → IsMapping b side (table ∷ rest) left →
+          (fact : ℕ) × IsFactOf b side table fact × From rest (chosen ++ fact ∷ []) step
+      at [] are of = absurd of
+      at (fact ∷ left) are of =
+          (fact, of.0, (facts, same, record { rest = left; facts_are = are ∙ sym (append_assoc chosen (fact ∷ []) left); facts_of = of.1; meets = h.meets }))
 
   -- all tables
   pub mapped_whole : (from chosen : List ℕ) (old new : Option Batch) → from ≡ part.from → chosen ≡ [] → Improves c pick (From from chosen) old new →

@@ -1,19 +1,18 @@
 -- Whether a part of the goal can be mapped to facts that give the row.
-use Rattle.std.proofs.Common.{◌≡◌, ◌∙◌, ℕ, ◌+◌, ◌<◌, ◌≤◌, inl, inr, List, [], ◌∷◌, ◌++◌, length, map, refl, sym, subst, append_assoc, arith}
-use Rattle.std.proofs.lemmas.List.Elements.{All-cons, All-contains, All-nil}
+use Rattle.std.proofs.Common.{◌≡◌, ◌∙◌, ℕ, inl, inr, List, [], ◌∷◌, ◌++◌, map, refl, sym, subst, append_assoc, arith}
+use Rattle.std.proofs.lemmas.List.Elements.{All-cons, All-contains, All-nil, Contains-push_cases}
 use Rattle.std.proofs.lemmas.Option.{slice_get_within}
-use Rattle.std.specs.List.{All}
+use Rattle.std.specs.List.{All, Any, Contains}
 use Rattle.std.specs.Prelude.{Option, Some, slice_get}
 use Rattle.ba_model.specs.declared.query.Part.{Part}
-use Rattle.ba_facts.proofs.PlaceLemmas.{upto}
-use Rattle.ba_facts.proofs.SearchingLemmas.{meets_last, pruned}
-use Rattle.ba_facts.specs.Matches.{HeadIs, IsFactOf, IsMapping, IsShown, IsUndecided, terms_at}
-use Rattle.ba_facts.specs.Walks.{Completes}
+use Rattle.ba_facts.proofs.WalkLemmas.{meets_last, pruned}
+use Rattle.ba_facts.specs.Matches.{HeadIs, IsFactOf, IsMapping, Under, terms_at}
+use Rattle.ba_facts.specs.Walks.{AreMet, Completes, Composes, IsLost, IsSpared, IsWanted, every}
 use Rattle.ba_facts.specs.declared.branch.Branch.{Branch}
-use Rattle.ba_facts.specs.declared.matches.search.Wanted.TheVariants.{Shown}
+use Rattle.ba_facts.specs.declared.walk.Walk.{Walk}
+use Rattle.ba_facts.specs.declared.walk.Wanted.TheVariants.{Shown}
 use Rattle.ba_facts.specs.declared.term.Side.TheVariants.{Two}
 use Rattle.ba_facts.specs.declared.term.Term.{Term}
-use Rattle.ba_kernel.proofs.NewLemmas.{all_at}
 use Rattle.ba_kernel.proofs.StepFits.{Contains-at}
 use Rattle.ba_kernel.specs.Courses.{IsOpen}
 use Rattle.ba_kernel.specs.Steps.{GoalPasses}
@@ -22,12 +21,14 @@ use Rattle.ba_kernel.specs.declared.step.Step.TheVariants as steps
 use Rattle.ba_instant.proofs.AlikeLemmas.{Likes, like_fact, like_head, like_joined, like_shown, like_turned, likes_append, likes_itself, likes_last, likes_turned}
 use Rattle.ba_instant.proofs.ChaseLemmas.{new_on}
 use Rattle.ba_instant.proofs.OfferLemmas.{improves_none}
+use Rattle.ba_instant.proofs.OfferWalks.{along, back_along, in_every}
 use Rattle.ba_facts.specs.Alike.{AreAlike}
 use Rattle.ba_instant.specs.Offers.{Improves, IsNewIn, IsOfForm}
-use Rattle.ba_instant.specs.Spreads.{HasFact, IsLost, IsPassedOver, IsReached, NoneBelow}
+use Rattle.ba_instant.specs.Spreads.{HasFact, IsReached, IsWalkFor, NoneReach, NoneReachAmong}
 use Rattle.ba_instant.specs.declared.batch.Batch.{Batch}
 use Rattle.ba_instant.specs.declared.mapped.Form.TheVariants.{OfGoal}
 use Rattle.ba_instant.specs.declared.order.Pick.{Pick}
+use Rattle.ba_instant.specs.declared.reach.Reach.{Reach}
 
 module _ (b : Branch) (part : Part) (row : List Term) where
   abbrev Reached : List ℕ → List ℕ → List ℕ → Type 0
@@ -61,73 +62,100 @@ module _ (b : Branch) (part : Part) (row : List Term) where
   pub reach_bare : (tables : List ℕ) → tables ≡ part.from → (All (HasFact b) tables → ⊥) → (facts : List ℕ) → Reached part.from [] facts → ⊥
   reach_bare tables is lacks facts h = lacks (subst (All (HasFact b)) (sym is) (tables_have part.from h.completes.rest h.completes.facts_of))
 
-  -- no table is left
-  pub reach_hidden : (chosen : List ℕ) (undecided : Option ℕ) (number : ℕ) → IsUndecided b.known (map (terms_at b) chosen) part.conds undecided → undecided ≡ Some number →
-      (facts : List ℕ) → Reached [] chosen facts → ⊥
-  reach_hidden chosen undecided number tells some facts h =
-      let first = subst (IsUndecided b.known (map (terms_at b) chosen) part.conds) some tells in
-      let it = themselves [] chosen facts h in
-      let all : All (IsShown b.known (map (terms_at b) chosen)) part.conds = meets_last b Two part Shown chosen (chosen ++ it.0) it.1 in
-      first.hidden (all_at (IsShown b.known (map (terms_at b) chosen)) part.conds number first.atom all first.there)
+-- ---- the walk
 
-  pub reach_end : (from chosen shown : List ℕ) → length from ≡ 0 → shown ≡ chosen → ((facts : List ℕ) → Reached [] shown facts → ⊥) → (facts : List ℕ) → Reached from chosen facts → ⊥
-  reach_end [] chosen shown none are hidden facts h = hidden facts (subst (λ xs. Reached [] xs facts) (sym are) h)
-  reach_end (x ∷ from) chosen shown none are hidden facts h = absurd (omega (arith, none))
+module _ (it : Reach) where
+  abbrev Comes : List ℕ → List ℕ → List ℕ → Type 0
+  Comes = IsReached it.branch.now it.part.now it.row.now
 
-  -- a table is left: one of its facts is chosen
-  module _ (table : ℕ) (rest chosen : List ℕ) where
-    abbrev Below : ℕ → Type 0
-    Below = NoneBelow b part row table rest chosen
+  parted : (table : ℕ) (rest chosen facts : List ℕ) → Comes (table ∷ rest) chosen facts →
+      (fact : ℕ) × IsFactOf it.branch.now Two table fact × Comes rest (chosen ++ fact ∷ []) facts
+  parted table rest chosen facts h = at h.completes.rest h.completes.facts_are h.completes.facts_of
+    where
+      at : (left : List ℕ) → facts ≡ h.front ++ left → IsMapping it.branch.now Two (table ∷ rest) left →
+          (fact : ℕ) × IsFactOf it.branch.now Two table fact × Comes rest (chosen ++ fact ∷ []) facts
+      at [] are of = absurd of
+      at (y ∷ left) are of = (
+        y,
+        of.0,
+        record {
+          front = h.front ++ y ∷ [];
+          like = likes_append it.branch.now chosen h.front (y ∷ []) (y ∷ []) h.like (inl refl, tt);
+          completes = record { rest = left; facts_are = are ∙ sym (append_assoc h.front (y ∷ []) left); facts_of = of.1; meets = h.completes.meets };
+          head = h.head;
+        },
+      )
 
-    pub reach_start : Below 0
-    reach_start fact below is facts h = omega (arith, below)
+  -- a fact that is alike to another leads to the same
+  by_alike : (rest chosen : List ℕ) (other fact : ℕ) (facts : List ℕ) → AreAlike it.branch.now other fact → Comes rest (chosen ++ fact ∷ []) facts →
+      Comes rest (chosen ++ other ∷ []) facts
+  by_alike rest chosen other fact facts alike h =
+      let last = likes_last it.branch.now chosen h.front fact h.like in
+      let like : Likes it.branch.now (chosen ++ other ∷ []) (last.0 ++ last.1 ∷ []) =
+      likes_append it.branch.now chosen last.0 (other ∷ []) (last.1 ∷ []) last.3 (like_joined it.branch.now other fact last.1 (inr alike) last.4, tt) in
+      record { front = h.front; like = subst (Likes it.branch.now (chosen ++ other ∷ [])) (sym last.2) like; completes = h.completes; head = h.head }
 
-    -- a fact that is alike to another leads to the same
-    by_alike : (other fact : ℕ) (facts : List ℕ) → AreAlike b other fact → Reached rest (chosen ++ fact ∷ []) facts → Reached rest (chosen ++ other ∷ []) facts
-    by_alike other fact facts alike h =
-        let last = likes_last b chosen h.front fact h.like in
-        let like : Likes b (chosen ++ other ∷ []) (last.0 ++ last.1 ∷ []) =
-        likes_append b chosen last.0 (other ∷ []) (last.1 ∷ []) last.3 (like_joined b other fact last.1 (inr alike) last.4, tt) in
-        record { front = h.front; like = subst (Likes b (chosen ++ other ∷ [])) (sym last.2) like; completes = h.completes; head = h.head }
+  pub none_every : (from chosen : List ℕ) → NoneReachAmong it from chosen (every it.branch.now) → NoneReach it from chosen
+  none_every [] chosen none facts h = none facts h
+  none_every (table ∷ rest) chosen none facts h =
+      let of = parted table rest chosen facts h in
+      none of.0 (in_every it.branch.now of.0 (slice_get_within it.branch.now.facts of.0 (of.1).fact (of.1).there)) of.1 facts of.2
 
-    none_next : (fact : ℕ) → Below fact → (IsFactOf b Two table fact → (facts : List ℕ) → Reached rest (chosen ++ fact ∷ []) facts → ⊥) → Below (fact + 1)
-    none_next fact before here = λ other below is facts h. elim (upto other fact below) [
-      | inl less ↦ before other less is facts h
-      | inr same ↦ here (subst (IsFactOf b Two table) same is) facts (subst (λ x. Reached rest (chosen ++ x ∷ []) facts) same h)
-    ]
+  none_more : (table : ℕ) (rest chosen numbers : List ℕ) (n : ℕ) → NoneReachAmong it (table ∷ rest) chosen numbers →
+      (IsFactOf it.branch.now Two table n → NoneReach it rest (chosen ++ n ∷ [])) → NoneReachAmong it (table ∷ rest) chosen (numbers ++ n ∷ [])
+  none_more table rest chosen numbers n before here fact has is = elim (Contains-push_cases numbers n fact has) [
+    | inl old ↦ before fact old is
+    | inr same ↦ subst (λ m. NoneReach it rest (chosen ++ m ∷ [])) same (here (subst (IsFactOf it.branch.now Two table) (sym same) is))
+  ]
 
-    pub reach_more : (fact : ℕ) (deeper : List ℕ) → deeper ≡ chosen ++ fact ∷ [] → Below fact → ((facts : List ℕ) → Reached rest deeper facts → ⊥) → Below (fact + 1)
-    reach_more fact deeper are before none = none_next fact before (λ is facts h. none facts (subst (λ xs. Reached rest xs facts) (sym are) h))
+  pub reach_composes : {S E : Type 0} →
+      Composes {S = S} {E = E} it.branch.now Two (λ from chosen numbers. numbers ≡ every it.branch.now)
+      (λ from chosen numbers old new. NoneReachAmong it from chosen numbers) (λ from chosen stop. Unit {0})
+  reach_composes = record {
+    none = λ table rest chosen now fact has is. let below = has.1 in absurd (omega (arith, below));
+    other = λ table rest chosen before n old now other h. none_more table rest chosen before n h (λ is. absurd (other is));
+    more = λ table rest chosen before n old now new fact h k. none_more table rest chosen before n h (λ is. none_every rest (chosen ++ n ∷ []) k);
+    enough = λ table rest chosen numbers old new is h. subst (NoneReachAmong it (table ∷ rest) chosen) is h;
+    deeper = λ table rest chosen n stop fact h. h;
+  }
 
-    pub reach_passed : (fact : ℕ) (deeper tried : List ℕ) → IsPassedOver b Two part Shown (Some row) table deeper tried fact → deeper ≡ chosen ++ fact ∷ [] →
-        All (λ other. other < fact) tried → Below fact → Below (fact + 1)
-    reach_passed fact deeper tried (inl (inl other)) are below before = none_next fact before (λ is facts h. other is)
-    reach_passed fact deeper tried (inl (inr gone)) are below before =
-        none_next fact before (λ is facts h. reach_lost rest deeper facts gone (subst (λ xs. Reached rest xs facts) (sym are) h))
-    reach_passed fact deeper tried (inr (k, other, inside, at, alike)) are below before =
-        none_next fact before (λ is facts h.
-        before other (All-contains (λ x. x < fact) tried other below (k, inside, at)) (like_fact b Two table fact other (like_turned b other fact (inr alike)) is) facts
-        (by_alike other fact facts alike h))
+  spared : (from front before : List ℕ) (n : ℕ) →
+      ((table : ℕ) (rest : List ℕ) → from ≡ table ∷ rest → NoneReachAmong it (table ∷ rest) front before → IsFactOf it.branch.now Two table n →
+      NoneReach it rest (front ++ n ∷ [])) → NoneReachAmong it from front before → NoneReachAmong it from front (before ++ n ∷ [])
+  spared [] front before n why h = h
+  spared (table ∷ rest) front before n why h = none_more table rest front before n h (why table rest refl h)
 
-    pub reach_all : (whole : List ℕ) (bound : ℕ) → whole ≡ table ∷ rest → length b.facts ≤ bound → Below bound → (facts : List ℕ) → Reached whole chosen facts → ⊥
-    reach_all whole bound split all none facts h =
-        let it : Reached (table ∷ rest) chosen facts = subst (λ xs. Reached xs chosen facts) split h in
-        at it it.completes.rest it.completes.facts_are it.completes.facts_of
-      where
-        at : (it : Reached (table ∷ rest) chosen facts) (left : List ℕ) → facts ≡ it.front ++ left → IsMapping b Two (table ∷ rest) left → ⊥
-        at it [] are of = absurd of
-        at it (y ∷ left) are of =
-            let below : y < length b.facts = slice_get_within b.facts y (of.0).fact (of.0).there in
-            let one : Reached rest (chosen ++ y ∷ []) facts = record {
-              front = it.front ++ y ∷ [];
-              like = likes_append b chosen it.front (y ∷ []) (y ∷ []) it.like (inl refl, tt);
-              completes = record { rest = left; facts_are = are ∙ sym (append_assoc it.front (y ∷ []) left); facts_of = of.1; meets = it.completes.meets };
-              head = it.head;
-            } in
-            none y (omega (arith, below, all)) of.0 facts one
+  -- a fact that is alike to one that was tried
+  pub reach_alike : {S : Type 0} (from chosen : List ℕ) (number : ℕ) (tried : List ℕ) (now : S) → Any (λ other. AreAlike it.branch.now other number) tried →
+      IsSpared (λ front numbers. numbers ≡ every it.branch.now) (λ front numbers old new. NoneReachAmong it from front numbers) chosen number tried now
+  reach_alike from chosen number tried now (k, other, inside, at, alike) front before after start split offered among h =
+      spared from front before number
+      (λ table rest is none fact facts reached.
+      none other (All-contains (Contains before) tried other among (k, inside, at)) (like_fact it.branch.now Two table number other (like_turned it.branch.now other number (inr alike)) fact)
+      facts (by_alike rest front other number facts alike reached)) h
 
-  pub reach_whole : (from chosen : List ℕ) → from ≡ part.from → chosen ≡ [] → ((facts : List ℕ) → Reached from chosen facts → ⊥) → (facts : List ℕ) → Reached part.from [] facts → ⊥
-  reach_whole from chosen is none nothing facts h = nothing facts (subst (λ xs. Reached xs chosen facts) (sym is) (subst (λ xs. Reached part.from xs facts) (sym none) h))
+  module _ (walk : Walk) (of : IsWalkFor it walk) where
+    is_lost : (chosen : List ℕ) → IsLost walk.branch.now walk.part.now walk.wanted (Some it.row.now) chosen →
+        IsLost it.branch.now it.part.now Shown (Some it.row.now) chosen
+    is_lost chosen =
+        along (λ b part wanted. IsLost b part wanted (Some it.row.now) chosen) walk it.branch.now it.part.now Shown of.branch_is of.part_is of.wanted_is
+
+    pub reach_spared : {S : Type 0} (from chosen : List ℕ) (number : ℕ) (tried : List ℕ) (now : S) →
+        IsLost walk.branch.now walk.part.now walk.wanted (Some it.row.now) chosen →
+        IsSpared (λ front numbers. numbers ≡ every it.branch.now) (λ front numbers old new. NoneReachAmong it from front numbers) chosen number tried now
+    reach_spared from chosen number tried now gone front before after start split offered among h =
+        spared from front before number
+        (λ table rest is none fact facts reached.
+        reach_lost it.branch.now it.part.now it.row.now rest chosen facts (is_lost chosen gone) (subst (λ xs. Comes rest xs facts) (sym split) reached)) h
+
+    pub reach_not_met : (chosen numbers : List ℕ) → (AreMet walk chosen → ⊥) → NoneReachAmong it [] chosen numbers
+    reach_not_met chosen numbers fails facts h =
+        let own = themselves it.branch.now it.part.now it.row.now [] chosen facts h in
+        fails (back_along (λ b part wanted. All (Under (IsWanted b.known wanted) (map (terms_at b) chosen)) part.conds) walk it.branch.now it.part.now Shown of.branch_is
+        of.part_is of.wanted_is (meets_last it.branch.now Two it.part.now Shown chosen (chosen ++ own.0) own.1))
+
+    pub reach_lost_at_once : IsLost walk.branch.now walk.part.now walk.wanted (Some it.row.now) [] → NoneReach it it.part.now.from []
+    reach_lost_at_once gone facts h = reach_lost it.branch.now it.part.now it.row.now it.part.now.from [] facts (is_lost [] gone) h
 
 -- ---- no step that reaches the goal by the part is new
 

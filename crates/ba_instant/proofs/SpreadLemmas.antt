@@ -1,21 +1,19 @@
 -- Splits over facts that are alike to chosen ones.
-use Rattle.std.proofs.Common.{◌≡◌, ◌∙◌, ℕ, ◌+◌, ◌<◌, ◌≤◌, ◌⊎◌, inl, inr, List, [], ◌∷◌, ◌++◌, length, map, refl, sym, ap, subst, append_assoc, append-nil, arith}
+use Rattle.std.proofs.Common.{◌≡◌, ◌∙◌, ℕ, ◌⊎◌, inl, inr, List, [], ◌∷◌, ◌++◌, length, map, refl, sym, ap, subst, append_assoc, append-nil, arith}
 use Rattle.std.proofs.lemmas.List.{length-map, map-append}
 use Rattle.std.proofs.lemmas.List.Elements.{All-contains}
-use Rattle.std.proofs.lemmas.Option.{slice_get_within}
-use Rattle.std.specs.List.{All, Any}
+use Rattle.std.specs.List.{Any}
 use Rattle.std.specs.Prelude.{Option, Some}
 use Rattle.ba_model.specs.declared.query.Atom.{Atom}
 use Rattle.ba_model.specs.declared.query.Op.TheVariants.{Eq}
 use Rattle.ba_model.specs.declared.query.Operand.{Operand}
 use Rattle.ba_model.specs.declared.query.Part.{Part}
-use Rattle.ba_facts.proofs.PlaceLemmas.{upto}
-use Rattle.ba_facts.proofs.SearchingLemmas.{completes_last, last_completes, meets_last, pruned}
+use Rattle.ba_facts.proofs.WalkLemmas.{completes_last, last_completes, meets_last, pruned}
 use Rattle.ba_facts.specs.Matches.{GivesAtom, HeadIs, IsFactOf, IsLiveAtom, IsMapping, Under, term_of, terms_at}
-use Rattle.ba_facts.specs.Walks.{Completes}
+use Rattle.ba_facts.specs.Walks.{Completes, IsLost}
 use Rattle.ba_facts.specs.Shown.{RefutesOf, ShowsOf}
 use Rattle.ba_facts.specs.declared.branch.Branch.{Branch}
-use Rattle.ba_facts.specs.declared.matches.search.Wanted.TheVariants.{Live}
+use Rattle.ba_facts.specs.declared.walk.Wanted.TheVariants.{Live}
 use Rattle.ba_facts.specs.declared.term.Side.{Side}
 use Rattle.ba_facts.specs.declared.term.Term.{Term}
 use Rattle.ba_facts.specs.declared.term.TermAtom.{TermAtom}
@@ -26,14 +24,14 @@ use Rattle.ba_kernel.specs.declared.step.Step.{Step}
 use Rattle.ba_kernel.specs.declared.step.Step.TheVariants as steps
 use Rattle.ba_instant.proofs.AlikeLemmas.{Likes, like_fact, like_head, like_joined, like_live, like_open, like_turned, likes_append, likes_itself, likes_last, likes_turned, term_beside}
 use Rattle.ba_instant.proofs.ChaseLemmas.{new_on}
-use Rattle.ba_instant.proofs.OfferLemmas.{improves_as, improves_end, improves_next, improves_none}
-use Rattle.ba_instant.specs.Offers.{Improves, IsNewIn, IsSplitOfAtom, IsSplitOfPart, OfAny, Upto}
+use Rattle.ba_instant.proofs.OfferLemmas.{improves_as, improves_none}
+use Rattle.ba_instant.specs.Offers.{Improves, IsNewIn, IsSplitOfAtom, IsSplitOfPart}
 use Rattle.ba_facts.specs.Alike.{AreAlike}
-use Rattle.ba_instant.specs.Spreads.{AreChoices, IsAt, IsLike, IsLikeAtom, IsLikeSplit, IsLikeSplits, IsLiveWith, IsLost, IsOpenOf, IsOver, IsOverAtom, IsPassedOver, IsSpread, IsSpreadAtom, NamesPlace}
+use Rattle.ba_instant.specs.Spreads.{AreChoices, IsAt, IsLike, IsLikeAtom, IsLikeSplit, IsLikeSplits, IsLiveWith, IsOpenOf, IsOver, IsOverAtom, IsSpread, IsSpreadAtom, NamesPlace}
 use Rattle.ba_instant.specs.declared.batch.Batch.{Batch}
 use Rattle.ba_instant.specs.declared.order.Pick.{Pick}
 
--- ---- the search through a part's tables
+-- ---- the walk over a part's tables
 
 module _ (c : Course) (pick : Pick) (b : Branch) (n : ℕ) (side : Side) (part : Part) (row : Option (List Term)) where
   abbrev Spread : List ℕ → List ℕ → Step → Type 0
@@ -55,7 +53,7 @@ module _ (c : Course) (pick : Pick) (b : Branch) (n : ℕ) (side : Side) (part :
         like_head b facts (chosen ++ it.rest) like part row h.has.has.head,
       )
 
-  lost : (from chosen : List ℕ) → IsLost b part Live row chosen → (step : Step) → Spread from chosen step → ⊥
+  pub lost : (from chosen : List ℕ) → IsLost b part Live row chosen → (step : Step) → Spread from chosen step → ⊥
   lost from chosen (inl fails) step e = let it = themselves from chosen e.0 e.2 e.3 in pruned b side part Live from chosen fails (chosen ++ it.0) it.1
   lost from chosen (inr other) step e = let it = themselves from chosen e.0 e.2 e.3 in other it.0 it.2
 
@@ -94,13 +92,8 @@ module _ (c : Course) (pick : Pick) (b : Branch) (n : ℕ) (side : Side) (part :
     abbrev pub By : ℕ → Step → Type 0
     By fact step = IsFactOf b side table fact × Spread rest (chosen ++ fact ∷ []) step
 
-    pub spread_taken : (fact : ℕ) (deeper : List ℕ) (old new : Option Batch) → IsFactOf b side table fact → deeper ≡ chosen ++ fact ∷ [] → Improves c pick (Spread rest deeper) old new →
-        Improves c pick (By fact) old new
-    spread_taken fact deeper old new is are h =
-        improves_as c pick (Spread rest deeper) (By fact) old new (λ step e new. (is, subst (λ xs. Spread rest xs step) are e)) (λ step e new. subst (λ xs. Spread rest xs step) (sym are) e.1) h
-
     -- a fact that is alike to another gives the same
-    by_alike : (other fact : ℕ) (step : Step) → AreAlike b other fact → By fact step → By other step
+    pub by_alike : (other fact : ℕ) (step : Step) → AreAlike b other fact → By fact step → By other step
     by_alike other fact step alike (is, (atom, same, facts, h)) =
         let last = likes_last b chosen h.front fact h.like in
         let like : Likes b (chosen ++ other ∷ []) (last.0 ++ last.1 ∷ []) =
@@ -108,35 +101,6 @@ module _ (c : Course) (pick : Pick) (b : Branch) (n : ℕ) (side : Side) (part :
           like_fact b side table fact other (like_turned b other fact (inr alike)) is,
           (atom, same, facts, record { front = h.front; like = subst (Likes b (chosen ++ other ∷ [])) (sym last.2) like; has = h.has }),
         )
-
-    pub spread_more : (fact : ℕ) (deeper : List ℕ) (old mid new last : Option Batch) → last ≡ new → IsFactOf b side table fact → deeper ≡ chosen ++ fact ∷ [] →
-        Improves c pick (Upto By fact) old mid → Improves c pick (Spread rest deeper) mid new → Improves c pick (Upto By (fact + 1)) old last
-    spread_more fact deeper old mid new last same is are before now =
-        subst (Improves c pick (Upto By (fact + 1)) old) (sym same) (improves_next c pick By fact old mid new before (spread_taken fact deeper mid new is are now))
-
-    none_by : (fact : ℕ) (old mid : Option Batch) → ((step : Step) → By fact step → ⊥) → Improves c pick (Upto By fact) old mid → Improves c pick (Upto By (fact + 1)) old mid
-    none_by fact old mid none before = improves_next c pick By fact old mid mid before (improves_none c pick (By fact) mid (λ step e new. none step e))
-
-    alike_by : (fact other : ℕ) (old mid : Option Batch) → other < fact → AreAlike b other fact → Improves c pick (Upto By fact) old mid → Improves c pick (Upto By (fact + 1)) old mid
-    alike_by fact other old mid below alike before =
-        improves_as c pick (Upto By fact) (Upto By (fact + 1)) old mid (λ step e is. (e.0, omega (arith, e.1), e.2))
-        (λ step e is. elim (upto e.0 fact e.1) [
-          | inl less ↦ (e.0, less, e.2)
-          | inr same ↦ (other, below, by_alike other fact step alike (subst (λ i. By i step) same e.2))
-        ]) before
-
-    passed : (fact : ℕ) (deeper tried : List ℕ) (old mid : Option Batch) → IsPassedOver b side part Live row table deeper tried fact → deeper ≡ chosen ++ fact ∷ [] →
-        All (λ other. other < fact) tried → Improves c pick (Upto By fact) old mid → Improves c pick (Upto By (fact + 1)) old mid
-    passed fact deeper tried old mid (inl (inl other)) are below before = none_by fact old mid (λ step e. other e.0) before
-    passed fact deeper tried old mid (inl (inr gone)) are below before =
-        none_by fact old mid (λ step e. lost rest deeper gone step (subst (λ xs. Spread rest xs step) (sym are) e.1)) before
-    passed fact deeper tried old mid (inr (k, other, inside, at, alike)) are below before =
-        alike_by fact other old mid (All-contains (λ x. x < fact) tried other below (k, inside, at)) alike before
-
-    pub spread_passed : (fact : ℕ) (deeper tried : List ℕ) (old mid last : Option Batch) → last ≡ mid → IsPassedOver b side part Live row table deeper tried fact → deeper ≡ chosen ++ fact ∷ [] →
-        All (λ other. other < fact) tried → Improves c pick (Upto By fact) old mid → Improves c pick (Upto By (fact + 1)) old last
-    spread_passed fact deeper tried old mid last same is are below before =
-        subst (Improves c pick (Upto By (fact + 1)) old) (sym same) (passed fact deeper tried old mid is are below before)
 
     joined : (fact : ℕ) (atom : TermAtom) (facts : List ℕ) → IsFactOf b side table fact → AtomOf rest (chosen ++ fact ∷ []) atom facts → AtomOf (table ∷ rest) chosen atom facts
     joined fact atom facts is h =
@@ -156,10 +120,11 @@ module _ (c : Course) (pick : Pick) (b : Branch) (n : ℕ) (side : Side) (part :
           };
         }
 
-    parted : (step : Step) (atom : TermAtom) (facts : List ℕ) → step ≡ steps.Split n atom → AtomOf (table ∷ rest) chosen atom facts → OfAny By step
+    parted : (step : Step) (atom : TermAtom) (facts : List ℕ) → step ≡ steps.Split n atom → AtomOf (table ∷ rest) chosen atom facts →
+        (fact : ℕ) × By fact step
     parted step atom facts same h = at h.has.completes.rest h.has.completes.facts_are h.has.completes.facts_of
       where
-        at : (left : List ℕ) → facts ≡ h.front ++ left → IsMapping b side (table ∷ rest) left → OfAny By step
+        at : (left : List ℕ) → facts ≡ h.front ++ left → IsMapping b side (table ∷ rest) left → (fact : ℕ) × By fact step
         at [] split of = absurd of
         at (y ∷ left) split of =
             let it : AtomOf rest (chosen ++ y ∷ []) atom facts = record {
@@ -172,16 +137,11 @@ module _ (c : Course) (pick : Pick) (b : Branch) (n : ℕ) (side : Side) (part :
             } in
             (y, (of.0, (atom, same, facts, it)))
 
-    pub spread_all : (whole : List ℕ) (bound : ℕ) (old new : Option Batch) → whole ≡ table ∷ rest → length b.facts ≤ bound → Improves c pick (Upto By bound) old new →
-        Improves c pick (Spread whole chosen) old new
-    spread_all whole bound old new split all h =
-        let past = λ (fact : ℕ) (step : Step) (more : bound ≤ fact) (by : By fact step) (is : IsNewIn c step).
-        let below : fact < length b.facts = slice_get_within b.facts fact (by.0).fact (by.0).there in
-        let wrong : ⊥ = omega (arith, all, more, below) in wrong in
-        subst (λ xs. Improves c pick (Spread xs chosen) old new) (sym split)
-        (improves_as c pick (OfAny By) (Spread (table ∷ rest) chosen) old new
-        (λ step e is. let by = e.1 in let at = by.1 in (at.0, at.1, at.2, joined e.0 at.0 at.2 by.0 at.3))
-        (λ step e is. parted step e.0 e.2 e.1 e.3) (improves_end c pick By bound old new h past))
+    pub spread_joined : (fact : ℕ) (step : Step) → IsFactOf b side table fact → Spread rest (chosen ++ fact ∷ []) step → Spread (table ∷ rest) chosen step
+    spread_joined fact step is (atom, same, facts, h) = (atom, same, facts, joined fact atom facts is h)
+
+    pub spread_parted : (step : Step) → Spread (table ∷ rest) chosen step → (fact : ℕ) × By fact step
+    spread_parted step (atom, same, facts, h) = parted step atom facts same h
 
   -- all tables
   pub spread_whole : (from chosen : List ℕ) (old new : Option Batch) → from ≡ part.from → chosen ≡ [] → Improves c pick (Spread from chosen) old new →

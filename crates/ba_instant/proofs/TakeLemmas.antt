@@ -1,12 +1,13 @@
 -- The facts that are chosen for a part's tables: none that can't lead to what is new and comes before what was found.
 use Rattle.std.proofs.Common.{◌≡◌, ◌∙◌, ℕ, ◌+◌, ◌<◌, ◌≤◌, inl, inr, List, [], ◌∷◌, ◌++◌, refl, sym, ap, subst, arith, append_assoc}
-use Rattle.std.specs.List.{Any}
+use Rattle.std.proofs.lemmas.Option.{slice_get_within}
 use Rattle.std.specs.Prelude.{◌≢◌, Option, None, max}
 use Rattle.ba_model.specs.declared.query.Part.{Part}
-use Rattle.ba_facts.proofs.SearchingLemmas.{completes_last}
+use Rattle.ba_facts.proofs.WalkLemmas.{completes_last}
 use Rattle.ba_facts.specs.Matches.{IsFactOf, round_of}
+use Rattle.ba_facts.specs.Walks.{every}
 use Rattle.ba_facts.specs.declared.branch.Branch.{Branch}
-use Rattle.ba_facts.specs.declared.matches.search.Wanted.TheVariants.{Shown}
+use Rattle.ba_facts.specs.declared.walk.Wanted.TheVariants.{Shown}
 use Rattle.ba_facts.specs.declared.term.Side.{Side}
 use Rattle.ba_kernel.specs.Courses.{branch_of}
 use Rattle.ba_kernel.specs.Steps.{IsRound}
@@ -16,10 +17,11 @@ use Rattle.ba_kernel.specs.declared.step.Step.TheVariants as steps
 use Rattle.ba_instant.proofs.DueLemmas.{round_in, round_on}
 use Rattle.ba_instant.proofs.LateLemmas.{improves_behind, untimely_reaches, untimely_some}
 use Rattle.ba_instant.proofs.ScanLemmas.{recent_or, telling_late}
-use Rattle.ba_instant.proofs.MapLemmas.{By, From, by_from, from_by}
-use Rattle.ba_instant.proofs.OfferLemmas.{improves_as, improves_next}
+use Rattle.ba_instant.proofs.MapLemmas.{From}
+use Rattle.ba_instant.proofs.OfferLemmas.{improves_as}
+use Rattle.ba_instant.proofs.OfferWalks.{in_every}
 use Rattle.ba_instant.specs.Scans.{AreOld, IsScanOf, IsTimelyOf, TellsOf, least_round}
-use Rattle.ba_instant.specs.Offers.{Improves, IsNewOf, IsNewIn, IsRoundIn, IsTelling, OfAny, Reaches, Upto, fact_round, step_of}
+use Rattle.ba_instant.specs.Offers.{Among, Improves, IsNewOf, IsNewIn, IsRoundIn, IsTelling, Reaches, fact_round, step_of}
 use Rattle.ba_instant.specs.declared.batch.Batch.{Batch}
 use Rattle.ba_instant.specs.declared.scan.NewStep.{NewStep}
 use Rattle.ba_instant.specs.declared.mapped.Form.{Form}
@@ -90,7 +92,7 @@ module _ (c : Course) (pick : Pick) (b : Branch) (n : ℕ) (form : Form) (side :
 
   module _ (table : ℕ) (rest chosen : List ℕ) where
     abbrev pub One : ℕ → Step → Type 0
-    One = By c pick b n form side part table rest chosen
+    One fact step = IsFactOf b side table fact × From c pick b n form side part rest (chosen ++ fact ∷ []) step
 
     -- a step on facts of which this is one
     late_at : (form : Form) (fact : ℕ) (facts after : List ℕ) (it : NewStep) (P : Step → Type 0) (best : Option Batch) → it.step ≡ step_of n form facts → facts ≡ chosen ++ fact ∷ after →
@@ -112,55 +114,35 @@ module _ (c : Course) (pick : Pick) (b : Branch) (n : ℕ) (form : Form) (side :
     late_some (OfView view number) fact best untimely = untimely_some (fact_round b fact) best untimely
     late_some (OfGoal number) fact best untimely = absurd (untimely tt)
 
-    -- it is no such fact, or no step on it comes first
-    pub not_taken : (fact : ℕ) (best : Option Batch) → (IsFactOf b side table fact × IsTimelyOf b form fact best → ⊥) → Improves c pick (One fact) best best
-    not_taken fact best none =
+    -- no step on it comes first
+    pub not_timely : (fact : ℕ) (best : Option Batch) → (IsTimelyOf b form fact best → ⊥) → Improves c pick (One fact) best best
+    not_timely fact best untimely =
         improves_behind c pick (One fact) best
         (λ it h.
         let from = (h.of).1 in
         let completes = from.2 in
-        late_at form fact from.0 completes.rest it (One fact) best from.1 (completes.facts_are ∙ append_assoc chosen (fact ∷ []) completes.rest) h (λ timely. none ((h.of).0, timely)))
-        (λ step e new. late_some form fact best (λ timely. none (e.0, timely)))
-
-    pub mapped_passed : (fact : ℕ) (old best last : Option Batch) → last ≡ best → (IsFactOf b side table fact × IsTimelyOf b form fact best → ⊥) →
-        Improves c pick (Upto One fact) old best → Improves c pick (Upto One (fact + 1)) old last
-    mapped_passed fact old best last same none before =
-        subst (Improves c pick (Upto One (fact + 1)) old) (sym same) (improves_next c pick One fact old best best before (not_taken fact best none))
+        late_at form fact from.0 completes.rest it (One fact) best from.1 (completes.facts_are ∙ append_assoc chosen (fact ∷ []) completes.rest) h untimely)
+        (λ step e new. late_some form fact best untimely)
 
   -- ---- the last table
 
   module _ (table : ℕ) (chosen : List ℕ) where
-    abbrev pub Last : ℕ → Step → Type 0
-    Last = By c pick b n form side part table [] chosen
+    abbrev Last : List ℕ → Step → Type 0
+    Last = Among b side (From c pick b n form side part) (table ∷ []) chosen
 
-    pub last_taken : (fact : ℕ) (deeper : List ℕ) (old new : Option Batch) → IsFactOf b side table fact → deeper ≡ chosen ++ fact ∷ [] →
-        Improves c pick (From c pick b n form side part [] deeper) old new → Improves c pick (Last fact) old new
-    last_taken fact deeper old new is are h =
-        improves_as c pick (From c pick b n form side part [] deeper) (Last fact) old new
-        (λ step e new. (is, subst (λ xs. From c pick b n form side part [] xs step) are e))
-        (λ step e new. subst (λ xs. From c pick b n form side part [] xs step) (sym are) e.1) h
-
-    last_recent : AreOld b quiet form chosen → (step : Step) → OfAny Last step → IsNewIn c step → Any (λ fact. Last fact step) recent
-    last_recent old step (fact, by) new =
-        let from = by.1 in
-        elim (recent_or b quiet recent look.recent_ fact (by.0).fact (by.0).there) [
-          | inl in_ ↦ (in_.0, fact, in_.1, in_.2, by)
-          | inr below ↦
-              let push = round_push b chosen fact in
-              let less = old.1 in
-              absurd (none_old (chosen ++ fact ∷ []) step
-              (from.1 ∙ ap (step_of n form) (completes_last b side part Shown (chosen ++ fact ∷ []) from.0 from.2))
-              (old.0, omega (arith, push, less, below)) new)
-        ]
+    last_recent : AreOld b quiet form chosen → (step : Step) → Last (every b) step → IsNewIn c step → Last recent step
+    last_recent old step (fact, has, is, from) new = elim (recent_or b quiet recent look.recent_ fact is.fact is.there) [
+      | inl in_ ↦ (fact, in_, is, from)
+      | inr below ↦
+          let push = round_push b chosen fact in
+          let less = old.1 in
+          absurd (none_old (chosen ++ fact ∷ []) step
+          (from.1 ∙ ap (step_of n form) (completes_last b side part Shown (chosen ++ fact ∷ []) from.0 from.2))
+          (old.0, omega (arith, push, less, below)) new)
+    ]
 
     -- the last fact is recent, since the chosen ones aren't
-    pub last_all : AreOld b quiet form chosen → (old new : Option Batch) → Improves c pick (λ step. Any (λ fact. Last fact step) recent) old new →
-        Improves c pick (From c pick b n form side part (table ∷ []) chosen) old new
+    pub last_all : AreOld b quiet form chosen → (old new : Option Batch) → Improves c pick (Last recent) old new → Improves c pick (Last (every b)) old new
     last_all are_old old new h =
-        improves_as c pick (λ step. Any (λ fact. Last fact step) recent) (From c pick b n form side part (table ∷ []) chosen) old new
-        (λ step e is. by_from c pick b n form side part table [] chosen step (e.1, e.4))
-        (λ step e is. last_recent are_old step (from_by c pick b n form side part table [] chosen step e) is) h
-
-    pub last_as : (from rest : List ℕ) (old new : Option Batch) → from ≡ table ∷ rest → rest ≡ [] → Improves c pick (From c pick b n form side part (table ∷ []) chosen) old new →
-        Improves c pick (From c pick b n form side part from chosen) old new
-    last_as from rest old new is none h = subst (λ xs. Improves c pick (From c pick b n form side part xs chosen) old new) (sym (is ∙ ap (λ xs. table ∷ xs) none)) h
+        improves_as c pick (Last recent) (Last (every b)) old new
+        (λ step e is. (e.0, in_every b e.0 (slice_get_within b.facts e.0 (e.2).fact (e.2).there), e.2, e.3)) (λ step e is. last_recent are_old step e is) h

@@ -10,12 +10,10 @@ use Rattle.ba_model.specs.declared.schema.Link.{Link}
 use Rattle.ba_model.specs.declared.schema.Rule.{Rule}
 use Rattle.ba_model.specs.declared.schema.Schema.{Schema}
 use Rattle.ba_model.specs.declared.schema.Table.{Table}
-use Rattle.ba_facts.specs.Known.{Known}
-use Rattle.ba_facts.specs.Matches.{GivesAtom, IsLiveAtom, Under, terms_at}
+use Rattle.ba_facts.specs.Matches.{GivesAtom, IsFactOf, IsLiveAtom, terms_at}
 use Rattle.ba_facts.specs.Walks.{Completes}
-use Rattle.ba_facts.specs.Shown.{ShowsOf}
 use Rattle.ba_facts.specs.declared.branch.Branch.{Branch}
-use Rattle.ba_facts.specs.declared.matches.search.Wanted.TheVariants.{Shown}
+use Rattle.ba_facts.specs.declared.walk.Wanted.TheVariants.{Shown}
 use Rattle.ba_facts.specs.declared.term.Side.{Side}
 use Rattle.ba_facts.specs.declared.term.Side.TheVariants.{One, Two}
 use Rattle.ba_facts.specs.declared.term.Term.{Term}
@@ -208,10 +206,6 @@ abbrev pub IsMapped : Branch → ℕ → Form → Side → Part → Step → Typ
 IsMapped b number form side part step =
     (facts : List ℕ) × (step ≡ step_of number form facts) × FactsPass b side part facts
 
--- both terms are there, and the atom isn't shown
-abbrev pub IsHidden : Known → List (List Term) → Atom → Type 0
-IsHidden k rows atom = Under (λ op a b. ¬ (ShowsOf k op a b)) rows atom
-
 -- of the chosen facts and one of each of these tables that together show the part's atoms
 abbrev pub IsMappedFrom : Branch → ℕ → Form → Side → Part → List ℕ → List ℕ → Step → Type 0
 IsMappedFrom b number form side part from chosen step =
@@ -225,6 +219,17 @@ IsStepOf it = IsMapped it.scan.now.branch.now it.scan.now.number it.form it.side
 abbrev pub IsStepFrom : Mapped → List ℕ → List ℕ → Step → Type 0
 IsStepFrom it from chosen =
     IsMappedFrom it.scan.now.branch.now it.scan.now.number it.form it.side it.part.now from chosen
+
+-- of a set of steps for tables and chosen facts: those with one of these facts for the first table
+abbrev pub Among : Branch → Side → (List ℕ → List ℕ → Step → Type 0) → List ℕ → List ℕ → List ℕ →
+    Step → Type 0
+Among b side F [] chosen numbers step = F [] chosen step
+Among b side F (table ∷ rest) chosen numbers step =
+    (fact : ℕ) × Contains numbers fact × IsFactOf b side table fact ×
+    F rest (chosen ++ fact ∷ []) step
+
+abbrev pub IsStepAmong : Mapped → List ℕ → List ℕ → List ℕ → Step → Type 0
+IsStepAmong it = Among it.scan.now.branch.now it.side (IsStepFrom it)
 
 -- of the form, on any facts
 abbrev pub IsOfForm : ℕ → Form → Step → Type 0

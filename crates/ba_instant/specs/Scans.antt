@@ -1,11 +1,16 @@
 -- A scan of a branch of which it is known up to which round nothing is new, and what needn't be
 -- looked at.
 use Rattle.std.specs.Prelude.{◌≡◌, ◌⊎◌, ℕ, ◌+◌, ◌<◌, ◌≤◌, List, All, Any, Contains, max, Option, Some, None, slice_get}
+use Rattle.ba_model.specs.declared.query.Part.{Part}
 use Rattle.ba_model.specs.declared.schema.Schema.{Schema}
 use Rattle.ba_model.specs.declared.schema.Table.{Table}
 use Rattle.ba_facts.specs.Matches.{round_of}
+use Rattle.ba_facts.specs.Walks.{IsHopeless, every}
 use Rattle.ba_facts.specs.declared.branch.Branch.{Branch}
 use Rattle.ba_facts.specs.declared.term.Fact.{Fact}
+use Rattle.ba_facts.specs.declared.term.Side.{Side}
+use Rattle.ba_facts.specs.declared.walk.Walk.{Walk}
+use Rattle.ba_facts.specs.declared.walk.Wanted.{Wanted}
 use Rattle.ba_kernel.specs.Courses.{IsOpen}
 use Rattle.ba_kernel.specs.News.{IsNewOn}
 use Rattle.ba_kernel.specs.Steps.{AreEqualAt, IsRound, KeyPasses}
@@ -13,11 +18,12 @@ use Rattle.ba_kernel.specs.Tests.{Course}
 use Rattle.ba_kernel.specs.declared.problem.Problem.{Problem}
 use Rattle.ba_kernel.specs.declared.step.Step.{Step}
 use Rattle.ba_kernel.specs.declared.step.Step.TheVariants as steps
-use Rattle.ba_instant.specs.Offers.{Improves, IsKeyOfPair, IsKeyStep, HasEarlier, OfAny, fact_round}
+use Rattle.ba_instant.specs.Offers.{Improves, IsKeyOfPair, IsKeyStep, IsStepAmong, HasEarlier, OfAny, fact_round}
 use Rattle.ba_instant.specs.Windows.{IsQuietUpto}
 use Rattle.ba_instant.specs.declared.batch.Batch.{Batch}
 use Rattle.ba_instant.specs.declared.mapped.Form.{Form}
 use Rattle.ba_instant.specs.declared.mapped.Form.TheVariants.{OfRule, OfView, OfGoal}
+use Rattle.ba_instant.specs.declared.mapped.Mapped.{Mapped}
 use Rattle.ba_instant.specs.declared.order.Pick.{Pick}
 use Rattle.ba_instant.specs.declared.order.Pick.TheVariants.{First}
 use Rattle.ba_instant.specs.declared.scan.Scan.{Scan}
@@ -96,6 +102,27 @@ TellsOf (OfGoal part) = ⊥
 -- the form's steps tell something, and none of the facts is recent
 abbrev pub AreOld : Branch → ℕ → Form → List ℕ → Type 0
 AreOld b quiet form chosen = TellsOf form × (round_of b chosen < quiet)
+
+-- ---- walks
+
+-- the walk is over the scan's branch
+pub record IsWalkOf (scan : Scan) (side : Side) (part : Part) (wanted : Wanted) (walk : Walk)
+    : Type 0 where
+  pub branch_is : walk.branch.now ≡ scan.branch.now
+  pub side_is : walk.side ≡ side
+  pub part_is : walk.part.now ≡ part
+  pub wanted_is : walk.wanted ≡ wanted
+
+-- whatever was offered of the steps with one of these facts for the next table was of any with all
+abbrev pub AreEnough : Mapped → List ℕ → List ℕ → List ℕ → Type 0
+AreEnough it from chosen numbers =
+    (old new : Option Batch) → ImprovesBy it.scan.now (IsStepAmong it from chosen numbers) old new →
+    ImprovesBy it.scan.now (IsStepAmong it from chosen (every it.scan.now.branch.now)) old new
+
+-- no step on facts that begin with the chosen ones is new and comes first
+abbrev pub IsNoUse : Mapped → Walk → List ℕ → Option Batch → Type 0
+IsNoUse it walk chosen best =
+    IsOvertaken it.scan.now.pick it.scan.now.number it.form best chosen ⊎ IsHopeless walk chosen
 
 -- ---- keys
 

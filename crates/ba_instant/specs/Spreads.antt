@@ -9,12 +9,12 @@ use Rattle.ba_model.specs.declared.query.Operand.TheVariants.{Col, Val, Param, V
 use Rattle.ba_model.specs.declared.query.Part.{Part}
 use Rattle.ba_facts.specs.Known.{Known}
 use Rattle.ba_facts.specs.Matches.{GivesAtom, HeadIs, IsFactOf, IsLive, terms_at}
-use Rattle.ba_facts.specs.Searching.{Completes, FailsAt, HasAtomFrom}
+use Rattle.ba_facts.specs.Walks.{Completes, HasAtomFrom}
 use Rattle.ba_facts.specs.Shown.{RefutesOf, ShowsOf}
 use Rattle.ba_facts.specs.declared.branch.Branch.{Branch}
 use Rattle.ba_facts.specs.declared.term.Fact.{Fact}
-use Rattle.ba_facts.specs.declared.matches.search.Wanted.{Wanted}
-use Rattle.ba_facts.specs.declared.matches.search.Wanted.TheVariants.{Live, Shown}
+use Rattle.ba_facts.specs.declared.walk.Walk.{Walk}
+use Rattle.ba_facts.specs.declared.walk.Wanted.TheVariants.{Live, Shown}
 use Rattle.ba_facts.specs.declared.term.Side.{Side}
 use Rattle.ba_facts.specs.declared.term.Side.TheVariants.{Two}
 use Rattle.ba_facts.specs.declared.term.Term.{Term}
@@ -22,7 +22,7 @@ use Rattle.ba_facts.specs.declared.term.TermAtom.{TermAtom}
 use Rattle.ba_kernel.specs.declared.step.Step.{Step}
 use Rattle.std.specs.Option.{option_copied}
 use Rattle.ba_facts.specs.Alike.{AreAlike}
-use Rattle.ba_instant.specs.Offers.{IsSplitBy, IsSplitOfPart}
+use Rattle.ba_instant.specs.Offers.{Among, IsSplitBy, IsSplitOfPart}
 use Rattle.ba_instant.specs.declared.reach.Reach.{Reach}
 use Rattle.ba_instant.specs.declared.spread.Spread.{Spread}
 
@@ -64,21 +64,6 @@ pub record IsLiveWith (b : Branch) (part : Part) (row : Option (List Term)) (cho
   pub live : All (IsLive b.known (map (terms_at b) chosen)) part.conds
   pub head : HeadIs b part chosen row
 
--- whatever facts follow the chosen ones, some atom isn't what is wanted, or the head isn't the same
--- as the row
-abbrev pub IsLost : Branch → Part → Wanted → Option (List Term) → List ℕ → Type 0
-IsLost b part wanted row chosen =
-    Any (FailsAt b.known wanted (map (terms_at b) chosen)) part.conds ⊎
-    ((rest : List ℕ) → ¬ (HeadIs b part (chosen ++ rest) row))
-
--- the fact that was chosen last is none of the table on the side, leads to nothing, or is alike to
--- one that was tried
-abbrev pub IsPassedOver : Branch → Side → Part → Wanted → Option (List Term) → ℕ → List ℕ → List ℕ → ℕ →
-    Type 0
-IsPassedOver b side part wanted row table chosen tried fact =
-    (¬ (IsFactOf b side table fact) ⊎ IsLost b part wanted row chosen) ⊎
-    Any (λ other. AreAlike b other fact) tried
-
 -- ---- so it is of a spread
 
 -- its splits, and those of the mappings of which the first facts are like the chosen ones
@@ -92,18 +77,9 @@ IsSplitFrom it from chosen =
     IsSpread it.scan.now.branch.now it.scan.now.number it.side it.part.now (option_copied it.row)
     from chosen
 
--- the chosen facts are live with its row, or lead to no live mapping
-abbrev pub IsLiveOn : Spread → List ℕ → Type 0
-IsLiveOn it chosen = IsLiveWith it.scan.now.branch.now it.part.now (option_copied it.row) chosen
-
-abbrev pub LeadsNowhere : Spread → List ℕ → Type 0
-LeadsNowhere it chosen =
-    IsLost it.scan.now.branch.now it.part.now Live (option_copied it.row) chosen
-
-abbrev pub PassesBy : Spread → ℕ → List ℕ → List ℕ → ℕ → Type 0
-PassesBy it table chosen tried fact =
-    IsPassedOver it.scan.now.branch.now it.side it.part.now Live (option_copied it.row) table chosen
-    tried fact
+-- of these, those with one of these facts for the next table
+abbrev pub IsSplitAmong : Spread → List ℕ → List ℕ → List ℕ → Step → Type 0
+IsSplitAmong it = Among it.scan.now.branch.now it.side (IsSplitFrom it)
 
 -- ---- an atom over facts that are like the chosen ones
 
@@ -170,12 +146,6 @@ pub record IsReached (b : Branch) (part : Part) (row : List Term) (from chosen f
 unfoldable pub HasFact : Branch → ℕ → Type 0
 HasFact b table = Any (λ (fact : Fact). (fact.side ≡ Two) × (fact.table ≡ table)) b.facts
 
--- there are none whose next fact is one of the table below the bound
-abbrev pub NoneBelow : Branch → Part → List Term → ℕ → List ℕ → List ℕ → ℕ → Type 0
-NoneBelow b part row table rest chosen bound =
-    (fact : ℕ) → fact < bound → IsFactOf b Two table fact → (facts : List ℕ) →
-    ¬ (IsReached b part row rest (chosen ++ fact ∷ []) facts)
-
 -- ---- so it is of what is reached
 
 -- no facts are, of which the first are like the chosen ones, the others of these tables
@@ -183,9 +153,15 @@ abbrev pub NoneReach : Reach → List ℕ → List ℕ → Type 0
 NoneReach it from chosen =
     (facts : List ℕ) → IsReached it.branch.now it.part.now it.row.now from chosen facts → ⊥
 
-abbrev pub IsLostBy : Reach → List ℕ → Type 0
-IsLostBy it chosen = IsLost it.branch.now it.part.now Shown (Some it.row.now) chosen
+-- none are with one of these facts for the next table
+abbrev pub NoneReachAmong : Reach → List ℕ → List ℕ → List ℕ → Type 0
+NoneReachAmong it [] chosen numbers = NoneReach it [] chosen
+NoneReachAmong it (table ∷ rest) chosen numbers =
+    (fact : ℕ) → Contains numbers fact → IsFactOf it.branch.now Two table fact →
+    NoneReach it rest (chosen ++ fact ∷ [])
 
-abbrev pub IsPassedBy : Reach → ℕ → List ℕ → List ℕ → ℕ → Type 0
-IsPassedBy it table chosen tried fact =
-    IsPassedOver it.branch.now Two it.part.now Shown (Some it.row.now) table chosen tried fact
+-- the walk is over the branch's facts of side Two that show the part's atoms
+pub record IsWalkFor (it : Reach) (walk : Walk) : Type 0 where
+  pub branch_is : walk.branch.now ≡ it.branch.now
+  pub part_is : walk.part.now ≡ it.part.now
+  pub wanted_is : walk.wanted ≡ Shown

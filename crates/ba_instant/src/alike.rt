@@ -8,11 +8,11 @@ use ba_facts::Branch;
 use std::alloc::{AllocError, Global};
 
 /// Whether the fact is alike to one of the others from a place on.
-pub fn has_alike(branch: &Branch, others: &[u32], from: usize, fact: u32) -> bool
+pub fn has_alike(branch: &Branch, others: &[usize], from: usize, fact: usize) -> bool
     ensures { IsTrue result → Any (λ other. AreAlike branch.now other fact) others.now }
 {
     for i in from..others.len() {
-        if branch.are_alike(others[i] as usize, fact as usize) {
+        if branch.are_alike(others[i], fact) {
             return true;
         }
     }

@@ -1,18 +1,15 @@
 //! Steps on facts that a part is mapped to.
-ghost use Rattle.std.specs.Prelude.{◌≡◌, ◌↔◌, [], ◌∷◌, Any, IfOk, IsTrue, OnOk};
-ghost use Rattle.ba_facts.specs.Matches.{IsFactOf};
-ghost use Rattle.ba_kernel.specs.Effects.{rows_at};
-ghost use Rattle.ba_instant.specs.Scans.{AreOld, ImprovesBy, IsOvertaken, IsScan, IsTimelyOf, least_round};
-ghost use Rattle.ba_instant.specs.Offers.{IsHidden, IsStepFrom, IsStepOf, step_of};
+ghost use Rattle.std.specs.Prelude.{◌≡◌, ◌↔◌, IfOk, IsTrue, OnOk};
+ghost use Rattle.ba_instant.specs.Scans.{AreOld, ImprovesBy, IsNoUse, IsOvertaken, IsScan, IsTimelyOf, least_round};
+ghost use Rattle.ba_instant.specs.Offers.{IsStepOf, step_of};
 
 use crate::batch::{Batch, is_behind, is_timely};
 use crate::order::Pick;
-use crate::recent::{fact_round, greatest_round};
-use crate::scan::{Scan, counted};
-use ba_facts::{Branch, Side};
+use crate::scan::Scan;
+use ba_facts::{Offered, Side, Visit, Walk, Wanted, numbers_of};
 use ba_kernel::Step;
-use ba_model::{Atom, List, Part};
-use std::alloc::{AllocError, Global};
+use ba_model::{List, Part};
+use std::alloc::AllocError;
 
 /// A step without its branch and facts.
 #[derive(Clone, Copy)]
@@ -58,99 +55,112 @@ pub struct Mapped<'a> {
     pub side: Side,
 }
 
+impl Visit for Mapped<'_> {
+    ghost use Rattle.std.specs.Prelude.{[]};
+    ghost use Rattle.ba_facts.specs.declared.walk.Wanted.TheVariants.{Shown};
+    ghost use Rattle.ba_instant.specs.Offers.{IsStepAmong};
+    ghost use Rattle.ba_instant.specs.Scans.{AreEnough, ImprovesBy, IsScan, IsWalkOf};
+
+    type State = Option<Batch>;
+
+    type Tried = ();
+
+    type Stop = AllocError;
+
+    ghost ready = { λ own walk.
+        IsScan own.scan.now × IsWalkOf own.scan.now own.side own.part.now Shown walk };
+
+    ghost offers = { λ own walk from chosen numbers. AreEnough own from chosen numbers };
+
+    ghost numbers = { λ tried. [] };
+
+    ghost visited = { λ own walk from chosen numbers old new.
+        ImprovesBy own.scan.now (IsStepAmong own from chosen numbers) old new };
+
+    ghost stopped = { λ own walk from chosen stop. Unit {0} };
+
+    /// Where none of the chosen facts is recent, the last one has to be.
+    fn offered<'a>(&'a self, walk: &'a Walk<'a>, from: &[u32], chosen: &[usize]) -> Offered<'a> {
+        if from.len() == 1 && self.are_old(chosen) {
+            return Offered::These(self.scan.recent);
+        }
+        Offered::Every(walk.branch.facts.len())
+    }
+
+    fn none_tried(&self) {}
+
+    fn takes(
+        &self,
+        walk: &Walk<'_>,
+        from: &[u32],
+        chosen: &[usize],
+        number: usize,
+        _tried: &mut (),
+        best: &Option<Batch>,
+    ) -> Result<bool, AllocError> {
+        if !self.is_timely(number, best) {
+            return Ok(false);
+        }
+        if from.len() == 1 {
+            return Ok(true);
+        }
+        let no_use = self.is_no_use(walk, chosen, best)?;
+        Ok(!no_use)
+    }
+
+    fn end(
+        &self,
+        walk: &Walk<'_>,
+        chosen: &[usize],
+        best: &mut Option<Batch>,
+    ) -> Result<(), AllocError> {
+        if !walk.is_met(chosen) {
+            return Ok(());
+        }
+        let facts = numbers_of(self.scan.alloc, chosen)?;
+        let step = self.form.on(self.scan.number, facts);
+        self.offer_shown(chosen, step, best)?;
+        Ok(())
+    }
+}
+
 impl<'a> Mapped<'a> {
     /// Offers the step on each facts of the side that show the part's atoms.
-    #[tactic(auto, using(crate::proofs::MapLemmas::mapped_whole))]
     pub fn offer(&self, best: &mut Option<Batch>) -> Result<(), AllocError>
         requires { IsScan self.now.scan.now }
         ensures { OnOk result (ImprovesBy self.now.scan.now (IsStepOf self.now) best.old best.new) }
     {
-        let mut chosen = Vec::new(self.scan.alloc);
-        self.offer_from(self.part.from.as_slice(), &mut chosen, best)?;
-        Ok(())
-    }
-
-    /// Offers the step on the chosen facts and one fact of each further table.
-    fn offer_from(
-        &self,
-        from: &[u32],
-        chosen: &mut Vec<u32>,
-        best: &mut Option<Batch>,
-    ) -> Result<(), AllocError>
-        requires { IsScan self.now.scan.now }
-        ensures chosen { OnOk result (chosen.new.items ≡ chosen.old.items) }
-        ensures best { OnOk result (ImprovesBy self.now.scan.now
-            (IsStepFrom self.now from.now chosen.old.items) best.old best.new) }
-    {
-        let Some((table, rest)) = from.split_first() else {
-            return self.offer_on(chosen, best);
+        let walk = Walk {
+            branch: self.scan.branch,
+            side: self.side,
+            part: self.part,
+            wanted: Wanted::Shown,
         };
-        if self.is_overtaken(chosen, best)? {
+        if self.is_no_use(&walk, &[], best)? {
             return Ok(());
         }
-        if is_hopeless(self.scan.branch, self.part, chosen) {
-            return Ok(());
-        }
-        if rest.is_empty() && self.are_old(chosen) {
-            return self.offer_recent(*table, chosen, best);
-        }
-        let count = counted(self.scan.branch.facts.len())?;
-        for fact in 0..count {
-            if self.may_take(*table, fact, best) {
-                chosen.push(fact)?;
-                self.offer_from(rest, chosen, best)?;
-                chosen.pop();
-            }
-        }
+        let mut chosen = vec![in self.scan.alloc; 0; self.part.from.len()]?;
+        walk.visit(self, &mut chosen, best)?;
         Ok(())
     }
 
-    /// Offers the step on the chosen facts and one more of the table. None of the chosen ones is
-    /// recent, so that the last one is.
-    fn offer_recent(
+    /// Whether no step on facts that begin with the chosen ones is new and comes first.
+    fn is_no_use(
         &self,
-        table: u32,
-        chosen: &mut Vec<u32>,
-        best: &mut Option<Batch>,
-    ) -> Result<(), AllocError>
-        requires look { IsScan self.now.scan.now }
-        requires old { AreOld self.now.scan.now.branch.now self.now.scan.now.quiet self.now.form
-            chosen.old.items }
-        ensures chosen { OnOk result (chosen.new.items ≡ chosen.old.items) }
-        ensures best { OnOk result (ImprovesBy self.now.scan.now
-            (IsStepFrom self.now (table ∷ []) chosen.old.items) best.old best.new) }
+        walk: &Walk<'_>,
+        chosen: &[usize],
+        best: &Option<Batch>,
+    ) -> Result<bool, AllocError>
+        ensures { IfOk result (λ it. IsTrue it → IsNoUse self.now walk.now chosen.now best.now) }
     {
-        for fact in self.scan.recent {
-            if self.may_take(table, *fact, best) {
-                chosen.push(*fact)?;
-                self.offer_on(chosen, best)?;
-                chosen.pop();
-            }
-        }
-        Ok(())
-    }
-
-    /// Offers the step on the facts, if they show the part's atoms.
-    fn offer_on(&self, facts: &[u32], best: &mut Option<Batch>) -> Result<(), AllocError>
-        requires { IsScan self.now.scan.now }
-        ensures { OnOk result
-            (ImprovesBy self.now.scan.now (IsStepFrom self.now [] facts.now) best.old best.new) }
-    {
-        match self.scan.branch.undecided(self.part, facts) {
-            None => {
-                let numbers = copied(self.scan.alloc, facts)?;
-                let step = self.form.on(self.scan.number, numbers);
-                self.offer_shown(facts, step, best)?;
-                Ok(())
-            }
-            Some(_) => Ok(()),
-        }
+        let overtaken = self.is_overtaken(chosen, best)?;
+        Ok(overtaken || walk.is_hopeless(chosen))
     }
 
     /// Offers the step on the facts, which show the part's atoms.
     fn offer_shown(
         &self,
-        facts: &[u32],
+        facts: &[usize],
         step: Step,
         best: &mut Option<Batch>,
     ) -> Result<(), AllocError>
@@ -168,13 +178,13 @@ impl<'a> Mapped<'a> {
 
     /// Whether a step that reaches the goal was found that isn't picked after any on facts that
     /// begin with the chosen ones.
-    fn is_overtaken(&self, chosen: &[u32], best: &Option<Batch>) -> Result<bool, AllocError>
+    fn is_overtaken(&self, chosen: &[usize], best: &Option<Batch>) -> Result<bool, AllocError>
         ensures { IfOk result (λ it. IsTrue it → IsOvertaken self.now.scan.now.pick
             self.now.scan.now.number self.now.form best.now chosen.now) }
     {
         match (self.form, self.scan.pick, best) {
             (Form::OfGoal { .. }, Pick::First, Some(_)) => {
-                let facts = copied(self.scan.alloc, chosen)?;
+                let facts = numbers_of(self.scan.alloc, chosen)?;
                 let step = self.form.on(self.scan.number, facts);
                 Ok(is_behind(Pick::First, best, &step))
             }
@@ -183,85 +193,36 @@ impl<'a> Mapped<'a> {
     }
 
     /// The least round of the step on the facts.
-    fn least_round(&self, facts: &[u32]) -> u64
+    fn least_round(&self, facts: &[usize]) -> u64
         ensures { result ≡ least_round self.now.scan.now.branch.now self.now.form facts.now }
     {
         match self.form {
             Form::OfGoal { .. } => 0,
-            _ => u64::from(greatest_round(self.scan.branch, facts)) + 1,
+            _ => u64::from(self.scan.branch.round_of(facts)) + 1,
         }
     }
 
     /// Whether the step tells something, and none of the facts is recent.
-    fn are_old(&self, chosen: &[u32]) -> bool
+    fn are_old(&self, chosen: &[usize]) -> bool
         ensures { IsTrue result
             ↔ AreOld self.now.scan.now.branch.now self.now.scan.now.quiet self.now.form chosen.now }
     {
         match self.form {
             Form::OfGoal { .. } => false,
-            _ => greatest_round(self.scan.branch, chosen) < self.scan.quiet,
+            _ => self.scan.branch.round_of(chosen) < self.scan.quiet,
         }
     }
 
-    /// Whether the number is that of a fact of the table on the side, and the step on it isn't of a
-    /// later round than what was found.
-    fn may_take(&self, table: u32, fact: u32, best: &Option<Batch>) -> bool
-        ensures { IsTrue result ↔ (IsFactOf self.now.scan.now.branch.now self.now.side table fact
-            × IsTimelyOf self.now.scan.now.branch.now self.now.form fact best.now) }
-    {
-        self.is_fact(table, fact) && self.is_timely(fact, best)
-    }
-
-    fn is_timely(&self, fact: u32, best: &Option<Batch>) -> bool
+    /// Whether the step on the fact may be of no later a round than what was found.
+    fn is_timely(&self, fact: usize, best: &Option<Batch>) -> bool
         ensures { IsTrue result
             ↔ IsTimelyOf self.now.scan.now.branch.now self.now.form fact best.now }
     {
-        let round = fact_round(self.scan.branch, fact);
+        let round = self.scan.branch.round_at(fact);
         match self.form {
             Form::OfRule { .. } => is_timely(round, best),
             Form::OfView { .. } => is_timely(round, best),
             Form::OfGoal { .. } => true,
         }
     }
-
-    /// Whether the number is that of a fact of the table on the side.
-    fn is_fact(&self, table: u32, number: u32) -> bool
-        ensures { IsTrue result ↔ IsFactOf self.now.scan.now.branch.now self.now.side table number }
-    {
-        match self.scan.branch.facts.find(number as usize) {
-            Some(fact) => fact.side == self.side && fact.table == table,
-            None => false,
-        }
-    }
-}
-
-/// Whether an atom of the part isn't shown, whatever further facts are chosen: the chosen ones give
-/// both its terms.
-fn is_hopeless(branch: &Branch, part: &Part, chosen: &[u32]) -> bool
-    ensures { IsTrue result
-        ↔ Any (IsHidden branch.now.known (rows_at branch.now chosen.now)) part.now.conds }
-{
-    let conds = part.conds.as_slice();
-    conds.iter().any(|atom| is_hidden(branch, chosen, atom))
-}
-
-fn is_hidden(branch: &Branch, chosen: &[u32], atom: &Atom) -> bool
-    ensures { IsTrue result ↔ IsHidden branch.now.known (rows_at branch.now chosen.now) atom.now }
-{
-    match (
-        branch.term_of(chosen, &atom.left),
-        branch.term_of(chosen, &atom.right),
-    ) {
-        (Some(left), Some(right)) => !branch.known.shows(atom.op, left, right),
-        _ => false,
-    }
-}
-
-/// The same numbers.
-fn copied(alloc: Global, numbers: &[u32]) -> Result<List<u32>, AllocError>
-    ensures { IfOk result (λ it. it ≡ numbers.now) }
-{
-    let mut all = Vec::new(alloc);
-    all.extend_from_slice(numbers)?;
-    Ok(List::from_vec(all))
 }

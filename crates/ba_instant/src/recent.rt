@@ -1,6 +1,5 @@
 //! Recent facts.
 ghost use Rattle.std.specs.Prelude.{◌≡◌, IfOk};
-ghost use Rattle.ba_facts.specs.Matches.{round_of};
 ghost use Rattle.ba_instant.specs.Agendas.{AreOlder};
 ghost use Rattle.ba_instant.specs.Scans.{AreRecent};
 ghost use Rattle.ba_instant.specs.Offers.{fact_round};
@@ -53,15 +52,4 @@ pub fn fact_round(branch: &Branch, fact: u32) -> u32
         Some(it) => it.round,
         None => 0,
     }
-}
-
-/// The greatest round of the facts, or 0.
-pub fn greatest_round(branch: &Branch, facts: &[u32]) -> u32
-    ensures { result ≡ round_of branch.now facts.now }
-{
-    let mut greatest: u32 = 0;
-    for fact in facts {
-        greatest = greatest.max(fact_round(branch, *fact));
-    }
-    greatest
 }

@@ -1,19 +1,16 @@
 //! Splits by atoms of a part's live mappings: of those that differ only in facts that are alike one
 //! is looked for, and then each atom over the facts that are alike to those that it names.
-ghost use Rattle.std.specs.Prelude.{◌≡◌, ◌↔◌, ◌⊎◌, ◌+◌, ◌≢◌, ◌++◌, ℕ, List, [], All, Any, IfOk, IsTrue, OnOk, Some, length, map, max, option_copied};
-ghost use Rattle.std.specs.List.{AllZip};
+ghost use Rattle.std.specs.Prelude.{◌≡◌, ◌↔◌, [], IfOk, IsTrue, OnOk, map};
 ghost use Rattle.ba_model.specs.declared.query.Op.TheVariants.{Eq};
 ghost use Rattle.ba_facts.specs.Known.{seen};
-ghost use Rattle.ba_facts.specs.Matches.{AreTheSame, HeadIs, IsFactOf, IsLive, Under, row_of, term_of, terms_at};
-ghost use Rattle.ba_facts.specs.Searching.{FailsAt, IsNoFront, IsOther};
-ghost use Rattle.ba_facts.specs.declared.matches.search.Wanted.TheVariants.{Live};
+ghost use Rattle.ba_facts.specs.Matches.{Under, terms_at};
 ghost use Rattle.ba_instant.specs.Scans.{ImprovesBy, IsScan};
-ghost use Rattle.ba_instant.specs.Spreads.{AreChoices, IsAt, IsLikeSplit, IsLikeSplits, IsLiveOn, IsOpenOf, IsOver, IsSplitFrom, IsSplitOf, LeadsNowhere, NamesPlace, PassesBy};
+ghost use Rattle.ba_instant.specs.Spreads.{AreChoices, IsAt, IsLikeSplit, IsLikeSplits, IsOpenOf, IsOver, IsSplitOf, NamesPlace};
 
 use crate::alike::{has_alike, likes_of};
 use crate::batch::Batch;
-use crate::scan::{Scan, counted};
-use ba_facts::{Branch, Side, Term, TermRef, is_due};
+use crate::scan::Scan;
+use ba_facts::{Branch, Offered, Side, Term, TermRef, Visit, Walk, Wanted, numbers_of};
 use ba_model::{Atom, List, Op, Operand, Part};
 use std::alloc::{AllocError, Global};
 
@@ -30,137 +27,105 @@ pub struct Spread<'a> {
     pub row: Option<&'a List<Term>>,
 }
 
+impl Visit for Spread<'_> {
+    ghost use Rattle.std.specs.Prelude.{◌≡◌};
+    ghost use Rattle.ba_facts.specs.Walks.{every};
+    ghost use Rattle.ba_facts.specs.declared.walk.Wanted.TheVariants.{Live};
+    ghost use Rattle.ba_instant.specs.Scans.{ImprovesBy, IsScan, IsWalkOf};
+    ghost use Rattle.ba_instant.specs.Spreads.{IsSplitAmong};
+
+    type State = Option<Batch>;
+
+    type Tried = Vec<usize>;
+
+    type Stop = AllocError;
+
+    ghost ready = { λ own walk.
+        IsScan own.scan.now × IsWalkOf own.scan.now own.side own.part.now Live walk };
+
+    ghost offers = { λ own walk from chosen numbers. numbers ≡ every own.scan.now.branch.now };
+
+    ghost numbers = { λ tried. tried.items };
+
+    ghost visited = { λ own walk from chosen numbers old new.
+        ImprovesBy own.scan.now (IsSplitAmong own from chosen numbers) old new };
+
+    ghost stopped = { λ own walk from chosen stop. Unit {0} };
+
+    fn offered<'a>(&'a self, _walk: &'a Walk<'a>, _from: &[u32], _chosen: &[usize]) -> Offered<'a> {
+        Offered::Every(self.scan.branch.facts.len())
+    }
+
+    fn none_tried(&self) -> Vec<usize> {
+        Vec::new(self.scan.alloc)
+    }
+
+    /// A fact that is alike to one of those that were tried isn't taken. At the last place this
+    /// isn't asked of many, since it takes as long there as what it spares.
+    fn takes(
+        &self,
+        walk: &Walk<'_>,
+        from: &[u32],
+        chosen: &[usize],
+        number: usize,
+        tried: &mut Vec<usize>,
+        _best: &Option<Batch>,
+    ) -> Result<bool, AllocError> {
+        if walk.is_lost(chosen, self.row) {
+            return Ok(false);
+        }
+        let first = first_compared(from, tried);
+        if has_alike(self.scan.branch, tried, first, number) {
+            return Ok(false);
+        }
+        tried.push(number)?;
+        Ok(true)
+    }
+
+    fn end(
+        &self,
+        walk: &Walk<'_>,
+        chosen: &[usize],
+        best: &mut Option<Batch>,
+    ) -> Result<(), AllocError> {
+        if !walk.is_met(chosen) || !walk.has_row(chosen, self.row) {
+            return Ok(());
+        }
+        let facts = numbers_of(self.scan.alloc, chosen)?;
+        let conds = self.part.conds.as_slice();
+        self.scan.offer_likes(facts.as_slice(), conds, best)?;
+        Ok(())
+    }
+}
+
 impl<'a> Spread<'a> {
     /// Offers the splits by atoms of the part's live mappings.
-    #[tactic(auto, using(crate::proofs::SpreadLemmas::spread_whole))]
     pub fn offer(&self, best: &mut Option<Batch>) -> Result<(), AllocError>
         requires { IsScan self.now.scan.now }
         ensures { OnOk result
             (ImprovesBy self.now.scan.now (IsSplitOf self.now) best.old best.new) }
     {
-        let mut chosen = Vec::new(self.scan.alloc);
-        if self.is_lost(&chosen) {
+        let walk = Walk {
+            branch: self.scan.branch,
+            side: self.side,
+            part: self.part,
+            wanted: Wanted::Live,
+        };
+        if walk.is_lost(&[], self.row) {
             return Ok(());
         }
-        self.offer_from(self.part.from.as_slice(), &mut chosen, best)?;
+        let mut chosen = vec![in self.scan.alloc; 0; self.part.from.len()]?;
+        walk.visit(self, &mut chosen, best)?;
         Ok(())
     }
+}
 
-    /// Offers those of the mappings of which the first facts are like the chosen ones.
-    fn offer_from(
-        &self,
-        from: &[u32],
-        chosen: &mut Vec<u32>,
-        best: &mut Option<Batch>,
-    ) -> Result<(), AllocError>
-        requires { IsScan self.now.scan.now }
-        ensures chosen { OnOk result (chosen.new.items ≡ chosen.old.items) }
-        ensures best { OnOk result (ImprovesBy self.now.scan.now
-            (IsSplitFrom self.now from.now chosen.old.items) best.old best.new) }
-    {
-        let Some((table, rest)) = from.split_first() else {
-            return self.offer_on(chosen, best);
-        };
-        let count = counted(self.scan.branch.facts.len())?;
-        let mut tried = Vec::new(self.scan.alloc);
-        for fact in 0..count {
-            chosen.push(fact)?;
-            if self.may_lead(*table, fact, chosen, &tried, rest.is_empty()) {
-                tried.push(fact)?;
-                self.offer_from(rest, chosen, best)?;
-            }
-            chosen.pop();
-        }
-        Ok(())
-    }
-
-    /// Whether the fact that was chosen last is one of the table on the side, may lead to a
-    /// mapping, and isn't alike to one of those that were tried. At the last place this isn't asked
-    /// of many, since it takes as long there as what it spares.
-    fn may_lead(&self, table: u32, fact: u32, chosen: &[u32], tried: &[u32], is_last: bool) -> bool
-        ensures taken { IsTrue result
-            → IsFactOf self.now.scan.now.branch.now self.now.side table fact }
-        ensures passed { (IsTrue result → ⊥) → PassesBy self.now table chosen.now tried.now fact }
-    {
-        if !self.is_fact(table, fact) {
-            return false;
-        }
-        if self.is_lost(chosen) {
-            return false;
-        }
-        let from = if is_last {
-            tried.len().saturating_sub(LAST_TRIED)
-        } else {
-            0
-        };
-        !has_alike(self.scan.branch, tried, from, fact)
-    }
-
-    /// Whether the chosen facts lead to no mapping with the row.
-    fn is_lost(&self, chosen: &[u32]) -> bool
-        ensures { IsTrue result → LeadsNowhere self.now chosen.now }
-    {
-        self.has_other(chosen) || self.is_hopeless(chosen)
-    }
-
-    /// Offers those of the mappings to facts that are like the chosen ones.
-    fn offer_on(&self, chosen: &[u32], best: &mut Option<Batch>) -> Result<(), AllocError>
-        requires { IsScan self.now.scan.now }
-        ensures { OnOk result
-            (ImprovesBy self.now.scan.now (IsSplitFrom self.now [] chosen.now) best.old best.new) }
-    {
-        if self.is_live(chosen) {
-            self.scan
-                .offer_likes(chosen, self.part.conds.as_slice(), best)?;
-        }
-        Ok(())
-    }
-
-    /// Whether the number is that of a fact of the table on the side.
-    fn is_fact(&self, table: u32, number: u32) -> bool
-        ensures { IsTrue result ↔ IsFactOf self.now.scan.now.branch.now self.now.side table number }
-    {
-        match self.scan.branch.facts.find(number as usize) {
-            Some(fact) => fact.side == self.side && fact.table == table,
-            None => false,
-        }
-    }
-
-    /// Whether the last fact chosen makes some atom not live. Each atom is looked at once on the
-    /// way down, as soon as its terms are there.
-    fn is_hopeless(&self, chosen: &[u32]) -> bool
-        ensures { IsTrue result ↔ Any (FailsAt self.now.scan.now.branch.now.known Live
-            (map (terms_at self.now.scan.now.branch.now) chosen.now)) self.now.part.now.conds }
-    {
-        let conds = self.part.conds.as_slice();
-        conds
-            .iter()
-            .any(|atom| fails_at(self.scan.branch, chosen, atom))
-    }
-
-    /// Whether the head has a term already over the chosen facts that isn't the same as the row's,
-    /// if one is given.
-    fn has_other(&self, chosen: &[u32]) -> bool
-        ensures { IsTrue result → (rest : List ℕ) → HeadIs self.now.scan.now.branch.now
-            self.now.part.now (chosen.now ++ rest) (option_copied self.now.row) → ⊥ }
-    {
-        match self.row {
-            Some(row) => is_no_front(
-                self.scan.branch,
-                self.part.head.as_slice(),
-                chosen,
-                row.as_slice(),
-            ),
-            None => false,
-        }
-    }
-
-    /// Whether each atom is live over the facts, and they give the row.
-    fn is_live(&self, facts: &[u32]) -> bool
-        ensures { IsTrue result ↔ IsLiveOn self.now facts.now }
-    {
-        are_live(self.scan.branch, facts, self.part.conds.as_slice())
-            && has_row(self.scan.branch, self.part, facts, self.row)
+/// From which of those that were tried on a fact is compared.
+fn first_compared(from: &[u32], tried: &[usize]) -> usize {
+    if from.len() == 1 {
+        tried.len().saturating_sub(LAST_TRIED)
+    } else {
+        0
     }
 }
 
@@ -300,102 +265,5 @@ fn is_equation(op: Op) -> bool
         Op::Le => false,
         Op::IsNull => false,
         Op::NotNull => false,
-    }
-}
-
-/// Whether each of the atoms is live over the facts.
-fn are_live(branch: &Branch, facts: &[u32], conds: &[Atom]) -> bool
-    ensures { IsTrue result
-        ↔ All (IsLive branch.now.known (map (terms_at branch.now) facts.now)) conds.now }
-{
-    conds.iter().all(|atom| is_live(branch, facts, atom))
-}
-
-fn is_live(branch: &Branch, facts: &[u32], atom: &Atom) -> bool
-    ensures { IsTrue result
-        ↔ IsLive branch.now.known (map (terms_at branch.now) facts.now) atom.now }
-{
-    match (
-        branch.term_of(facts, &atom.left),
-        branch.term_of(facts, &atom.right),
-    ) {
-        (Some(left), Some(right)) => branch.is_live(atom.op, left, right),
-        _ => false,
-    }
-}
-
-/// Whether both terms are there since the last fact was chosen, and the atom isn't live.
-fn fails_at(branch: &Branch, chosen: &[u32], atom: &Atom) -> bool
-    ensures { IsTrue result
-        ↔ FailsAt branch.now.known Live (map (terms_at branch.now) chosen.now) atom.now }
-{
-    if !is_due(atom, chosen.len()) {
-        return false;
-    }
-    match (
-        branch.term_of(chosen, &atom.left),
-        branch.term_of(chosen, &atom.right),
-    ) {
-        (Some(left), Some(right)) => !branch.is_live(atom.op, left, right),
-        _ => false,
-    }
-}
-
-/// Whether some operand stands already for a term that isn't the same as the row's.
-pub fn is_no_front(branch: &Branch, head: &[Operand], chosen: &[u32], row: &[Term]) -> bool
-    ensures { IsTrue result → IsNoFront branch.now head.now (map Some row.now) chosen.now }
-{
-    for i in 0..head.len().min(row.len()) {
-        if is_other(branch, chosen, &head[i], &row[i]) {
-            return true;
-        }
-    }
-    false
-}
-
-/// Whether the operand over the facts stands for a term that isn't the same as the other.
-fn is_other(branch: &Branch, facts: &[u32], operand: &Operand, other: &Term) -> bool
-    ensures { IsTrue result ↔ IsOther branch.now.known
-        (term_of (map (terms_at branch.now) facts.now) operand.now) (Some other.now) }
-{
-    match branch.term_of(facts, operand) {
-        Some(term) => !branch.known.same(term, other.by_ref()),
-        None => false,
-    }
-}
-
-/// Whether the part's head over the facts is the same as the row, if one is given.
-fn has_row(branch: &Branch, part: &Part, facts: &[u32], row: Option<&List<Term>>) -> bool
-    ensures { IsTrue result ↔ HeadIs branch.now part.now facts.now (option_copied row.entry) }
-{
-    match row {
-        Some(row) => is_row(branch, part.head.as_slice(), facts, row.as_slice()),
-        None => true,
-    }
-}
-
-fn is_row(branch: &Branch, head: &[Operand], facts: &[u32], row: &[Term]) -> bool
-    ensures { IsTrue result ↔ AllZip (AreTheSame branch.now.known)
-        (row_of branch.now facts.now head.now) (map Some row.now) }
-{
-    if head.len() != row.len() {
-        return false;
-    }
-    for i in 0..head.len() {
-        if !is_same(branch, facts, &head[i], &row[i]) {
-            return false;
-        }
-    }
-    true
-}
-
-/// Whether the operand over the facts stands for a term that is the same as the other.
-fn is_same(branch: &Branch, facts: &[u32], operand: &Operand, other: &Term) -> bool
-    ensures { IsTrue result ↔ AreTheSame branch.now.known
-        (term_of (map (terms_at branch.now) facts.now) operand.now) (Some other.now) }
-{
-    match branch.term_of(facts, operand) {
-        Some(term) => branch.known.same(term, other.by_ref()),
-        None => false,
     }
 }

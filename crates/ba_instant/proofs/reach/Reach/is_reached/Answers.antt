@@ -1,17 +1,22 @@
-use Rattle.std.proofs.Common.{◌∙◌, refl}
-use Rattle.ba_instant.proofs.ReachLemmas.{reach_bare, reach_lost, reach_whole}
+use Rattle.std.proofs.Common.{refl}
+use Rattle.ba_facts.specs.declared.term.Side.TheVariants.{Two}
+use Rattle.ba_facts.specs.declared.walk.Walk.{Walk}
+use Rattle.ba_facts.specs.declared.walk.Wanted.TheVariants.{Shown}
+use Rattle.ba_instant.proofs.ReachLemmas.{none_every, reach_bare, reach_composes, reach_lost_at_once}
 use Rattle.ba_instant.proofs.reach.Reach.is_reached.Goals as goal
 
 pub returns-then-not-have_facts : goal.returns-then-not-have_facts
 returns-then-not-have_facts c = λ not facts h.
-    reach_bare c.args.self.now.branch.now c.args.self.now.part.now c.args.self.now.row.now c.as_slice-from.result.now c.as_slice-from.ensures
+    reach_bare c.args.self.now.branch.now c.args.self.now.part.now c.args.self.now.row.now c.as_slice.result.now c.as_slice.ensures
     (λ all. let yes = c.have_facts.ensures.1 all in cc) facts h
 
 pub returns-then-is_lost : goal.returns-then-is_lost
-returns-then-is_lost c = λ not facts h.
-    reach_whole c.args.self.now.branch.now c.args.self.now.part.now c.args.self.now.row.now c.args.self.now.part.now.from c.deref.result.now refl (c.deref.ensures.value ∙ c.new-chosen.ensures.items)
-    (λ others k. reach_lost c.args.self.now.branch.now c.args.self.now.part.now c.args.self.now.row.now c.args.self.now.part.now.from c.deref.result.now others (c.is_lost.ensures c.if-is_lost.true) k) facts h
+returns-then-is_lost c = λ not.
+    let walk : Walk = record { branch = c.args.self.now.branch; side = Two; part = c.args.self.now.part; wanted = Shown } in
+    reach_lost_at_once c.args.self.now walk (record { branch_is = refl; part_is = refl; wanted_is = refl }) (c.is_lost.ensures c.if-is_lost.true)
 
-pub returns : goal.returns
-returns c = λ not facts h.
-    reach_whole c.args.self.now.branch.now c.args.self.now.part.now c.args.self.now.row.now c.as_slice-from.result.now c.new-chosen.result.items c.as_slice-from.ensures c.new-chosen.ensures.items (c.in_ok-found.ensures.none not) facts h
+pub visit-requires-clause-composes : goal.visit-requires-clause-composes
+visit-requires-clause-composes c = reach_composes c.args.self.now
+
+pub returns-in-Ok : goal.returns-in-Ok
+returns-in-Ok c = λ not. none_every c.args.self.now c.args.self.now.part.now.from _ c.in-Ok.ensures.visited

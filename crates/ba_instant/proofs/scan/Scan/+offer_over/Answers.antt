@@ -1,7 +1,7 @@
 use Rattle.std.proofs.Common.{◌∙◌, arith, get_or, length, subst, sym}
 use Rattle.std.proofs.lemmas.Grind.{common_steps}
 use Rattle.std.proofs.lemmas.Result.{on_ok_weaker}
-use Rattle.ba_facts.proofs.SearchingLemmas.{one_chosen}
+use Rattle.ba_facts.proofs.WalkLemmas.{one_chosen}
 use Rattle.ba_instant.proofs.SplitLemmas.{at_all, number_more}
 use Rattle.ba_instant.proofs.SpreadLemmas.{Next, over_all, over_on, over_taken}
 use Rattle.ba_instant.specs.Spreads.{AreChoices}
