@@ -8,7 +8,7 @@ use crate::order::Pick;
 use crate::scan::Scan;
 use ba_facts::{Offered, Side, Visit, Walk, Wanted, numbers_of};
 use ba_kernel::Step;
-use ba_model::{List, Part};
+use ba_model::{List, MAX_PART_TABLES, Part};
 use std::alloc::AllocError;
 
 /// A step without its branch and facts.
@@ -125,7 +125,8 @@ impl Visit for Mapped<'_> {
 }
 
 impl<'a> Mapped<'a> {
-    /// Offers the step on each facts of the side that show the part's atoms.
+    /// Offers the step on each facts of the side that show the part's atoms. The chosen facts take
+    /// memory only where the part has more tables than one of a query may have.
     pub fn offer(&self, best: &mut Option<Batch>) -> Result<(), AllocError>
         requires { IsScan self.now.scan.now }
         ensures { OnOk result (ImprovesBy self.now.scan.now (IsStepOf self.now) best.old best.new) }
@@ -139,8 +140,14 @@ impl<'a> Mapped<'a> {
         if self.is_no_use(&walk, &[], best)? {
             return Ok(());
         }
-        let mut chosen = vec![in self.scan.alloc; 0; self.part.from.len()]?;
-        walk.visit(self, &mut chosen, best)?;
+        let places = self.part.from.len();
+        if places > MAX_PART_TABLES {
+            let mut chosen = vec![in self.scan.alloc; 0; places]?;
+            walk.visit(self, &mut chosen, best)?;
+            return Ok(());
+        }
+        let mut chosen = [0; MAX_PART_TABLES];
+        walk.visit(self, &mut chosen[..places], best)?;
         Ok(())
     }
 

@@ -12,5 +12,11 @@ returns-then-branch c =
 pub visit-requires-clause-composes : goal.visit-requires-clause-composes
 visit-requires-clause-composes c = mapped_composes c.args.self.now
 
+pub returns-then-places-gt-MAX_PART_TABLES : goal.returns-then-places-gt-MAX_PART_TABLES
+returns-then-places-gt-MAX_PART_TABLES c = mapped_all c.args.self.now c.args.best.now c.visit.new.state c.in_ok-visit.ensures.visited
+
+pub visit-requires-2-clause-composes : goal.visit-requires-2-clause-composes
+visit-requires-2-clause-composes c = mapped_composes c.args.self.now
+
 pub returns : goal.returns
-returns c = mapped_all c.args.self.now c.args.best.now c.visit.new.state c.in_ok-visit.ensures.visited
+returns c = mapped_all c.args.self.now c.args.best.now c.visit-2.new.state c.in_ok-visit-2.ensures.visited
