@@ -1,7 +1,7 @@
 //! Answers that were worked out by hand.
 
-use super::{Handle, plain};
 use super::written::{context, field, one, policy, query, rows};
+use super::{Handle, plain};
 use ba_eval::{answer, answer_indexed, contains};
 use ba_index::Indexed;
 use ba_model::{Duplicate, List, Policy, Query, Row, RowSet, Value};

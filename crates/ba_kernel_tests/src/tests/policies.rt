@@ -12,8 +12,8 @@ ghost use Rattle.ba_kernel.specs.Drafts.{IsChecked};
 use super::words::{Handle, atoms, bar, named, numbers, operands, shared};
 use ba_kernel::laws::checked_links_fit;
 use ba_model::{
-    Column, Kind, List, Parameter, Part, Policy, Query, QueryDraft, Rule, Schema,
-    SchemaDraft, Shared, Str, Table, View,
+    Column, Kind, List, Parameter, Part, Policy, Query, QueryDraft, Rule, Schema, SchemaDraft,
+    Shared, Str, Table, View,
 };
 use ba_sql_ddl::read_schema;
 
