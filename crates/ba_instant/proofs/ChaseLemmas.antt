@@ -35,7 +35,7 @@ pub entry_past : (c : Course) (n entry : ℕ) (step : Step) → length c.problem
 entry_past c n entry step past is new =
     let at : IsNewIn c (steps.Entry n entry) = subst (IsNewIn c) is new in
     let passes = passes_at c.problem (open_at c.slots n) (steps.Entry n entry) at in
-    let below : entry < length c.problem.entries = slice_get_within c.problem.entries entry (passes.1).0 (passes.1).1 in
+    let below : entry < length c.problem.entries = slice_get_within c.problem.entries entry (passes.1).it (passes.1).there in
     omega (arith, past, below)
 
 -- ---- keys and links

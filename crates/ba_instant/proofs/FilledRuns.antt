@@ -60,13 +60,13 @@ module _ (p : Problem) (P : Branch → Type 0) (facts_keep : (side : Side) (roun
   none_keep cases e = subst (All P) (sym e) (All-nil P)
 
   leads_keep : (b : Branch) (step : Step) (cases : List Branch) → P b → Leads p b step cases → All P cases
-  leads_keep b (steps.Entry branch entry) cases h leads = cases_keep One leads.round leads.row leads.it.query.parts b cases h leads.cases_are
+  leads_keep b (steps.Entry branch entry) cases h leads = cases_keep One leads.round leads.row leads.passes.it.query.parts b cases h leads.cases_are
   leads_keep b (steps.Key branch key left right) cases h leads = one_keeps cases _ leads.cases_are (lessons_keep b _ h)
   leads_keep b (steps.Link branch link fact) cases h leads =
-      let mid = with_fact s leads.f.side (1 + leads.f.round) b leads.it.target in
-      one_keeps cases (with_lessons mid leads.lessons) leads.cases_are (lessons_keep mid leads.lessons (facts_keep leads.f.side (1 + leads.f.round) b leads.it.target h))
-  leads_keep b (steps.Rule branch rule part facts) cases h leads = cases_keep leads.side (1 + round_of b facts) leads.row leads.it.right.parts b cases h leads.cases_are
-  leads_keep b (steps.View branch view part facts) cases h leads = cases_keep Two (1 + round_of b facts) leads.row leads.it.query.parts b cases h leads.cases_are
+      let mid = with_fact s leads.passes.f.side (1 + leads.passes.f.round) b leads.passes.it.target in
+      one_keeps cases (with_lessons mid leads.lessons) leads.cases_are (lessons_keep mid leads.lessons (facts_keep leads.passes.f.side (1 + leads.passes.f.round) b leads.passes.it.target h))
+  leads_keep b (steps.Rule branch rule part facts) cases h leads = cases_keep leads.passes.side (1 + round_of b facts) leads.next.row leads.passes.is_part.of.right.parts b cases h leads.next.cases_are
+  leads_keep b (steps.View branch view part facts) cases h leads = cases_keep Two (1 + round_of b facts) leads.next.row leads.passes.is_part.of.query.parts b cases h leads.next.cases_are
   leads_keep b (steps.Split branch atom) cases h leads =
       let yes = with_lessons b (Holds atom ∷ []) in
       let no = with_lessons b (Holds (negation atom) ∷ []) in

@@ -83,7 +83,7 @@ module _ (c : Course) (n quiet : ℕ) (b : Branch) (recent : List ℕ) (look : I
       (λ step e new.
       let at : IsNewIn c (steps.Entry n e.0) = subst (IsNewIn c) e.1 new in
       let passes = (new_on c n b (steps.Entry n e.0) look.open_ refl at).passes in
-      entry_past_two e.0 passes.0 passes.1 at two)
+      entry_past_two e.0 passes.it passes.there at two)
 
   -- a round that isn't past the quiet ones
   pub entry_past : (pick : Pick) (entry round : ℕ) (old : Option Batch) → IsRoundOfEntry c.problem entry round → round ≤ quiet → Improves c pick (λ step. step ≡ steps.Entry n entry) old old

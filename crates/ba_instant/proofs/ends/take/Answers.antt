@@ -15,7 +15,7 @@ keep_quiet-requires-clause-quiet c =
     quiet_after c.args.pick c.args.search.now c.args.due c.requires.taken c.left_after.ensures.fits c.requires.searches c.take.new.self c.beside-waiting.result
     c.quiet_round-quiet.result c.beside-waiting.ensures.below c.beside-waiting.ensures.but c.quiet_round-quiet.ensures c.in_ok-take.ensures.taken c.in_ok-take.ensures.problem
 
-pub returns-in_ok-keep_quiet-clause-searches : goal.returns-in_ok-keep_quiet-clause-searches
-returns-in_ok-keep_quiet-clause-searches c =
+pub returns-clause-searches : goal.returns-clause-searches
+returns-clause-searches c =
     searches_on c.args.pick c.args.search.now c.args.due c.requires.taken c.take.new.self c.requires.searches c.in_ok-take.ensures.taken c.in_ok-take.ensures.steps
     c.in_ok-take.ensures.problem
