@@ -1,7 +1,6 @@
 -- The branch of a saturated leaf has an image.
-use Rattle.std.proofs.Common.{◌≡◌, List, length, refl, subst, sym}
+use Rattle.std.proofs.Common.{◌≡◌, length, refl, subst, sym}
 use Rattle.std.specs.List.{All}
-use Rattle.ba_comply.specs.declared.trace.TraceEntry.{TraceEntry}
 use Rattle.ba_facts.specs.Shown.{Absurd}
 use Rattle.ba_facts.specs.declared.branch.Branch.{Branch}
 use Rattle.ba_instant.specs.Dues.{IsLeaf}

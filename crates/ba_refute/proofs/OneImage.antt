@@ -1,5 +1,5 @@
 -- A branch that isn't absurd has one image at most.
-use Rattle.std.proofs.Common.{◌≡◌, ◌∙◌, ℕ, ℤ, pos, zero, suc, ◌+◌, ◌<◌, ◌≤◌, [], ◌∷◌, ◌++◌, ◌⊎◌, List, Contains, All, Option, Some, None, ap, arith, get_or, inl, inr, length, refl, subst, sym, take, ⊎_elim}
+use Rattle.std.proofs.Common.{◌≡◌, ◌∙◌, ℕ, ℤ, pos, zero, suc, ◌+◌, ◌<◌, ◌≤◌, [], ◌∷◌, ◌++◌, List, Contains, Option, Some, None, ap, arith, get_or, inl, inr, length, refl, subst, sym, take, ⊎_elim}
 use Rattle.std.proofs.lemmas.Bool.{cases_lt}
 use Rattle.std.proofs.lemmas.Cmp.{nat_cmp_total}
 use Rattle.std.proofs.lemmas.Int.{by_lt_z, ints}
@@ -8,19 +8,18 @@ use Rattle.std.proofs.lemmas.List.Elements.{All-contains}
 use Rattle.std.proofs.lemmas.Map.Views.{All-after_first}
 use Rattle.std.proofs.lemmas.Option.{slice_get-get_or}
 use Rattle.std.specs.Fmt.{decimal}
-use Rattle.std.specs.List.{repeat, slice_get, zip}
+use Rattle.std.specs.List.{repeat, zip}
 use Rattle.std.specs.List.Sorted.{IsStrictlySortedBy}
 use Rattle.std.specs.Ordering.{is_eq, nat_cmp}
 use Rattle.std.specs.Prelude.{◌≢◌, slice_index, slice_index_or, ◌≤ℤ◌, ◌<ℤ◌}
 use Rattle.std.specs.Cmp.{tied_itself, unsigned_Decides, unsigned_tied}
 use Rattle.std.specs.declared.cmp.Ordering.TheVariants.{Less, Equal}
-use Rattle.ba_classes.specs.Image.{AllUsed, IsGreatest, IsGreatestUnused, IsLeast, IsLeastUnused, IsValueBetween}
+use Rattle.ba_classes.specs.Image.{IsGreatest, IsGreatestUnused, IsLeast, IsLeastUnused, IsValueBetween}
 use Rattle.ba_eval.proofs.HeadLemmas.{one_head}
 use Rattle.ba_facts.proofs.NameLemmas.{value_cases}
 use Rattle.ba_facts.specs.Knowing.{IsLeastOf}
 use Rattle.ba_facts.specs.Known.{Known, OneClass}
 use Rattle.ba_facts.specs.Shown.{Absurd, literals}
-use Rattle.ba_facts.specs.declared.branch.Branch.{Branch}
 use Rattle.ba_facts.specs.declared.term.Fact.{Fact}
 use Rattle.ba_facts.specs.declared.term.Sort.{Sort}
 use Rattle.ba_facts.specs.declared.term.Side.{Side}
@@ -29,7 +28,6 @@ use Rattle.ba_facts.specs.declared.term.Term.{Term}
 use Rattle.ba_facts.specs.declared.term.Term.TheVariants.{Unknown, Val}
 use Rattle.ba_model.proofs.ElementLemmas.{Contains-cases, Contains-head, Contains-later, Contains-nil}
 use Rattle.ba_model.proofs.UniqueLemmas.{same_sorted, sorted_tail}
-use Rattle.ba_model.specs.Order.{row_cmp}
 use Rattle.ba_model.specs.OrderLaws.{row_equal, row_total}
 use Rattle.ba_model.specs.declared.policy.Context.{Context}
 use Rattle.ba_model.specs.declared.schema.Kind.TheVariants.{Int as IntKind, Text as TextKind}

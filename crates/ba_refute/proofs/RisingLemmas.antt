@@ -17,7 +17,7 @@ use Rattle.ba_model.specs.OrderLaws.{row_total}
 use Rattle.ba_model.specs.declared.schema.Table.{Table}
 use Rattle.ba_model.specs.declared.value.RowSet.{RowSet}
 use Rattle.ba_model.specs.declared.value.Value.{Value}
-use Rattle.ba_refute.specs.Counterexamples.{AreRising, FitTables, IsInOrder}
+use Rattle.ba_refute.specs.Counterexamples.{FitTables, IsInOrder}
 
 -- ---- the same rows
 

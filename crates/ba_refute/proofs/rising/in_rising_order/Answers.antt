@@ -1,9 +1,9 @@
-use Rattle.std.proofs.Common.{All, ◌∷◌, ◌++◌, [], subst, sym, take, ◌+◌}
+use Rattle.std.proofs.Common.{All, subst, sym, take, ◌+◌}
 use Rattle.std.specs.List.{AllZip}
 use Rattle.std.specs.List.Sorted.{IsStrictlySortedBy}
 use Rattle.ba_eval.specs.Search.{SameRows}
 use Rattle.ba_model.specs.Order.{row_cmp}
-use Rattle.ba_refute.proofs.RisingLemmas.{order_more, order_whole}
+use Rattle.ba_refute.proofs.RisingLemmas.{order_more}
 use Rattle.ba_refute.proofs.rising.in_rising_order.Goals as goal
 
 pub loop-table-preserved : goal.loop-table-preserved

@@ -3,21 +3,21 @@ use Rattle.ba_session.proofs.request.Request.reason_of.Goals as goal
 
 pub try_pair-requires-clause-fits : goal.try_pair-requires-clause-fits
 try_pair-requires-clause-fits c =
-    fits_seen c.args.policy.now c.deref-asked.result.now c.args.self.now c.args.query.now c.deref-asked-2.result.now c.deref-asked.ensures c.deref-asked-2.ensures c.requires.fits
+    fits_seen c.args.policy.now c.deref.result.now c.args.self.now c.args.query.now c.deref-2.result.now c.deref.ensures c.deref-2.ensures c.requires.fits
 
 pub try_pair-requires-clause-problem : goal.try_pair-requires-clause-problem
 try_pair-requires-clause-problem c =
-    problem_seen c.args.policy.now c.deref-asked.result.now c.args.self.now c.args.query.now c.deref-asked-2.result.now c.deref-asked.ensures c.deref-asked-2.ensures
+    problem_seen c.args.policy.now c.deref.result.now c.args.self.now c.args.query.now c.deref-2.result.now c.deref.ensures c.deref-2.ensures
     c.args.leaf.problem c.requires.problem
 
 pub returns-in-Pair : goal.returns-in-Pair
 returns-in-Pair c =
     refuted c.args.policy.now c.args.self.now c.args.query.now c.args.leaf c.in_ok-refutal.refutal
-    (refutal_seen c.args.policy.now c.deref-asked.result.now c.args.self.now c.args.query.now c.deref-asked-2.result.now c.deref-asked.ensures c.deref-asked-2.ensures
+    (refutal_seen c.args.policy.now c.deref.result.now c.args.self.now c.args.query.now c.deref-2.result.now c.deref.ensures c.deref-2.ensures
     c.args.leaf c.in_ok-refutal.refutal c.in_ok-refutal.ensures) c.in-Pair.pair c.in-Pair.is
 
 pub returns-in-Stuck : goal.returns-in-Stuck
 returns-in-Stuck c =
     stuck c.args.policy.now c.args.self.now c.args.query.now c.args.leaf c.in_ok-refutal.refutal
-    (refutal_seen c.args.policy.now c.deref-asked.result.now c.args.self.now c.args.query.now c.deref-asked-2.result.now c.deref-asked.ensures c.deref-asked-2.ensures
+    (refutal_seen c.args.policy.now c.deref.result.now c.args.self.now c.args.query.now c.deref-2.result.now c.deref.ensures c.deref-2.ensures
     c.args.leaf c.in_ok-refutal.refutal c.in_ok-refutal.ensures) c.in-Stuck.leaf c.in-Stuck.clause c.in-Stuck.is
