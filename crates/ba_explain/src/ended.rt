@@ -1,8 +1,9 @@
 //! A run, and why it ended so.
+ghost use Rattle.std.specs.Prelude.{◌≡◌};
 
 use ba_notice::notice;
 use ba_outside::{FolderFiles, Gate, Sink};
-use ba_top::blockaid;
+use ba_top::{Outcome, blockaid, lines_without_memory};
 use std::alloc::{AllocError, Global};
 use std::rt::Files;
 use std::sync::Wait;
@@ -16,6 +17,19 @@ pub struct Ended {
     /// What is told of it on standard error, each line with its end, where there was memory for that:
     /// nothing of a run that ended well.
     pub told: Option<String>,
+}
+
+impl Ended {
+    /// How the top call ended, and what is told of it.
+    pub(crate) fn of(outcome: &Outcome, told: Option<String>) -> Ended
+        ensures status { result.status ≡ outcome.now.status }
+        ensures told { result.told ≡ told }
+    {
+        Ended {
+            status: outcome.status,
+            told,
+        }
+    }
 }
 
 /// Runs the top call on the words, over the files of a folder: the names in the words stand behind
@@ -41,11 +55,17 @@ where
     };
     let mut files = FolderFiles::new(system, alloc, prefix);
     let outcome = blockaid(rt, alloc, words, &mut files, sink, gate);
-    let line = notice(rt, words, prefix, files.asked(), &outcome);
-    Ok(Ended {
-        status: outcome.status,
-        told: told_of(alloc, line),
-    })
+    let lacking = lacking(&outcome);
+    let line = notice(rt, words, prefix, files.asked(), &outcome.detail, lacking);
+    Ok(Ended::of(&outcome, told_of(alloc, line)))
+}
+
+/// How many lines found no memory, where lines were answered.
+pub(crate) fn lacking(outcome: &Outcome) -> Option<usize> {
+    match &outcome.journal {
+        Some(journal) => Some(lines_without_memory(journal)),
+        None => None,
+    }
 }
 
 // The line with its end, or nothing of a run that has none; and nothing at all without memory.

@@ -1,6 +1,6 @@
 //! A run, and its replies in words.
 
-use crate::ended::Ended;
+use crate::ended::{Ended, lacking};
 use ba_command::WordsFault;
 use ba_model::Failure;
 use ba_notice::notice;
@@ -93,10 +93,15 @@ fn complaint_of<R: Files + AllocGlobal>(
     outcome: &Outcome,
     line: &str,
 ) -> Result<Ended, AllocError> {
-    let why = notice(rt, asked.words, asked.prefix, names, outcome)?;
+    let lacking = lacking(outcome);
+    let why = notice(
+        rt,
+        asked.words,
+        asked.prefix,
+        names,
+        &outcome.detail,
+        lacking,
+    )?;
     let told = format!(in rt.alloc(); "{line}{why}\n")?;
-    Ok(Ended {
-        status: outcome.status,
-        told: Some(told),
-    })
+    Ok(Ended::of(outcome, Some(told)))
 }

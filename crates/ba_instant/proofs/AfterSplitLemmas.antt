@@ -18,7 +18,7 @@ use Rattle.ba_instant.proofs.DueLemmas.{one_open}
 use Rattle.ba_instant.proofs.KeepLemmas.{first_case}
 use Rattle.ba_instant.proofs.LooseStepLemmas.{loose_stays}
 use Rattle.ba_instant.proofs.QuietLemmas.{due_is_quiet, quiet_at_first}
-use Rattle.ba_instant.specs.Dues.{IsDue}
+use Rattle.ba_settle.specs.Dues.{IsDueStep}
 use Rattle.ba_instant.specs.Loose.{IsBeside, IsLooseAtom, IsLooseOf, IsQuietBeside}
 use Rattle.ba_instant.specs.Loose as loose
 use Rattle.ba_instant.specs.Nexts.{SplitsLoosely}
@@ -66,7 +66,7 @@ second_case slots n one two c e =
     let here : slice_get (front ++ Some two ∷ []) (length slots) ≡ Some (Some two) = subst (λ m. slice_get (front ++ Some two ∷ []) m ≡ Some (Some two)) same (at_end front (Some two)) in
     same_Some c two (same_Some (Some c) (Some two) (sym e ∙ here))
 
-module _ (c new : Course) (of : NewStep) (round : ℕ) (due : IsDue c.problem c.slots of.step) (due_round : of.round ≡ due.round) (takes : Takes c.problem c.slots of.step new.slots)
+module _ (c new : Course) (of : NewStep) (round : ℕ) (due : IsDueStep c.problem c.slots of.step) (due_round : of.round ≡ due.round) (takes : Takes c.problem c.slots of.step new.slots)
     (h : SplitsLoosely c of round) where
   abbrev n : ℕ
   n = branch_of of.step

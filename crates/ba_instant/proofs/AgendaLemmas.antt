@@ -24,20 +24,20 @@ use Rattle.ba_kernel.specs.declared.step.Step.{Step}
 use Rattle.ba_instant.proofs.ChaseLemmas.{new_on}
 use Rattle.ba_instant.proofs.DueLemmas.{closing_on, closing_round, gt_false, new_in, not_greater, of_kind, one_open, round_in, round_on, telling_on}
 use Rattle.ba_instant.proofs.GrowthLemmas.{get_cases}
-use Rattle.ba_instant.proofs.OrderLemmas.{pick_total}
+use Rattle.ba_settle.proofs.OrderLemmas.{pick_total}
 use Rattle.ba_instant.proofs.QuietLemmas.{quiet_at_first}
 use Rattle.ba_instant.proofs.RoundLemmas.{is_new, not_new, round_at_once}
 use Rattle.ba_instant.specs.Agendas.{AreInTurn, AreOlder, EndsOld, IsAgenda, IsAgendaAt, IsAgendaOf, IsBlank, IsFirstOf, IsInTurn, IsListed, IsNewHere, IsNone, IsPast, IsQuietAgenda, IsSilent, IsTrimmed, IsWithoutLast, MOST_ROUND}
-use Rattle.ba_instant.specs.Dues.{IsDue}
+use Rattle.ba_settle.specs.Dues.{IsDueStep}
 use Rattle.ba_instant.specs.Loose.{IsQuietBeside}
-use Rattle.ba_instant.specs.Offers.{Improves, IsByMapping, IsClosing, IsDueIfAny, IsDueOn, IsNewOf, IsHeld, IsNewIn, IsRoundIn, IsTelling, IsWholeBatch, HasEarlier, NoneCloses, Offers, Reaches, is_single}
-use Rattle.ba_instant.specs.Order.{pick_cmp, step_cmp}
+use Rattle.ba_instant.specs.Offers.{Improves, IsByMapping, IsClosing, IsDueIfAny, IsDueOn, IsNewOf, IsHeld, IsNewIn, IsRoundIn, IsTelling, IsWholeBatch, HasSooner, NoneCloses, Offers, Reaches, is_single}
+use Rattle.ba_settle.specs.Order.{pick_cmp, step_cmp}
 use Rattle.ba_instant.specs.Windows.{IsQuietUpto}
 use Rattle.ba_instant.specs.declared.agenda.Agenda.{Agenda}
 use Rattle.ba_instant.specs.declared.batch.Batch.{Batch}
 use Rattle.ba_instant.specs.declared.scan.NewStep.{NewStep}
-use Rattle.ba_instant.specs.declared.order.Pick.{Pick}
-use Rattle.ba_instant.specs.declared.order.Pick.TheVariants.{First, Last}
+use Rattle.ba_settle.specs.declared.order.Pick.{Pick}
+use Rattle.ba_settle.specs.declared.order.Pick.TheVariants.{First, Last}
 
 -- ---- what the search tells of a step
 
@@ -298,7 +298,7 @@ module _ (c : Course) (n : ℕ) (b : Branch) (open_ : IsOpen c.slots n b) (pick 
       (upto (pick_total pick) it.step stood.other other (gt_false (pick_cmp pick it.step stood.other) (last_first pick xs it.step turn last stood.other stood.there))
       (gt_false (pick_cmp pick stood.other other) stood.before))
 
-  it_is_due : IsDue c.problem c.slots it.step
+  it_is_due : IsDueStep c.problem c.slots it.step
   it_is_due = record {
     branch = b;
     open_ = subst (λ m. IsOpen c.slots m b) (sym on) open_;
@@ -313,7 +313,7 @@ module _ (c : Course) (n : ℕ) (b : Branch) (open_ : IsOpen c.slots n b) (pick 
         ];
   }
 
-  it_is_first : (other : Step) → branch_of other ≡ n → IsDue c.problem c.slots other → pick_cmp pick it.step other ≢ Greater
+  it_is_first : (other : Step) → branch_of other ≡ n → IsDueStep c.problem c.slots other → pick_cmp pick it.step other ≢ Greater
   it_is_first other at due =
       let same : due.branch ≡ b = one_open c.slots n due.branch b (subst (λ m. IsOpen c.slots m due.branch) at due.open_) open_ in
       let is_new : IsNewOn c.problem b other = subst (λ d. IsNewOn c.problem d other) same due.new_ in
@@ -376,7 +376,7 @@ module _ (c : Course) (n : ℕ) (b : Branch) (open_ : IsOpen c.slots n b) (pick 
   -- ---- of a batch
 
   module _ (batch : Batch) (agenda : Agenda) (of : IsAgendaOf pick batch agenda) where
-    led_listed : (single : Option Step) → batch.single ≡ single → IsWholeBatch batch → (step : Step) → IsTrue (is_single step) → HasEarlier pick single step → IsListed pick agenda.steps.items step
+    led_listed : (single : Option Step) → batch.single ≡ single → IsWholeBatch batch → (step : Step) → IsTrue (is_single step) → HasSooner pick single step → IsListed pick agenda.steps.items step
     led_listed None is whole step one led = absurd led
     led_listed (Some first) is whole step one led =
         inr (record { single = one; other = first; there = of.has first (inr is); other_single = whole.single first is; before = not_greater (pick_cmp pick first step) led })

@@ -17,7 +17,7 @@ use Rattle.ba_instant.proofs.ChaseLemmas.{open_is}
 use Rattle.ba_instant.proofs.OfferLemmas.{improves_as, improves_both}
 use Rattle.ba_instant.specs.Offers.{IsByMapping, IsTaught, Improves, IsClosing, IsEntryOf, IsGoalStep, IsKeyStep, IsLinkStep, IsNewIn, IsRoundAt, IsRoundIn, IsRuleStep, IsSplitStep, IsTelling, IsViewStep}
 use Rattle.ba_instant.specs.declared.batch.Batch.{Batch}
-use Rattle.ba_instant.specs.declared.order.Pick.{Pick}
+use Rattle.ba_settle.specs.declared.order.Pick.{Pick}
 
 -- ---- all kinds
 

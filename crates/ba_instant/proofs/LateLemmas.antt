@@ -9,7 +9,7 @@ use Rattle.ba_instant.specs.Scans.{IsTimely}
 use Rattle.ba_instant.specs.Offers.{Improves, IsNewOf, IsHeld, IsNewIn, IsRoundIn, Reaches}
 use Rattle.ba_instant.specs.declared.batch.Batch.{Batch}
 use Rattle.ba_instant.specs.declared.scan.NewStep.{NewStep}
-use Rattle.ba_instant.specs.declared.order.Pick.{Pick}
+use Rattle.ba_settle.specs.declared.order.Pick.{Pick}
 
 -- ---- what isn't timely
 

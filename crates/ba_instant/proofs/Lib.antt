@@ -1,4 +1,3 @@
-mod OrderLemmas
 mod RoundLemmas
 mod OfferLemmas
 mod ChaseLemmas
@@ -13,7 +12,6 @@ mod PairLemmas
 mod PartnerLemmas
 mod TakeLemmas
 mod OvertakenLemmas
-mod PickLemmas
 mod DistinctLemmas
 mod AgendaLemmas
 mod NextLemmas

@@ -24,7 +24,7 @@ use Rattle.ba_instant.specs.Offers.{Improves, IsMapped, IsMappedFrom, IsNewIn, I
 use Rattle.ba_instant.specs.declared.batch.Batch.{Batch}
 use Rattle.ba_instant.specs.declared.mapped.Form.{Form}
 use Rattle.ba_instant.specs.declared.mapped.Form.TheVariants.{OfRule, OfView, OfGoal}
-use Rattle.ba_instant.specs.declared.order.Pick.{Pick}
+use Rattle.ba_settle.specs.declared.order.Pick.{Pick}
 
 -- ---- the walk over a part's tables
 

@@ -23,22 +23,23 @@ use Rattle.ba_instant.proofs.AgendaLemmas.{none_is_agenda, older_on}
 use Rattle.ba_instant.proofs.DueLemmas.{gt_false, new_in, not_greater, one_open}
 use Rattle.ba_instant.proofs.KeepLemmas.{more_facts, new_after_quiet_step, stays_silent}
 use Rattle.ba_instant.proofs.OfferLemmas.{not_behind}
-use Rattle.ba_instant.proofs.OrderLemmas.{pick_total}
 use Rattle.ba_instant.proofs.RoundLemmas.{round_once}
-use Rattle.ba_instant.specs.Dues.{DueList, Ends, EndsAreLeaves, HasNew, HaveNewBelow, IsDue, IsSaturated, Searches}
+use Rattle.ba_settle.proofs.OrderLemmas.{pick_total}
+use Rattle.ba_settle.proofs.SearchLemmas.{runs_of}
+use Rattle.ba_settle.specs.Dues.{Ends, HasNew, HaveNewBelow, IsDueStep, IsSaturated, Searches}
 use Rattle.ba_instant.specs.Agendas.{AreInTurn, AreOlder, IsAgenda, IsAgendaAt, IsListed, IsNone, IsSilent, MOST_ROUND}
 use Rattle.ba_instant.specs.Loose.{IsQuietBeside}
 use Rattle.ba_instant.specs.Nexts.{AreQuietBeside, IsQuietRound, AreWaiting, ComesLater, IsFirstBelow, IsCarriedOn, IsLeafOf, IsLeastSaturated, IsAgendaAfter, IsPickedBelow, IsQuietAt, IsTaken, PassesBranch, SaturatedAt, Waits, first_step}
 use Rattle.ba_instant.specs.Offers.{IsDueIfAny, IsDueOn, IsRoundAt, IsTelling, first_by}
 use Rattle.ba_instant.specs.QuietSteps.{AddsToOneAt, TakesQuietly}
-use Rattle.ba_instant.specs.Order.{atom_cmp, numbers_cmp, pick_cmp, step_atom, step_cmp, step_rank}
+use Rattle.ba_settle.specs.Order.{atom_cmp, numbers_cmp, pick_cmp, step_atom, step_cmp, step_rank}
 use Rattle.ba_instant.specs.declared.waiting.Waiting.{Waiting}
 use Rattle.ba_instant.specs.declared.agenda.Agenda.{Agenda}
 use Rattle.ba_instant.specs.declared.due.Due.{Due}
-use Rattle.ba_instant.specs.declared.ends.Settled.{Settled}
-use Rattle.ba_instant.specs.declared.ends.Settled.TheVariants as settled
-use Rattle.ba_instant.specs.declared.order.Pick.{Pick}
-use Rattle.ba_instant.specs.declared.order.Pick.TheVariants.{First, Last}
+use Rattle.ba_settle.specs.declared.ends.Settled.{Settled}
+use Rattle.ba_settle.specs.declared.ends.Settled.TheVariants as settled
+use Rattle.ba_settle.specs.declared.order.Pick.{Pick}
+use Rattle.ba_settle.specs.declared.order.Pick.TheVariants.{First, Last}
 
 -- ---- branches
 
@@ -195,10 +196,6 @@ module _ (pick : Pick) (c : Course) (n : ℕ) where
 
 -- ---- a step that is taken
 
-runs_of : (pick : Pick) (p : Problem) (taken : List Step) (slots : Slots) → Searches pick p taken slots → Runs p taken slots
-runs_of pick p taken slots (Searches.start h) = Runs.start h
-runs_of pick p taken slots (Searches.next {taken = before} {old = old} h each picked takes) = Runs.next (runs_of pick p before old h) takes
-
 elsewhere : {X : Type 0} (xs : List X) (n m : ℕ) (y : X) → (m ≡ n → ⊥) → slice_get (slice_set xs n y) m ≡ slice_get xs m
 elsewhere [] n m y other = refl
 elsewhere (z ∷ xs) zero zero y other = absurd (other refl)
@@ -236,7 +233,7 @@ module _ (pick : Pick) (c : Course) (of : Due) (it : IsTaken pick c of) where
   -- ---- what is known of the branches after it
 
   module _ (fits : ProblemFits c.problem) (searches : Searches pick c.problem c.steps c.slots) where
-    abbrev due : IsDue c.problem c.slots step
+    abbrev due : IsDueStep c.problem c.slots step
     due = it.picked.due
 
     due_round : of.found.round ≡ due.round
@@ -452,17 +449,3 @@ pub open_still : (old new : Course) (number : ℕ) → new ≡ old → IsLeastSa
 open_still old new number same h =
     subst (λ (c : Course). open_at c.slots number ≢ None) (sym same)
     (λ none. let wrong : Some h.branch ≡ None = sym (open_is old.slots number h.branch h.saturated.open_) ∙ none in cc)
-
-pub due_list : (pick : Pick) (p : Problem) (taken : List Step) (slots : Slots) → Searches pick p taken slots → DueList pick p taken slots
-due_list pick p taken slots (Searches.start h) = DueList.start h
-due_list pick p taken slots (Searches.next {taken = before} {old = old} h each picked takes) = DueList.next (due_list pick p before old h) picked takes
-
--- ---- leaves
-
-pub ends_are_leaves : EndsAreLeaves
-ends_are_leaves pick p budget leaf h = record {
-  slots = h.slots;
-  runs = subst (λ q. Runs q leaf.steps h.slots) (sym h.problem_is) (runs_of pick p leaf.steps h.slots h.searches);
-  number = h.number;
-  saturated = subst (λ q. IsSaturated q h.slots h.number leaf.branch) (sym h.problem_is) h.saturated;
-}

@@ -13,13 +13,13 @@ use Rattle.ba_kernel.specs.News.{IsNewRound}
 use Rattle.ba_kernel.specs.Tests.{Course, open_at}
 use Rattle.ba_kernel.specs.declared.step.Step.{Step}
 use Rattle.ba_facts.proofs.PlaceLemmas.{upto as up_to_bound}
-use Rattle.ba_instant.proofs.OrderLemmas.{pick_total}
+use Rattle.ba_settle.proofs.OrderLemmas.{pick_total}
 use Rattle.ba_instant.proofs.RoundLemmas.{is_new, not_new, round_at_once}
-use Rattle.ba_instant.specs.Order.{pick_cmp}
-use Rattle.ba_instant.specs.Offers.{Improves, IsNewOf, IsHeld, IsNewIn, IsOffered, IsRoundIn, IsWholeBatch, HasEarlier, OfAny, Offers, Reaches, Upto, batch_of, empty_batch, first_by, first_single, is_single, with_found, with_found_by, with_step, with_step_by}
+use Rattle.ba_settle.specs.Order.{pick_cmp}
+use Rattle.ba_instant.specs.Offers.{Improves, IsNewOf, IsHeld, IsNewIn, IsOffered, IsRoundIn, IsWholeBatch, HasSooner, OfAny, Offers, Reaches, Upto, batch_of, empty_batch, first_by, first_single, is_single, with_found, with_found_by, with_step, with_step_by}
 use Rattle.ba_instant.specs.declared.batch.Batch.{Batch}
 use Rattle.ba_instant.specs.declared.scan.NewStep.{NewStep}
-use Rattle.ba_instant.specs.declared.order.Pick.{Pick}
+use Rattle.ba_settle.specs.declared.order.Pick.{Pick}
 
 pub not_behind : (r : Ordering) → is_gt r ≡ true → is_gt (ordering_reverse r) ≡ false
 not_behind Less e = let wrong : false ≡ true = e in cc
@@ -36,22 +36,22 @@ module _ (pick : Pick) where
   not_after_itself step = ap is_gt (tied_itself (pick_total pick) step)
 
   module _ (step : Step) where
-    leads_by : (best : Step) (b : Bool) → is_gt (pick_cmp pick best step) ≡ b → HasEarlier pick (first_by b best step) step
+    leads_by : (best : Step) (b : Bool) → is_gt (pick_cmp pick best step) ≡ b → HasSooner pick (first_by b best step) step
     leads_by best false e = e
     leads_by best true e = not_after_itself step
 
-    leads_here : (single : Option Step) → HasEarlier pick (first_single pick single step) step
+    leads_here : (single : Option Step) → HasSooner pick (first_single pick single step) step
     leads_here None = not_after_itself step
     leads_here (Some best) = leads_by best (is_gt (pick_cmp pick best step)) refl
 
-    leads_on_by : (best other : Step) (b : Bool) → is_gt (pick_cmp pick best step) ≡ b → is_gt (pick_cmp pick best other) ≡ false → HasEarlier pick (first_by b best step) other
+    leads_on_by : (best other : Step) (b : Bool) → is_gt (pick_cmp pick best step) ≡ b → is_gt (pick_cmp pick best other) ≡ false → HasSooner pick (first_by b best step) other
     leads_on_by best other false e h = h
     leads_on_by best other true e h =
         let less : is_gt (pick_cmp pick step best) ≡ false =
         ap is_gt ((pick_total pick).antisymm step best) ∙ not_behind (pick_cmp pick best step) e in
         upto (pick_total pick) step best other less h
 
-    leads_on : (single : Option Step) (other : Step) → HasEarlier pick single other → HasEarlier pick (first_single pick single step) other
+    leads_on : (single : Option Step) (other : Step) → HasSooner pick single other → HasSooner pick (first_single pick single step) other
     leads_on None other h = absurd h
     leads_on (Some best) other h = leads_on_by best other (is_gt (pick_cmp pick best step)) refl h
 

@@ -18,7 +18,7 @@ use Rattle.ba_kernel.specs.declared.step.Step.{Step}
 use Rattle.ba_instant.proofs.OfferLemmas.{improves_as, improves_both, improves_none}
 use Rattle.ba_instant.specs.Offers.{Among, Improves}
 use Rattle.ba_instant.specs.declared.batch.Batch.{Batch}
-use Rattle.ba_instant.specs.declared.order.Pick.{Pick}
+use Rattle.ba_settle.specs.declared.order.Pick.{Pick}
 
 pub in_every : (b : Branch) (n : ℕ) → n < length b.facts → Contains (every b) n
 in_every b n below = (

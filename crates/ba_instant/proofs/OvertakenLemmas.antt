@@ -15,16 +15,16 @@ use Rattle.ba_kernel.specs.declared.step.Step.{Step}
 use Rattle.ba_kernel.specs.declared.step.Step.TheVariants as steps
 use Rattle.ba_instant.proofs.LateLemmas.{improves_behind}
 use Rattle.ba_instant.proofs.MapLemmas.{From}
-use Rattle.ba_instant.proofs.OrderLemmas.{pick_total}
+use Rattle.ba_settle.proofs.OrderLemmas.{pick_total}
 use Rattle.ba_instant.specs.Scans.{IsBehind, IsOvertaken}
-use Rattle.ba_instant.specs.Offers.{Improves, HasEarlier, Reaches, is_single}
-use Rattle.ba_instant.specs.Order.{pick_cmp, step_cmp}
+use Rattle.ba_instant.specs.Offers.{Improves, HasSooner, Reaches, is_single}
+use Rattle.ba_settle.specs.Order.{pick_cmp, step_cmp}
 use Rattle.ba_instant.specs.declared.batch.Batch.{Batch}
 use Rattle.ba_instant.specs.declared.scan.NewStep.{NewStep}
 use Rattle.ba_instant.specs.declared.mapped.Form.{Form}
 use Rattle.ba_instant.specs.declared.mapped.Form.TheVariants.{OfRule, OfView, OfGoal}
-use Rattle.ba_instant.specs.declared.order.Pick.{Pick}
-use Rattle.ba_instant.specs.declared.order.Pick.TheVariants.{First}
+use Rattle.ba_settle.specs.declared.order.Pick.{Pick}
+use Rattle.ba_settle.specs.declared.order.Pick.TheVariants.{First}
 
 -- ---- the order of such steps
 
@@ -49,7 +49,7 @@ module _ (n part : ℕ) (chosen rest : List ℕ) where
   longer_behind =
       last_decides (nat_cmp n n) (nat_cmp part part) (slice_cmp nat_cmp chosen (chosen ++ rest)) (tied_itself nat_cmp_total n) (tied_itself nat_cmp_total part) (begins chosen rest)
 
-  leads_longer : (single : Option Step) → HasEarlier First single (steps.Goal n part chosen) → HasEarlier First single (steps.Goal n part (chosen ++ rest))
+  leads_longer : (single : Option Step) → HasSooner First single (steps.Goal n part chosen) → HasSooner First single (steps.Goal n part (chosen ++ rest))
   leads_longer None h = absurd h
   leads_longer (Some best) h = upto (pick_total First) best (steps.Goal n part chosen) (steps.Goal n part (chosen ++ rest)) h longer_behind
 
@@ -57,7 +57,7 @@ module _ (n part : ℕ) (chosen rest : List ℕ) where
   behind_reaches None it h is = absurd h
   behind_reaches (Some best) it (at, leads) is =
       let least : best.round ≤ it.round = omega (arith, at) in
-      let ahead : HasEarlier First best.single it.step = subst (HasEarlier First best.single) (sym is) (leads_longer best.single leads) in
+      let ahead : HasSooner First best.single it.step = subst (HasSooner First best.single) (sym is) (leads_longer best.single leads) in
       elim (eq-or-lt_of_le least) [
         | inl same ↦ inr (same, inr (subst (λ s. IsTrue (is_single s)) (sym is) refl, ahead))
         | inr less ↦ inl less

@@ -26,7 +26,7 @@ use Rattle.ba_instant.specs.Offers.{Improves, IsNewOf, IsKeyStep, IsNewIn, OfAny
 use Rattle.ba_instant.specs.Partners.{ArePartners}
 use Rattle.ba_instant.specs.declared.batch.Batch.{Batch}
 use Rattle.ba_instant.specs.declared.scan.NewStep.{NewStep}
-use Rattle.ba_instant.specs.declared.order.Pick.{Pick}
+use Rattle.ba_settle.specs.declared.order.Pick.{Pick}
 
 some_inj : {X : Type 0} (o : Option X) (x y : X) → o ≡ Some x → o ≡ Some y → x ≡ y
 some_inj o x y left right = cc

@@ -27,7 +27,7 @@ use Rattle.ba_instant.specs.Offers.{Improves, IsNewIn, IsOfForm}
 use Rattle.ba_instant.specs.Spreads.{HasFact, IsReached, IsWalkFor, NoneReach, NoneReachAmong}
 use Rattle.ba_instant.specs.declared.batch.Batch.{Batch}
 use Rattle.ba_instant.specs.declared.mapped.Form.TheVariants.{OfGoal}
-use Rattle.ba_instant.specs.declared.order.Pick.{Pick}
+use Rattle.ba_settle.specs.declared.order.Pick.{Pick}
 use Rattle.ba_instant.specs.declared.reach.Reach.{Reach}
 
 module _ (b : Branch) (part : Part) (row : List Term) where

@@ -21,7 +21,7 @@ use Rattle.ba_instant.proofs.RoundLemmas.{round_at_once}
 use Rattle.ba_instant.specs.Scans.{AreRecent, IsScanOf, IsTimely, KeysAreLate}
 use Rattle.ba_instant.specs.Offers.{Improves, IsEntryOf, IsLinkOfFact, IsLinkStep, IsNewIn, IsRoundIn, IsTelling, fact_round}
 use Rattle.ba_instant.specs.declared.batch.Batch.{Batch}
-use Rattle.ba_instant.specs.declared.order.Pick.{Pick}
+use Rattle.ba_settle.specs.declared.order.Pick.{Pick}
 
 pub round_least : (c : Course) (step : Step) (round other : ℕ) → IsRoundIn c step round → IsRoundIn c step other → round ≤ other
 round_least c step round other is its = let same = round_at_once c.problem (open_at c.slots (branch_of step)) step round other is its in omega (arith, same)

@@ -29,7 +29,7 @@ use Rattle.ba_instant.specs.Offers.{Improves, IsNewIn, IsSplitOfAtom, IsSplitOfP
 use Rattle.ba_facts.specs.Alike.{AreAlike}
 use Rattle.ba_instant.specs.Spreads.{AreChoices, IsAt, IsLike, IsLikeAtom, IsLikeSplit, IsLikeSplits, IsLiveWith, IsOpenOf, IsOver, IsOverAtom, IsSpread, IsSpreadAtom, NamesPlace}
 use Rattle.ba_instant.specs.declared.batch.Batch.{Batch}
-use Rattle.ba_instant.specs.declared.order.Pick.{Pick}
+use Rattle.ba_settle.specs.declared.order.Pick.{Pick}
 
 -- ---- the walk over a part's tables
 

@@ -10,11 +10,11 @@ use Rattle.ba_kernel.specs.Tests.{Course}
 use Rattle.ba_kernel.specs.declared.problem.Problem.{Problem}
 use Rattle.ba_kernel.specs.declared.step.Step.{Step}
 use Rattle.ba_instant.specs.Offers.{IsClosing, IsNewIn, IsRoundIn, IsTelling, Offers, is_single}
-use Rattle.ba_instant.specs.Order.{pick_cmp}
+use Rattle.ba_settle.specs.Order.{pick_cmp}
 use Rattle.ba_instant.specs.declared.agenda.Agenda.{Agenda}
 use Rattle.ba_instant.specs.declared.batch.Batch.{Batch}
 use Rattle.ba_instant.specs.declared.scan.NewStep.{NewStep}
-use Rattle.ba_instant.specs.declared.order.Pick.{Pick}
+use Rattle.ba_settle.specs.declared.order.Pick.{Pick}
 
 -- a single step of the list isn't picked after this one, which is single too
 pub record IsStoodFor (pick : Pick) (steps : List Step) (step : Step) : Type 0 where

@@ -1,5 +1,3 @@
-pub mod Order
-pub mod Dues
 pub mod Offers
 pub mod Spreads
 pub mod Windows

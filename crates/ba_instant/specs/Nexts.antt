@@ -9,9 +9,9 @@ use Rattle.ba_kernel.specs.declared.problem.Problem.{Problem}
 use Rattle.ba_kernel.specs.declared.step.Step.{Step}
 use Rattle.ba_kernel.specs.declared.step.Step.TheVariants as steps
 use Rattle.ba_facts.specs.declared.term.TermAtom.{TermAtom}
-use Rattle.ba_instant.specs.Dues.{EachHasNew, HasNew, HaveNewBelow, IsDue, IsPicked, IsSaturated, Searches}
+use Rattle.ba_settle.specs.Dues.{EachHasNew, HasNew, HaveNewBelow, IsDueStep, IsPicked, IsSaturated, Searches}
 use Rattle.ba_instant.specs.Offers.{Improves, IsDueIfAny, IsRoundIn, first_by}
-use Rattle.ba_instant.specs.Order.{pick_cmp}
+use Rattle.ba_settle.specs.Order.{pick_cmp}
 use Rattle.ba_instant.specs.QuietSteps.{AddsToOneAt, IsQuietStep}
 use Rattle.ba_instant.specs.Agendas.{IsAgenda, IsAgendaAt, IsNone}
 use Rattle.ba_instant.specs.Loose.{IsLooseAtom, IsQuietBeside}
@@ -21,15 +21,15 @@ use Rattle.ba_instant.specs.declared.waiting.Waiting.{Waiting}
 use Rattle.ba_instant.specs.declared.due.Next.TheVariants as nexts
 use Rattle.ba_instant.specs.declared.ends.Ahead.{Ahead}
 use Rattle.ba_instant.specs.declared.ends.Ahead.TheVariants.{Moved, Saturated, Closed}
-use Rattle.ba_instant.specs.declared.ends.Leaf.{Leaf}
-use Rattle.ba_instant.specs.declared.ends.Settled.{Settled}
+use Rattle.ba_settle.specs.declared.ends.Leaf.{Leaf}
+use Rattle.ba_settle.specs.declared.ends.Settled.{Settled}
 use Rattle.ba_instant.specs.declared.agenda.Agenda.{Agenda}
 use Rattle.ba_instant.specs.declared.batch.Batch.{Batch}
 use Rattle.ba_instant.specs.declared.due.Due.{Due}
 use Rattle.ba_instant.specs.declared.due.OpenBranch.{OpenBranch}
-use Rattle.ba_instant.specs.declared.ends.Settled.TheVariants as settled
-use Rattle.ba_instant.specs.declared.order.Pick.{Pick}
-use Rattle.ba_instant.specs.declared.order.Pick.TheVariants.{First, Last}
+use Rattle.ba_settle.specs.declared.ends.Settled.TheVariants as settled
+use Rattle.ba_settle.specs.declared.order.Pick.{Pick}
+use Rattle.ba_settle.specs.declared.order.Pick.TheVariants.{First, Last}
 
 -- the step is the one that is taken, with its round, each open branch has a new step, and the
 -- agenda is that of its branch
@@ -79,8 +79,8 @@ IsDueOnIt it found = IsDueIfAny it.search.now it.pick it.number found
 -- the agenda is that of its branch
 pub record IsPickedBelow (pick : Pick) (c : Course) (bound : ℕ) (it : Due) : Type 0 where
   pub below : branch_of it.found.step < bound
-  pub due : IsDue c.problem c.slots it.found.step
-  pub first : (other : Step) → branch_of other < bound → IsDue c.problem c.slots other →
+  pub due : IsDueStep c.problem c.slots it.found.step
+  pub first : (other : Step) → branch_of other < bound → IsDueStep c.problem c.slots other →
       pick_cmp pick it.found.step other ≢ Greater
   pub round_is : IsRoundIn c it.found.step it.found.round
   pub agenda : IsAgendaAt pick c (branch_of it.found.step) it.agenda

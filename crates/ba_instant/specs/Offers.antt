@@ -26,14 +26,14 @@ use Rattle.ba_kernel.specs.NewParts.{IsAtomOfParts, IsAtomOfRules, IsAtomOfSides
 use Rattle.ba_kernel.specs.declared.problem.Problem.{Problem}
 use Rattle.ba_kernel.specs.declared.step.Step.{Step}
 use Rattle.ba_kernel.specs.declared.step.Step.TheVariants as steps
-use Rattle.ba_instant.specs.Dues.{IsDue}
-use Rattle.ba_instant.specs.Order.{pick_cmp}
+use Rattle.ba_settle.specs.Dues.{IsDueStep}
+use Rattle.ba_settle.specs.Order.{pick_cmp}
 use Rattle.ba_instant.specs.declared.batch.Batch.{Batch}
 use Rattle.ba_instant.specs.declared.scan.NewStep.{NewStep}
 use Rattle.ba_instant.specs.declared.mapped.Form.{Form}
 use Rattle.ba_instant.specs.declared.mapped.Form.TheVariants.{OfRule, OfView, OfGoal}
 use Rattle.ba_instant.specs.declared.mapped.Mapped.{Mapped}
-use Rattle.ba_instant.specs.declared.order.Pick.{Pick}
+use Rattle.ba_settle.specs.declared.order.Pick.{Pick}
 
 -- ---- the first of the new steps
 
@@ -62,14 +62,14 @@ is_single (steps.Absurd branch) = true
 is_single (steps.Goal branch part facts) = true
 
 -- there is one, and this one isn't picked before it
-abbrev pub HasEarlier : Pick → Option Step → Step → Type 0
-HasEarlier pick None step = ⊥
-HasEarlier pick (Some first) step = is_gt (pick_cmp pick first step) ≡ false
+abbrev pub HasSooner : Pick → Option Step → Step → Type 0
+HasSooner pick None step = ⊥
+HasSooner pick (Some first) step = is_gt (pick_cmp pick first step) ≡ false
 
 -- it is in the batch; or it is a single one, and the batch has one that isn't picked after it
 abbrev pub IsHeld : Pick → Batch → Step → Type 0
 IsHeld pick batch step =
-    Contains batch.steps step ⊎ (IsTrue (is_single step) × HasEarlier pick batch.single step)
+    Contains batch.steps step ⊎ (IsTrue (is_single step) × HasSooner pick batch.single step)
 
 -- there is a batch, of a lesser round or of the same with the step
 abbrev pub Reaches : Pick → Option Batch → NewStep → Type 0
@@ -314,8 +314,8 @@ IsTaught number step = IsKeyStep number step ⊎ IsByMapping number step
 -- The due step that is picked on the branch with its round, or none where no step on it is new.
 pub record IsDueOn (c : Course) (pick : Pick) (number : ℕ) (it : NewStep) : Type 0 where
   pub on : branch_of it.step ≡ number
-  pub due : IsDue c.problem c.slots it.step
-  pub first : (other : Step) → branch_of other ≡ number → IsDue c.problem c.slots other →
+  pub due : IsDueStep c.problem c.slots it.step
+  pub first : (other : Step) → branch_of other ≡ number → IsDueStep c.problem c.slots other →
       pick_cmp pick it.step other ≢ Greater
   pub round_is : IsRoundIn c it.step it.round
 

@@ -18,14 +18,14 @@ use Rattle.ba_kernel.specs.Tests.{Course}
 use Rattle.ba_kernel.specs.declared.problem.Problem.{Problem}
 use Rattle.ba_kernel.specs.declared.step.Step.{Step}
 use Rattle.ba_kernel.specs.declared.step.Step.TheVariants as steps
-use Rattle.ba_instant.specs.Offers.{Improves, IsKeyOfPair, IsKeyStep, IsStepAmong, HasEarlier, OfAny, fact_round}
+use Rattle.ba_instant.specs.Offers.{Improves, IsKeyOfPair, IsKeyStep, IsStepAmong, HasSooner, OfAny, fact_round}
 use Rattle.ba_instant.specs.Windows.{IsQuietUpto}
 use Rattle.ba_instant.specs.declared.batch.Batch.{Batch}
 use Rattle.ba_instant.specs.declared.mapped.Form.{Form}
 use Rattle.ba_instant.specs.declared.mapped.Form.TheVariants.{OfRule, OfView, OfGoal}
 use Rattle.ba_instant.specs.declared.mapped.Mapped.{Mapped}
-use Rattle.ba_instant.specs.declared.order.Pick.{Pick}
-use Rattle.ba_instant.specs.declared.order.Pick.TheVariants.{First}
+use Rattle.ba_settle.specs.declared.order.Pick.{Pick}
+use Rattle.ba_settle.specs.declared.order.Pick.TheVariants.{First}
 use Rattle.ba_instant.specs.declared.scan.Scan.{Scan}
 
 -- ---- recent facts
@@ -77,7 +77,7 @@ IsTimelyOf b (OfGoal part) fact best = Unit {0}
 -- one of round 0, which closes its branch, was found that isn't picked after the step
 abbrev pub IsBehind : Pick → Option Batch → Step → Type 0
 IsBehind pick None step = ⊥
-IsBehind pick (Some best) step = (best.round ≡ 0) × HasEarlier pick best.single step
+IsBehind pick (Some best) step = (best.round ≡ 0) × HasSooner pick best.single step
 
 -- the first of the steps that reach the goal is looked for, and one was found that isn't picked
 -- after that on the chosen facts, nor so after one on more
@@ -150,8 +150,8 @@ IsKeyInTurn b quiet number one other step =
 abbrev pub IsKeyWith : Scan → ℕ → ℕ → Step → Type 0
 IsKeyWith scan one other = IsKeyInTurn scan.branch.now scan.quiet scan.number one other
 
-abbrev pub IsKeyOf : Scan → ℕ → Step → Type 0
-IsKeyOf scan one = OfAny (IsKeyInTurn scan.branch.now scan.quiet scan.number one)
+abbrev pub IsKeyWithAny : Scan → ℕ → Step → Type 0
+IsKeyWithAny scan one = OfAny (IsKeyInTurn scan.branch.now scan.quiet scan.number one)
 
 -- such a step may be of no later round than those that were found
 abbrev pub IsTimelyKey : Branch → ℕ → ℕ → Option Batch → Type 0

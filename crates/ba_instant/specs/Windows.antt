@@ -17,7 +17,7 @@ use Rattle.ba_kernel.specs.News.{IsNewOn}
 use Rattle.ba_kernel.specs.Steps.{IsRound}
 use Rattle.ba_kernel.specs.declared.problem.Problem.{Problem}
 use Rattle.ba_kernel.specs.declared.step.Step.{Step}
-use Rattle.ba_instant.specs.Dues.{IsDue}
+use Rattle.ba_settle.specs.Dues.{IsDueStep}
 use Rattle.ba_instant.specs.Offers.{IsTelling}
 
 -- no step that tells the branch something is new there whose round is at most the bound
@@ -107,7 +107,7 @@ QuietIsNotAbsurd =
 -- a branch is quiet up to each round before that of its due step, and up to 0
 abbrev pub DueIsQuiet : Type 0
 DueIsQuiet =
-    (p : Problem) (slots : Slots) (step : Step) (bound : ℕ) → (due : IsDue p slots step) →
+    (p : Problem) (slots : Slots) (step : Step) (bound : ℕ) → (due : IsDueStep p slots step) →
     bound < due.round → IsQuietUpto p due.branch (branch_of step) bound
 
 abbrev pub QuietAtFirst : Type 0

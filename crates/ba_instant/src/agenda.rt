@@ -4,10 +4,10 @@ ghost use Rattle.ba_kernel.specs.declared.step.Step.{Step as AStep};
 ghost use Rattle.ba_instant.specs.Agendas.{EndsOld, IsAgendaOf, IsFirstOf, IsInTurn, IsNewHere, IsNone, IsPast, IsQuietAgenda, IsTrimmed, IsWithoutLast};
 
 use crate::batch::{Batch, is_single};
-use crate::order::{Pick, compare_steps};
 use crate::scan::NewStep;
 use ba_kernel::{Search, Step};
 use ba_model::Duplicate;
+use ba_settle::{Pick, compare_steps};
 use std::alloc::{AllocError, Global};
 
 /// Steps of a round on a branch, those at the end to be picked first. No step of a lesser round

@@ -2,12 +2,12 @@
 ghost use Rattle.std.specs.Prelude.{◌≡◌, ◌↔◌, IfOk, IsTrue, OnOk, Some};
 ghost use Rattle.std.specs.Ordering.{nat_cmp};
 ghost use Rattle.ba_instant.specs.Scans.{IsBehind, IsTimely};
-ghost use Rattle.ba_instant.specs.Offers.{HasEarlier, Reaches, batch_of, empty_batch, first_single, is_single, with_found, with_found_by, with_step};
+ghost use Rattle.ba_instant.specs.Offers.{HasSooner, Reaches, batch_of, empty_batch, first_single, is_single, with_found, with_found_by, with_step};
 
-use crate::order::Pick;
 use crate::scan::NewStep;
 use ba_kernel::Step;
 use ba_model::List;
+use ba_settle::Pick;
 use std::alloc::{AllocError, Global};
 use std::cmp::Ordering;
 
@@ -79,14 +79,14 @@ impl Batch {
     /// Whether the step is single and isn't picked before the single one.
     fn leads(&self, pick: Pick, step: &Step) -> bool
         ensures { IsTrue result
-            → (IsTrue (is_single step.now) × HasEarlier pick self.now.single step.now) }
+            → (IsTrue (is_single step.now) × HasSooner pick self.now.single step.now) }
     {
         is_single(step) && is_led(pick, &self.single, step)
     }
 }
 
 fn is_led(pick: Pick, single: &Option<Step>, step: &Step) -> bool
-    ensures { IsTrue result → HasEarlier pick single.now step.now }
+    ensures { IsTrue result → HasSooner pick single.now step.now }
 {
     match single {
         Some(first) => pick.compare(first, step) != Ordering::Greater,

@@ -11,12 +11,12 @@ ghost use Rattle.ba_instant.specs.Offers.{IsByMapping, IsClosing, IsTaught, IsTe
 
 use crate::agenda::Agenda;
 use crate::batch::Batch;
-use crate::order::Pick;
 use crate::recent::{first_recent, recent_facts};
 use crate::scan::{NewStep, Scan};
 use crate::waiting::Waiting;
 use ba_facts::Branch;
 use ba_kernel::{Search, Step};
+use ba_settle::Pick;
 use std::alloc::{AllocError, Global};
 use std::cmp::Ordering;
 

@@ -3,39 +3,19 @@ ghost use Rattle.std.specs.Prelude.{◌≡◌, ◌≢◌, ◌≤◌, ◌<◌, �
 ghost use Rattle.ba_model.specs.Limits.{most_budget};
 ghost use Rattle.ba_kernel.specs.Courses.{AllClosed, ProblemFits};
 ghost use Rattle.ba_kernel.specs.Tests.{open_at};
-ghost use Rattle.ba_instant.specs.Dues.{Ends, Searches};
+ghost use Rattle.ba_settle.specs.Dues.{Ends, Searches};
 ghost use Rattle.ba_instant.specs.Nexts.{AreLeftAt, AreWaiting, IsAhead, IsLeafOf, IsTaken};
-ghost use Rattle.ba_instant.specs.declared.ends.Settled.TheVariants.{Proved as ByProof, Spent};
-ghost use Rattle.ba_instant.specs.declared.order.Pick.TheVariants.{First};
+ghost use Rattle.ba_settle.specs.declared.ends.Settled.TheVariants.{Proved as ByProof, Spent};
+ghost use Rattle.ba_settle.specs.declared.order.Pick.TheVariants.{First};
 
 use crate::due::{Due, Next, keep_quiet, next_step};
-use crate::order::Pick;
 use crate::quiet::{left_after, quiet_round};
 use crate::waiting::Waiting;
 use ba_facts::Branch;
 use ba_kernel::{Problem, Proved, Search, Step};
 use ba_model::{Duplicate, List, Owned};
+use ba_settle::{Leaf, Pick, Settle, Settled};
 use std::alloc::{AllocError, Global};
-
-/// A problem, the steps that were taken from its start, and an open branch that they leave, on
-/// which no step is new.
-#[derive(Drop)]
-pub struct Leaf {
-    pub problem: Owned<Problem>,
-    pub steps: List<Step>,
-    pub branch: Owned<Branch>,
-}
-
-/// How a search ends.
-#[derive(Drop)]
-pub enum Settled {
-    /// No branch is open.
-    Proved(Proved),
-    /// An open branch has no new step: the least such.
-    Saturated(Leaf),
-    /// As many steps were taken as the budget has, and each open branch has a new step.
-    Spent(List<Step>),
-}
 
 /// Takes due steps from the problem's start, each the first in the order of steps of those that are
 /// due on open branches, at most as many as the budget.
@@ -75,6 +55,18 @@ pub fn settle_in(
         }
     }
     end(alloc, search, pick, &mut waiting)
+}
+
+/// The search in the order of steps alone, as [`settle`] makes it.
+#[derive(Clone, Copy, Debug, Drop)]
+pub struct InOrder;
+
+impl Settle for InOrder {
+    ghost orders = { λ _. 1 };
+
+    fn settle(&self, alloc: Global, problem: Problem, budget: u32) -> Result<Settled, AllocError> {
+        settle(alloc, problem, budget)
+    }
 }
 
 /// What became of a search that was to take a step.

@@ -4,7 +4,7 @@ ghost use Rattle.ba_facts.specs.Known.{seen};
 ghost use Rattle.ba_facts.specs.Shown.{IsEqual};
 ghost use Rattle.ba_kernel.specs.Courses.{IsOpen};
 ghost use Rattle.ba_kernel.specs.Steps.{AreEqualAt};
-ghost use Rattle.ba_instant.specs.Scans.{AreEqualBy, ImprovesBy, IsKeyOf, IsKeyWith, IsPair, IsScan, IsTimelyKey, IsTurn, ShareKey, schema_of};
+ghost use Rattle.ba_instant.specs.Scans.{AreEqualBy, ImprovesBy, IsKeyWithAny, IsKeyWith, IsPair, IsScan, IsTimelyKey, IsTurn, ShareKey, schema_of};
 ghost use Rattle.ba_instant.specs.Offers.{IsKeyOfPair, IsKeyStep, keys_at};
 ghost use Rattle.ba_instant.specs.Partners.{ArePartners};
 
@@ -42,7 +42,7 @@ impl<'a> Scan<'a> {
     /// Offers the steps by keys of the fact and others whose turn it is.
     fn offer_keys_of(&self, one: u32, best: &mut Option<Batch>) -> Result<(), AllocError>
         requires { IsOpen self.now.search.now.slots self.now.number self.now.branch.now }
-        ensures { OnOk result (ImprovesBy self.now (IsKeyOf self.now one) best.old best.new) }
+        ensures { OnOk result (ImprovesBy self.now (IsKeyWithAny self.now one) best.old best.new) }
     {
         let partners = self.partners(one)?;
         self.offer_keys_with(one, &partners, best)
@@ -57,7 +57,7 @@ impl<'a> Scan<'a> {
     ) -> Result<(), AllocError>
         requires open { IsOpen self.now.search.now.slots self.now.number self.now.branch.now }
         requires partners { ArePartners (schema_of self.now) self.now.branch.now one partners.now }
-        ensures { OnOk result (ImprovesBy self.now (IsKeyOf self.now one) best.old best.new) }
+        ensures { OnOk result (ImprovesBy self.now (IsKeyWithAny self.now one) best.old best.new) }
     {
         for other in partners {
             self.offer_keys_of_two(one, *other, best)?;

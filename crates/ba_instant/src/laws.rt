@@ -1,30 +1,7 @@
 //! What holds of every search, stated as functions that do nothing.
-ghost use Rattle.ba_instant.specs.Dues.{DueListsAreOne, EndsAreLeaves, PickedIsOne, SearchesAreDue};
 ghost use Rattle.ba_instant.specs.Loose.{LooseStays};
 ghost use Rattle.ba_instant.specs.QuietSteps.{GivenCaseIsQuiet, NewAfterQuietStep, QuietStepKeeps, RunsAreFilled};
 ghost use Rattle.ba_instant.specs.Windows.{DueIsQuiet, NewWasNew, QuietAtFirst, QuietIsNotAbsurd, QuietStays, RunsAreGrounded};
-
-/// A leaf that a search ends at is one: its steps are accepted from its problem's start, and leave
-/// its branch, on which no step is new.
-pub fn ends_are_leaves()
-    ensures { EndsAreLeaves }
-{}
-
-/// The steps of a search are a due list of its problem.
-pub fn searches_are_due()
-    ensures { SearchesAreDue }
-{}
-
-/// The order of steps tells any two apart, so that one step at most is picked of all due ones.
-pub fn picked_is_one()
-    ensures { PickedIsOne }
-{}
-
-/// A problem has one due list at most of each length, so that what a search takes and leaves after
-/// so many steps is determined.
-pub fn due_lists_are_one()
-    ensures { DueListsAreOne }
-{}
 
 /// Each open branch of a course is grounded.
 pub fn runs_are_grounded()

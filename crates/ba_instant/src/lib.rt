@@ -17,7 +17,6 @@ pub mod laws;
 mod loose;
 mod mapped;
 mod moves;
-mod order;
 mod partners;
 mod parts;
 mod quiet;
@@ -29,5 +28,4 @@ mod spread;
 mod standing;
 mod waiting;
 
-pub use ends::{Leaf, Settled, settle, settle_in};
-pub use order::{Pick, compare_steps};
+pub use ends::{InOrder, settle, settle_in};

@@ -4,11 +4,11 @@ ghost use Rattle.ba_instant.specs.Scans.{AreOld, ImprovesBy, IsNoUse, IsOvertake
 ghost use Rattle.ba_instant.specs.Offers.{IsStepOf, step_of};
 
 use crate::batch::{Batch, is_behind, is_timely};
-use crate::order::Pick;
 use crate::scan::Scan;
 use ba_facts::{Offered, Side, Visit, Walk, Wanted, numbers_of};
 use ba_kernel::Step;
 use ba_model::{List, MAX_PART_TABLES, Part};
+use ba_settle::Pick;
 use std::alloc::AllocError;
 
 /// A step without its branch and facts.

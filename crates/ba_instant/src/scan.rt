@@ -4,9 +4,9 @@ ghost use Rattle.ba_instant.specs.Offers.{IsNewIn, IsRoundIn};
 ghost use Rattle.ba_instant.specs.Scans.{ImprovesBy};
 
 use crate::batch::{Batch, is_reached, keep_found};
-use crate::order::Pick;
 use ba_facts::Branch;
 use ba_kernel::{Search, Step};
+use ba_settle::Pick;
 use std::alloc::{AllocError, Global};
 
 /// A new step and its round.

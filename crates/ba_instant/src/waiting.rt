@@ -4,7 +4,7 @@ ghost use Rattle.ba_kernel.specs.Courses.{branch_of};
 ghost use Rattle.ba_kernel.specs.Tests.{Course};
 ghost use Rattle.ba_instant.specs.Agendas.{IsAgendaAt, IsNone};
 ghost use Rattle.ba_instant.specs.Nexts.{AreWaiting, Waits};
-ghost use Rattle.ba_instant.specs.declared.order.Pick.{Pick};
+ghost use Rattle.ba_settle.specs.declared.order.Pick.{Pick};
 
 use crate::agenda::Agenda;
 use ba_kernel::{Search, Step};

@@ -1,5 +1,4 @@
 -- A lane's work may go to a thread of its own. Each type by its fields, since a search through all at once ends at its limit.
-use denote.Param.{param}
 use denote.Param.Send.{IsSend, IsSync, sendable}
 use denote.Param.SendFields.{declared_send, declared_sync}
 use Rattle.std.proofs.Crossing.{crosses}
@@ -12,8 +11,8 @@ use Rattle.ba_session.specs.contracts.service.Service as Service
 use Rattle.ba_session.proofs.request.Request.TheSendSync as request
 use Rattle.ba_lanes.specs.contracts.lane.Lane as Lane
 use Rattle.ba_lanes.specs.contracts.work.Work as Work
+use Rattle.ba_input.proofs.input.Input.TheSendSync as input
 use Rattle.ba_lanes.proofs.journal.Entry.TheSendSync as entry
-use Rattle.ba_lanes.proofs.journal.Input.TheSendSync as input
 
 passes_send : IsSend Passes.the_row
 passes_send = declared_send Passes.the_type (pass_send, (cache_pass_send, tt))
@@ -34,8 +33,8 @@ lane_send = declared_send Lane.the_type (
 )
 
 -- a lane's work may go to a thread of its own
-pub work_send : (l : _) (R : _) → IsSync R → IsSend (Work.the_row l R)
-work_send l R shared = declared_send (Work.the_type l R) (
+pub work_send : (l : _) (R S : _) → IsSync R → IsSync S → IsSend (Work.the_row l R S)
+work_send l R S shared settle_shared = declared_send (Work.the_type l R S) (
   search sendable,
   (
     search (sendable, heap.the_send),
@@ -44,8 +43,11 @@ work_send l R shared = declared_send (Work.the_type l R) (
       (
         search (sendable, service_sync),
         (
-          lane_send,
-          tt,
+          search sendable,
+          (
+            lane_send,
+            tt,
+          ),
         ),
       ),
     ),

@@ -1,9 +1,11 @@
 -- A legal journal has the headline.
-use Rattle.std.proofs.Common.{◌≡◌, ◌∙◌, refl, sym, ap, subst, ℕ, suc, zero, ◌+◌, ◌<◌, get_or, ◌⊎◌, inl, inr, List, [], ◌∷◌, ◌++◌, Some, length, map, append_assoc, append-nil, arith}
+use Rattle.std.proofs.Common.{◌≡◌, ◌∙◌, refl, sym, ap, subst, ℕ, suc, zero, ◌+◌, ◌<◌, get_or, ◌⊎◌, inl, inr, List, [], ◌∷◌, ◌++◌, Some, length, map, append_assoc, append-nil, arith, Option, None}
 use Rattle.std.proofs.Math.Logic.{∥∥₁_map}
 use Rattle.std.proofs.lemmas.List.Elements.{Contains-append_left, Contains-append_right, Contains-push_cases}
 use Rattle.std.specs.List.{flat_map}
 use Rattle.std.specs.Prelude.{Contains, slice_get}
+use Rattle.ba_input.specs.Inputs.{effort_of}
+use Rattle.ba_input.specs.declared.input.Input.{Input}
 use Rattle.ba_model.specs.declared.query.Query.{Query}
 use Rattle.ba_model.specs.declared.value.Value.{Value}
 use Rattle.ba_script.specs.declared.entry.ScriptEntry.{ScriptEntry}
@@ -12,7 +14,7 @@ use Rattle.ba_session.specs.Asking.{Replies}
 use Rattle.ba_session.specs.Passing.{ShelfCalls}
 use Rattle.ba_session.specs.declared.reply.By.{By}
 use Rattle.ba_session.specs.declared.reply.Reply.{Reply}
-use Rattle.ba_session.specs.declared.reply.Reply.TheVariants.{Answer, Blocked}
+use Rattle.ba_session.specs.declared.reply.Reply.TheVariants.{Answer, Blocked, Unread, NoMemory}
 use Rattle.ba_session.specs.declared.reply.Why.{Why}
 use Rattle.ba_session.specs.declared.request.Request.{Request}
 use Rattle.ba_tables.specs.TableSet.{TableSet}
@@ -21,10 +23,11 @@ use Rattle.ba_lanes.proofs.LineLemmas.{in_its_lane}
 use Rattle.ba_lanes.proofs.MergeLemmas.{lane_low}
 use Rattle.ba_lanes.proofs.ServeLemmas.{same_length}
 use Rattle.ba_lanes.specs.Headline.{Headline, IsAnswerEverywhere, IsAskerOf, IsBlockedWithReason}
-use Rattle.ba_lanes.specs.Legal.{AreServed, IsAsk, IsServed, Legal, LineDone, answer_of, begins, done_in, lane_of, pin_of, trace_in, trace_of, versions_made}
+use Rattle.ba_lanes.specs.Legal.{AreServed, IsAsk, IsServed, Legal, LineDone, answer_of, asked, begins, done_in, lane_of, pin_of, trace_in, trace_of, versions_made}
 use Rattle.ba_lanes.specs.declared.journal.Entry.{Entry}
-use Rattle.ba_lanes.specs.declared.journal.Entry.TheVariants.{Begin, Unbegun, Ask, End, Publish, NoMemory}
-use Rattle.ba_lanes.specs.declared.journal.Input.{Input}
+use Rattle.ba_lanes.specs.declared.journal.Entry.TheVariants.{Begin, Ask, End, Publish, Memory}
+use Rattle.ba_lanes.specs.declared.journal.LineKind.{LineKind}
+use Rattle.ba_lanes.specs.declared.journal.LineKind.TheVariants as kinds
 use Rattle.ba_lanes.specs.declared.journal.Journal.{Journal}
 use Rattle.ba_versions.specs.Calls as versions
 use Rattle.ba_versions.specs.Reads.{calls_of, versions_of}
@@ -136,7 +139,7 @@ record HasReply (input : Input) (journal : Journal) (request version : ℕ) (ear
   text : List ℕ
   line : slice_get input.script.entries (length earlier) ≡ Some (said.Ask request name text)
   calls : ShelfCalls
-  holds : Replies input.policy asker input.budget text calls reply
+  holds : Replies input.policy asker (effort_of input) text calls reply
 
 answer_holds : (input : Input) (journal : Journal) (request version : ℕ) (earlier : List Entry) (query : Query) (rows : List (List Value)) (by : By) → HasReply input journal request version earlier (Answer query rows by) →
     IsAnswerEverywhere input journal request version earlier query rows
@@ -148,14 +151,23 @@ block_holds : (input : Input) (journal : Journal) (request version : ℕ) (earli
 block_holds input journal request version earlier query why h = let it = h.holds in
     record { question = record { name = h.name; text = h.text; line = h.line; reads = it.reads }; asker = h.asker; asks = h.asks; uncovered = it.denied.uncovered; reason = it.denied.reason }
 
-request_is : (request version r v : ℕ) (reply it : Reply) → Ask request version reply ≡ Ask r v it → r ≡ request
-request_is request version r v reply it e = cc
+-- an entry of a question is of this request, over this version, and has this reply
+record IsSameAsk (request version r v : ℕ) (reply it : Reply) : Type 0 where
+  request_is : r ≡ request
+  version_is : v ≡ version
+  reply_is : it ≡ reply
 
-version_is : (request version r v : ℕ) (reply it : Reply) → Ask request version reply ≡ Ask r v it → v ≡ version
-version_is request version r v reply it e = cc
+same_ask : (request version r v : ℕ) (reply it : Reply) → Ask request version reply ≡ Ask r v it → IsSameAsk request version r v reply it
+same_ask request version r v reply it e = record { request_is = cc; version_is = cc; reply_is = cc }
 
-reply_is : (request version r v : ℕ) (reply it : Reply) → Ask request version reply ≡ Ask r v it → it ≡ reply
-reply_is request version r v reply it e = cc
+no_memory : (request version : ℕ) (reply : Reply) (kind : LineKind) (r v : Option ℕ) → Ask request version reply ≡ Memory kind r v → ⊥
+no_memory request version reply kind r v e = cc
+
+same_asked : (request version r v : ℕ) (reply it : Reply) → Ask request version reply ≡ asked r v it → IsSameAsk request version r v reply it
+same_asked request version r v reply (Answer query rows by) e = same_ask request version r v reply (Answer query rows by) e
+same_asked request version r v reply (Blocked query why) e = same_ask request version r v reply (Blocked query why) e
+same_asked request version r v reply (Unread fault) e = same_ask request version r v reply (Unread fault) e
+same_asked request version r v reply NoMemory e = absurd (no_memory request version reply kinds.Ask (Some r) (Some v) e)
 
 trace_same : (number : ℕ) (its : List LineDone) → trace_of number its ≡ trace_in number (map entry_in its)
 trace_same number [] = refl
@@ -183,10 +195,10 @@ module _ (input : Input) (journal : Journal) (legal : Legal input journal) (befo
       (told_by (there.0 + 1) log (pin_of version tables) (subst (λ z. Contains z (pin_of version tables)) (sym (legal.versions.calls.each there.0 there.1)) of_its_lane)) in
       ∥∥₁_map legal.versions.legal (λ it. pinned_there input.tables it version tables made)
 
-  asked : (name text : List ℕ) → slice_get input.script.entries (length found.front) ≡ Some (said.Ask request name text) → IsAsk input found.front request text found.it → HasReply input journal request version before reply
-  asked name text at h =
-      let is : Ask request version reply ≡ Ask request h.asker.version h.reply = sym found.entry_is ∙ ap entry_in h.is in
-      let same = version_is request version request h.asker.version reply h.reply is in
+  questioned : (name text : List ℕ) → slice_get input.script.entries (length found.front) ≡ Some (said.Ask request name text) → IsAsk input found.front request text found.it → HasReply input journal request version before reply
+  questioned name text at h =
+      let is = same_asked request version request h.asker.version reply h.reply (sym found.entry_is ∙ ap entry_in h.is) in
+      let same = is.version_is in
       record {
         asker = h.asker;
         asks = record {
@@ -199,22 +211,21 @@ module _ (input : Input) (journal : Journal) (legal : Legal input journal) (befo
         text = text;
         line = subst (λ z. slice_get input.script.entries z ≡ Some (said.Ask request name text)) (sym (map_length entry_in found.front) ∙ ap length found.front_is) at;
         calls = h.calls;
-        holds = subst (Replies input.policy h.asker input.budget text h.calls) (reply_is request version request h.asker.version reply h.reply is) h.replies;
+        holds = subst (Replies input.policy h.asker (effort_of input) text h.calls) is.reply_is h.replies;
       }
 
   -- the entry is a question's, so the line is
   at_line : (line : ScriptEntry) → slice_get input.script.entries (length found.front) ≡ Some line → IsServed input found.front line found.it → HasReply input journal request version before reply
   at_line (said.Begin r name context) at (inl h) = let e : Ask request version reply ≡ Begin r h.version = sym found.entry_is ∙ ap entry_in h.is in absurd (cc)
-  at_line (said.Begin r name context) at (inr h) = let e : Ask request version reply ≡ Unbegun r = sym found.entry_is ∙ h.0 in absurd (cc)
+  at_line (said.Begin r name context) at (inr h) = absurd (no_memory request version reply kinds.Begin (Some r) None (sym found.entry_is ∙ h.entry_is))
   at_line (said.Ask r name text) at (inl h) =
-      let is : Ask request version reply ≡ Ask r h.asker.version h.reply = sym found.entry_is ∙ ap entry_in h.is in
-      let same = request_is request version r h.asker.version reply h.reply is in
-      asked name text (subst (λ z. slice_get input.script.entries (length found.front) ≡ Some (said.Ask z name text)) same at) (subst (λ z. IsAsk input found.front z text found.it) same h)
-  at_line (said.Ask r name text) at (inr h) = let e : Ask request version reply ≡ NoMemory = sym found.entry_is ∙ ap entry_in h.1 in absurd (cc)
-  at_line (said.End r name) at (inl h) = let e : Ask request version reply ≡ End r = sym found.entry_is ∙ ap entry_in h.is in absurd (cc)
-  at_line (said.End r name) at (inr h) = let e : Ask request version reply ≡ NoMemory = sym found.entry_is ∙ ap entry_in h.1 in absurd (cc)
+      let same = (same_asked request version r h.asker.version reply h.reply (sym found.entry_is ∙ ap entry_in h.is)).request_is in
+      questioned name text (subst (λ z. slice_get input.script.entries (length found.front) ≡ Some (said.Ask z name text)) same at) (subst (λ z. IsAsk input found.front z text found.it) same h)
+  at_line (said.Ask r name text) at (inr h) = absurd (no_memory request version reply kinds.Ask (Some r) None (sym found.entry_is ∙ ap entry_in h.unserved))
+  at_line (said.End r name) at (inl h) = let e : Ask request version reply ≡ End r h.version = sym found.entry_is ∙ ap entry_in h.is in absurd (cc)
+  at_line (said.End r name) at (inr h) = absurd (no_memory request version reply kinds.End (Some r) None (sym found.entry_is ∙ ap entry_in h.unserved))
   at_line (said.Publish number set) at (inl h) = let e : Ask request version reply ≡ Publish h.version = sym found.entry_is ∙ ap entry_in h.is in absurd (cc)
-  at_line (said.Publish number set) at (inr h) = let e : Ask request version reply ≡ NoMemory = sym found.entry_is ∙ ap entry_in h in absurd (cc)
+  at_line (said.Publish number set) at (inr h) = absurd (no_memory request version reply kinds.Publish None None (sym found.entry_is ∙ ap entry_in h))
 
   has_reply : HasReply input journal request version before reply
   has_reply =

@@ -1,5 +1,5 @@
 -- The histories that the passes of all lanes leave, once they were split off and joined.
-use Rattle.std.proofs.Common.{◌≡◌, ◌∙◌, refl, sym, ap, subst, ℕ, suc, ◌+◌, ◌*◌, ◌<◌, ◌≤◌, ◌^◌, List, [], ◌++◌, length, map, add-one, arith}
+use Rattle.std.proofs.Common.{◌≡◌, ◌∙◌, ap, subst, ℕ, ◌+◌, ◌<◌, ◌≤◌, List, [], ◌++◌, add-one, arith}
 use Rattle.std.specs.Prelude.{count_by, slice_index_or}
 use Rattle.ba_cache.specs.Passes as cache
 use Rattle.ba_cache.specs.Passes.{ClosedShelf, known_on}
@@ -9,13 +9,12 @@ use Rattle.ba_session.specs.Passing.{AreClosed, AreJoined, AreOf, AreOpening, Ar
 use Rattle.ba_session.specs.declared.service.Closed.{Closed}
 use Rattle.ba_session.specs.declared.service.Passes.{Passes}
 use Rattle.ba_session.specs.declared.service.Service.{Service}
-use Rattle.ba_lanes.proofs.JoinLemmas.{joined_calls, joined_more, joined_none, joined_whole, of_lanes_same, split_first, split_more}
+use Rattle.ba_lanes.proofs.JoinLemmas.{joined_calls, joined_more, joined_none, joined_whole, of_lanes_same, sees_none, split_first, split_more}
 use Rattle.ba_lanes.proofs.LineLemmas.{counts_sum, total_front, total_twice}
-use Rattle.ba_lanes.specs.Lanes.{AreOfLanes, HasJoined, HasSplit, total}
-use Rattle.ba_lanes.specs.Legal.{HasShelf, HasShelves, HasVersions, IsInput, LineDone, done_in, lane_of, made_on, versions_made}
-use Rattle.ba_lanes.specs.Serving.{AreUnused, CanServe, HasDone, HasLeft, HasMade, HasServed, HaveJoined, HaveSplit, IsDone, IsShare, IsUnused, MakesAll, SumUp, calls_versions, is_ask, lines_in, shelf_calls, version_calls}
-use Rattle.ba_lanes.specs.declared.journal.Input.{Input}
-use Rattle.ba_turn.specs.Knowing.{SumsToAllowance, after_join, after_split, opening_known, split_known}
+use Rattle.ba_lanes.specs.Lanes.{AreOfLanes, HasSplit, total}
+use Rattle.ba_lanes.specs.Legal.{HasShelf, HasShelves, HasVersions, LineDone, done_in, lane_of, made_on, versions_made}
+use Rattle.ba_lanes.specs.Serving.{AreUnused, CanServe, HasLeft, HasMade, HaveJoined, HaveSplit, IsUnused, SumUp, calls_versions, is_ask, lines_in, shelf_calls, version_calls}
+use Rattle.ba_input.specs.declared.input.Input.{Input}
 use Rattle.ba_turn.specs.Passes.{known_by, start_of}
 use Rattle.ba_turn.specs.declared.known.Known.{Known}
 use Rattle.ba_versions.specs.Calls as versions
@@ -55,7 +54,7 @@ module _ (input : Input) (low : (line : ScriptEntry) → lane_of input.workers l
       let all = counts_sum (lane_of input.workers) is_ask input.workers input.script.entries low in
       omega (arith, front, twice, all)
 
-  can_be_split : {S E : Type 0} (v : Known S E) (a : ℕ) → HasSplit n v → a ≤ v.left → CanBeSplit a v
+  can_be_split : {S E : Type 0} (v : Known S E) (a : ℕ) → HasSplit [] n v → a ≤ v.left → CanBeSplit a v
   can_be_split v a h left = record { opening = h.number; splits = let s = h.splits_are in omega (arith, s, below, few); left = left }
 
   module _ (calls looks : ℕ) (calls_are : calls ≡ version_calls own_lines) (looks_are : looks ≡ shelf_calls own_lines) (old : Passes) (left : HasLeft input n old) where
@@ -78,8 +77,8 @@ module _ (input : Input) (low : (line : ScriptEntry) → lane_of input.workers l
     module _ (new own : Passes) (split : AreSplit calls looks old new own) where
       pub have_split_more : HaveSplit n old → HaveSplit (n + 1) new
       have_split_more h = record {
-        versions = split_more n calls (known_by old.versions) (known_by new.versions) h.versions split.versions;
-        shelves = λ i inside. split_more n looks (known_on old.cache i) (known_on new.cache i) (h.shelves i inside) (split.shelves.each i inside).known;
+        versions = split_more [] n calls (known_by old.versions) (known_by new.versions) h.versions split.versions;
+        shelves = λ i inside. split_more [] n looks (known_on old.cache i) (known_on new.cache i) (h.shelves i inside) (split.shelves.each i inside).known;
       }
 
       pub has_left_more : HasLeft input (n + 1) new
@@ -121,8 +120,8 @@ has_made k calls v w unused makes = record { number = makes.number ∙ unused.nu
 
 pub have_joined_none : (splits : ℕ) (done : ℕ → List LineDone) (p : Passes) → HaveSplit splits p → HaveJoined splits 0 done p
 have_joined_none splits done p h = record {
-  versions = joined_none (λ k. versions_made (done k)) splits (known_by p.versions) h.versions;
-  shelves = λ i low. joined_none (λ k. made_on i (done k)) splits (known_on p.cache i) (h.shelves i low);
+  versions = joined_none [] (λ k. versions_made (done k)) splits (known_by p.versions) h.versions;
+  shelves = λ i low. joined_none [] (λ k. made_on i (done k)) splits (known_on p.cache i) (h.shelves i low);
 }
 
 pub are_opening : (splits joined : ℕ) (done : ℕ → List LineDone) (p : Passes) → HaveJoined splits joined done p → AreOpening p
@@ -131,10 +130,12 @@ are_opening splits joined done p h = record { versions = h.versions.number; shel
 module _ (splits k : ℕ) (done : ℕ → List LineDone) (old other new : Passes) (joined : AreJoined old other new) where
   pub have_joined_more : HaveJoined splits k done old → HasMade k (versions_made (done k)) (known_by other.versions) → ((i : ℕ) → i < 8 → HasMade k (made_on i (done k)) (known_on other.cache i)) → HaveJoined splits (k + 1) done new
   have_joined_more h versions shelves = record {
-    versions = joined_more (λ j. versions_made (done j)) splits k (known_by old.versions) (known_by other.versions) (known_by new.versions) h.versions versions.number versions.made joined.versions;
+    versions =
+        joined_more [] (λ j. versions_made (done j)) splits k (known_by old.versions) (known_by other.versions) (known_by new.versions) h.versions versions.number versions.made (sees_none (known_by other.versions))
+        joined.versions;
     shelves = λ i low.
-        joined_more (λ j. made_on i (done j)) splits k (known_on old.cache i) (known_on other.cache i) (known_on new.cache i) (h.shelves i low) (shelves i low).number (shelves i low).made
-        (joined.shelves.each i low).known;
+        joined_more [] (λ j. made_on i (done j)) splits k (known_on old.cache i) (known_on other.cache i) (known_on new.cache i) (h.shelves i low) (shelves i low).number (shelves i low).made
+        (sees_none (known_on other.cache i)) (joined.shelves.each i low).known;
   }
 
   pub sum_up : SumUp new
@@ -145,25 +146,25 @@ module _ (splits k : ℕ) (done : ℕ → List LineDone) (old other new : Passes
 module _ (service : Service) (lanes : ℕ) (done : ℕ → List LineDone) (p : Passes) (h : HaveJoined lanes lanes done p) where
   pub are_whole : SumUp p → AreOf service p → AreWhole service p
   are_whole sums of = record {
-    versions = joined_whole (λ k. versions_made (done k)) lanes (known_by p.versions) h.versions sums.versions ∙ of.versions.of.allowance;
-    shelves = record { each = λ i low. joined_whole (λ k. made_on i (done k)) lanes (known_on p.cache i) (h.shelves i low) (sums.shelves i low) };
+    versions = joined_whole [] (λ k. versions_made (done k)) lanes (known_by p.versions) h.versions sums.versions ∙ of.versions.of.allowance;
+    shelves = record { each = λ i low. joined_whole [] (λ k. made_on i (done k)) lanes (known_on p.cache i) (h.shelves i low) (sums.shelves i low) };
   }
 
   module _ (input : Input) (workers : lanes ≡ input.workers) (served : List LineDone) (done_are : (k : ℕ) → k < lanes → done k ≡ done_in input served k) (closed : Closed) (is : AreClosed service p closed)
       (opening : opening_of (start_of service.versions) ≡ input.tables) where
     pub has_versions : HasVersions input served closed
     has_versions = record {
-      calls = subst (λ n. AreOfLanes n (λ k. versions_made (done_in input served k)) (calls_of closed.versions) closed.numbers.items) workers
-          (of_lanes_same lanes (λ k. versions_made (done k)) (λ k. versions_made (done_in input served k)) (calls_of closed.versions) closed.numbers.items (λ k low. ap versions_made (done_are k low))
-          (joined_calls (λ k. versions_made (done k)) lanes (known_by p.versions) h.versions is.own is.joined is.whole (calls_of closed.versions) closed.numbers.items is.history is.numbers));
+      calls = subst (λ n. AreOfLanes [] n (λ k. versions_made (done_in input served k)) (calls_of closed.versions) closed.numbers.items) workers
+          (of_lanes_same [] lanes (λ k. versions_made (done k)) (λ k. versions_made (done_in input served k)) (calls_of closed.versions) closed.numbers.items (λ k low. ap versions_made (done_are k low))
+          (joined_calls [] (λ k. versions_made (done k)) lanes (known_by p.versions) h.versions is.own is.joined is.whole (calls_of closed.versions) closed.numbers.items is.history is.numbers));
       legal = subst (λ z. ∥ versions.Legal z (calls_of closed.versions) (versions_of closed.versions) ∥₁) (is.opening ∙ opening) is.legal;
     }
 
     has_shelf : (i : ℕ) (it : ClosedShelf) → i < 8 → cache.IsClosed (known_on p.cache i) it.0 it.1.items → HasShelf input served i it
     has_shelf i it low c = record {
-      calls = subst (λ n. AreOfLanes n (λ k. made_on i (done_in input served k)) (shelf.calls_of it.0) it.1.items) workers
-          (of_lanes_same lanes (λ k. made_on i (done k)) (λ k. made_on i (done_in input served k)) (shelf.calls_of it.0) it.1.items (λ k inside. ap (made_on i) (done_are k inside))
-          (joined_calls (λ k. made_on i (done k)) lanes (known_on p.cache i) (h.shelves i low) c.own c.joined c.whole (shelf.calls_of it.0) it.1.items c.history c.numbers_are));
+      calls = subst (λ n. AreOfLanes [] n (λ k. made_on i (done_in input served k)) (shelf.calls_of it.0) it.1.items) workers
+          (of_lanes_same [] lanes (λ k. made_on i (done k)) (λ k. made_on i (done_in input served k)) (shelf.calls_of it.0) it.1.items (λ k inside. ap (made_on i) (done_are k inside))
+          (joined_calls [] (λ k. made_on i (done k)) lanes (known_on p.cache i) (h.shelves i low) c.own c.joined c.whole (shelf.calls_of it.0) it.1.items c.history c.numbers_are));
       legal = c.legal;
     }
 

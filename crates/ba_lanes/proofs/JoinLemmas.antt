@@ -1,12 +1,12 @@
 -- The history that the passes of all lanes leave, once they were split off one pass and joined into it.
-use Rattle.std.proofs.Common.{◌≡◌, ◌≢◌, ◌∙◌, refl, sym, ap, subst, ℕ, suc, zero, ◌+◌, ◌<◌, ◌≤◌, ◌==◌, ◌⊎◌, inl, inr, Bool, true, false, List, [], ◌∷◌, length, map, filter, cond, get_or, arith}
+use Rattle.std.proofs.Common.{◌≡◌, ◌≢◌, ◌∙◌, refl, sym, ap, subst, ℕ, suc, zero, ◌+◌, ◌<◌, ◌≤◌, ◌==◌, ◌⊎◌, inl, inr, Bool, true, false, List, [], ◌∷◌, ◌++◌, length, map, filter, cond, get_or, arith}
 use Rattle.std.proofs.lemmas.Bool.{eqb-false, eqb-true}
 use Rattle.std.proofs.lemmas.List.Elements.{All-cons, All-head, All-nil, All-tail}
-use Rattle.std.specs.Prelude.{All, Contains}
-use Rattle.ba_lanes.specs.Lanes.{AreOfLanes, HasJoined, HasSplit}
-use Rattle.ba_lanes.proofs.LineLemmas.{same_true}
-use Rattle.ba_turn.specs.History.{HasCalls, calls_by, entry_of, number_of}
-use Rattle.ba_turn.specs.Knowing.{HasAllCalls, SumsToAllowance, after_join, after_split, numbers_of, opening_known}
+use Rattle.std.specs.Prelude.{All, Contains, nat_le}
+use Rattle.ba_lanes.specs.Lanes.{AreOfLanes, HasJoined, HasSplit, SeesFirst, by_opening}
+use Rattle.ba_lanes.proofs.LineLemmas.{differ_false, same_true}
+use Rattle.ba_turn.specs.History.{HasCalls, calls_by, entry_of, longer_of, number_of}
+use Rattle.ba_turn.specs.Knowing.{HasAllCalls, SumsToAllowance, after_join, after_split, opening_known}
 use Rattle.ba_turn.specs.declared.known.Known.{Known}
 
 -- ---- elements
@@ -94,17 +94,65 @@ same_or_less k j low = by (k == j) refl
 abbrev InLanes : ℕ → ℕ → Type 0
 InLanes lanes n = (0 < n) × (n ≤ lanes)
 
+-- ---- the calls of the opening pass in front
+
+module _ {E : Type 0} where
+  -- they are of no other pass
+  behind_opening : (n : ℕ) (opening : List E) (log : List (ℕ × E)) → 0 ≢ n → calls_by n (by_opening opening ++ log) ≡ calls_by n log
+  behind_opening n [] log differ = refl
+  behind_opening n (c ∷ cs) log differ =
+      let rest = filter (λ x. number_of x == n) (by_opening cs ++ log) in
+      ap (λ t. map entry_of (cond t ((0, c) ∷ rest) rest)) (differ_false 0 n differ) ∙ behind_opening n cs log differ
+
+  opening_own : (opening : List E) (log : List (ℕ × E)) → calls_by 0 (by_opening opening ++ log) ≡ opening ++ calls_by 0 log
+  opening_own [] log = refl
+  opening_own (c ∷ cs) log =
+      let rest = filter (λ x. number_of x == 0) (by_opening cs ++ log) in
+      ap (λ t. map entry_of (cond t ((0, c) ∷ rest) rest)) (same_true 0) ∙ ap (λ z. c ∷ z) (opening_own cs log)
+
+  none_added : (xs ys : List E) → xs ++ ys ≡ xs → ys ≡ []
+  none_added [] ys e = e
+  none_added (x ∷ xs) ys e = let rest : xs ++ ys ≡ xs = cc in none_added xs ys rest
+
+  -- so where they are all that the pass made, the others are none of its own
+  none_behind_opening : (opening : List E) (log : List (ℕ × E)) → calls_by 0 (by_opening opening ++ log) ≡ opening → calls_by 0 log ≡ []
+  none_behind_opening opening log own = none_added opening (calls_by 0 log) (sym (opening_own opening log) ∙ own)
+
+  all_behind : (P : ℕ → Type 0) (opening : List E) (log : List (ℕ × E)) → All P (map number_of (by_opening opening ++ log)) → All P (map number_of log)
+  all_behind P [] log all = all
+  all_behind P (c ∷ cs) log all = all_behind P cs log (All-tail P 0 (map number_of (by_opening cs ++ log)) all)
+
+  longer_first : (opening : List E) (a b x y : List (ℕ × E)) → a ≡ by_opening opening ++ x → b ≡ by_opening opening ++ y → (rest : List (ℕ × E)) × (longer_of a b ≡ by_opening opening ++ rest)
+  longer_first opening a b x y a_is b_is = by (nat_le (length a) (length b))
+    where
+      by : (t : Bool) → (rest : List (ℕ × _)) × (cond t b a ≡ by_opening opening ++ rest)
+      by true = (y, b_is)
+      by false = (x, a_is)
+
+-- where the opening pass made none, each pass has seen them
+pub sees_none : {S E : Type 0} (v : Known S E) → SeesFirst [] v
+sees_none v = record { others = v.seen; seen = refl }
+
+sees_joined : {S E : Type 0} (opening : List E) (v o : Known S E) → SeesFirst opening v → SeesFirst opening o → SeesFirst opening (after_join v o)
+sees_joined opening v o a b = let it = longer_first opening v.seen o.seen a.others b.others a.seen b.seen in record { others = it.0; seen = it.1 }
+
 -- ---- splits and joins
 
-pub split_first : {S E : Type 0} (start : S) (allowance : ℕ) (v : Known S E) → v ≡ opening_known start allowance → HasSplit 0 v
-split_first start allowance v is = subst (HasSplit 0) (sym is) (record { number = refl; splits_are = refl; made = refl; joined = refl })
+pub split_first : {S E : Type 0} (start : S) (allowance : ℕ) (v : Known S E) → v ≡ opening_known start allowance → HasSplit [] 0 v
+split_first start allowance v is = subst (HasSplit [] 0) (sym is) (record { number = refl; splits_are = refl; made = refl; joined = refl; first = record { others = []; seen = refl } })
 
-pub split_more : {S E : Type 0} (splits a : ℕ) (v w : Known S E) → HasSplit splits v → w ≡ after_split a v → HasSplit (splits + 1) w
-split_more splits a v w h is = subst (HasSplit (splits + 1)) (sym is) (record { number = h.number; splits_are = ap (λ n. n + 1) h.splits_are; made = h.made; joined = h.joined })
+pub split_more : {S E : Type 0} (opening : List E) (splits a : ℕ) (v w : Known S E) → HasSplit opening splits v → w ≡ after_split a v → HasSplit opening (splits + 1) w
+split_more opening splits a v w h is = subst (HasSplit opening (splits + 1)) (sym is) (record {
+  number = h.number;
+  splits_are = ap (λ n. n + 1) h.splits_are;
+  made = h.made;
+  joined = h.joined;
+  first = record { others = h.first.others; seen = h.first.seen };
+})
 
 -- the calls of each lane may be told otherwise
-pub of_lanes_same : {E : Type 0} (lanes : ℕ) (f g : ℕ → List E) (calls : List E) (numbers : List ℕ) → ((k : ℕ) → k < lanes → f k ≡ g k) → AreOfLanes lanes f calls numbers → AreOfLanes lanes g calls numbers
-of_lanes_same lanes f g calls numbers same h = record {
+pub of_lanes_same : {E : Type 0} (opening : List E) (lanes : ℕ) (f g : ℕ → List E) (calls : List E) (numbers : List ℕ) → ((k : ℕ) → k < lanes → f k ≡ g k) → AreOfLanes opening lanes f calls numbers → AreOfLanes opening lanes g calls numbers
+of_lanes_same opening lanes f g calls numbers same h = record {
   log = h.log;
   calls_are = h.calls_are;
   numbers_are = h.numbers_are;
@@ -112,8 +160,8 @@ of_lanes_same lanes f g calls numbers same h = record {
   no_others = h.no_others;
 }
 
-module _ {S E : Type 0} (calls_of_lane : ℕ → List E) where
-  pub joined_none : (splits : ℕ) (v : Known S E) → HasSplit splits v → HasJoined splits 0 calls_of_lane v
+module _ {S E : Type 0} (opening : List E) (calls_of_lane : ℕ → List E) where
+  pub joined_none : (splits : ℕ) (v : Known S E) → HasSplit opening splits v → HasJoined opening splits 0 calls_of_lane v
   joined_none splits v h = record {
     number = h.number;
     splits_are = h.splits_are;
@@ -121,16 +169,19 @@ module _ {S E : Type 0} (calls_of_lane : ℕ → List E) where
     many = ap length h.joined;
     each = λ k low. absurd (omega (arith, low));
     only = subst (All (λ c. (0 < c.0) × (c.0 ≤ 0))) (sym h.joined) (All-nil (λ c. (0 < c.0) × (c.0 ≤ 0)));
+    first = h.first;
   }
 
-  pub joined_more : (splits joined : ℕ) (v o w : Known S E) → HasJoined splits joined calls_of_lane v → o.number ≡ joined + 1 → o.made ≡ calls_of_lane joined → w ≡ after_join v o → HasJoined splits (joined + 1) calls_of_lane w
-  joined_more splits joined v o w h number made is = subst (HasJoined splits (joined + 1) calls_of_lane) (sym is) (record {
+  pub joined_more : (splits joined : ℕ) (v o w : Known S E) → HasJoined opening splits joined calls_of_lane v → o.number ≡ joined + 1 → o.made ≡ calls_of_lane joined → SeesFirst opening o → w ≡ after_join v o →
+      HasJoined opening splits (joined + 1) calls_of_lane w
+  joined_more splits joined v o w h number made first is = subst (HasJoined opening splits (joined + 1) calls_of_lane) (sym is) (record {
     number = h.number;
     splits_are = h.splits_are;
     made = h.made;
     many = let many = h.many in omega (arith, many);
     each = λ k low. each k low (same_or_less k joined low);
     only = All-cons (λ c. (0 < c.0) × (c.0 ≤ joined + 1)) (o.number, o.made) v.joined (omega (arith, number), omega (arith, number)) (more_allowed joined v.joined h.only);
+    first = sees_joined opening v o h.first first;
   })
     where
       each : (k : ℕ) → k < joined + 1 → (k ≡ joined) ⊎ (k < joined) → Contains ((o.number, o.made) ∷ v.joined) (k + 1, calls_of_lane k)
@@ -140,17 +191,22 @@ module _ {S E : Type 0} (calls_of_lane : ℕ → List E) where
       each k low (inr less) = contains_rest (k + 1, calls_of_lane k) (o.number, o.made) v.joined (h.each k less)
 
   -- all of the allowance was spent, or has come back
-  pub joined_whole : (lanes : ℕ) (v : Known S E) → HasJoined lanes lanes calls_of_lane v → SumsToAllowance v → v.left + length v.seen ≡ v.allowance
+  pub joined_whole : (lanes : ℕ) (v : Known S E) → HasJoined opening lanes lanes calls_of_lane v → SumsToAllowance v → v.left + length v.seen ≡ v.allowance
   joined_whole lanes v h sums = sums h.number (h.splits_are ∙ sym h.many)
 
-  pub joined_calls : (lanes : ℕ) (v : Known S E) → HasJoined lanes lanes calls_of_lane v → calls_by v.number v.seen ≡ v.made → HasCalls v.seen v.joined → HasAllCalls v → (calls : List E) (numbers : List ℕ) →
-      calls ≡ map entry_of v.seen → numbers ≡ map number_of v.seen → AreOfLanes lanes calls_of_lane calls numbers
+  pub joined_calls : (lanes : ℕ) (v : Known S E) → HasJoined opening lanes lanes calls_of_lane v → calls_by v.number v.seen ≡ v.made → HasCalls v.seen v.joined → HasAllCalls v → (calls : List E) (numbers : List ℕ) →
+      calls ≡ map entry_of v.seen → numbers ≡ map number_of v.seen → AreOfLanes opening lanes calls_of_lane calls numbers
   joined_calls lanes v h own has whole calls numbers calls_are numbers_are = record {
-    log = v.seen;
-    calls_are = calls_are;
-    numbers_are = numbers_are;
-    each = λ k low. calls_beside v.seen v.joined (k + 1, calls_of_lane k) has (h.each k low);
-    no_others = subst (All (InLanes lanes)) (sym numbers_are)
-        (others (InLanes lanes) (map number_of v.joined) (numbers_all (InLanes lanes) v.joined h.only) v.seen (ap (λ n. calls_by n v.seen) (sym h.number) ∙ own ∙ h.made)
-        (subst (λ n. All (Contains (n ∷ map number_of v.joined)) (map number_of v.seen)) h.number (whole.each h.number (h.splits_are ∙ sym h.many))));
+    log = h.first.others;
+    calls_are = calls_are ∙ ap (map entry_of) h.first.seen;
+    numbers_are = numbers_are ∙ ap (map number_of) h.first.seen;
+    each = λ k low.
+        sym (behind_opening (k + 1) opening h.first.others (λ e. omega (arith, e))) ∙ ap (calls_by (k + 1)) (sym h.first.seen)
+        ∙ calls_beside v.seen v.joined (k + 1, calls_of_lane k) has (h.each k low);
+    no_others =
+        others (InLanes lanes) (map number_of v.joined) (numbers_all (InLanes lanes) v.joined h.only) h.first.others
+        (none_behind_opening opening h.first.others (sym (ap (calls_by 0) h.first.seen) ∙ ap (λ n. calls_by n v.seen) (sym h.number) ∙ own ∙ h.made))
+        (all_behind (Contains (0 ∷ map number_of v.joined)) opening h.first.others
+        (subst (λ z. All (Contains (0 ∷ map number_of v.joined)) (map number_of z)) h.first.seen
+        (subst (λ n. All (Contains (n ∷ map number_of v.joined)) (map number_of v.seen)) h.number (whole.each h.number (h.splits_are ∙ sym h.many)))));
   }

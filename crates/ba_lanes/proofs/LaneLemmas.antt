@@ -1,5 +1,5 @@
 -- What the lines of a lane make of its passes.
-use Rattle.std.proofs.Common.{◌≡◌, ◌∙◌, refl, sym, ap, subst, get_or, ℕ, suc, zero, ◌+◌, ◌*◌, ◌<◌, ◌≤◌, ◌==◌, inl, inr, Bool, true, false, List, [], ◌∷◌, ◌++◌, length, take, cond, append_assoc, append-nil, zero-add, arith, Option, Some, None}
+use Rattle.std.proofs.Common.{◌≡◌, ◌∙◌, refl, sym, ap, subst, get_or, ℕ, suc, zero, ◌+◌, ◌*◌, ◌<◌, ◌≤◌, ◌==◌, ◌⊎◌, inl, inr, Bool, true, false, List, [], ◌∷◌, ◌++◌, length, take, cond, append_assoc, append-nil, zero-add, arith, Option, Some, None}
 use Rattle.std.proofs.lemmas.List.{length-take, take_all, take_more}
 use Rattle.std.proofs.lemmas.List.Elements.{All-head, All-tail}
 use Rattle.std.proofs.lemmas.List.Sums.{sum_by-append}
@@ -7,6 +7,9 @@ use Rattle.std.proofs.lemmas.Option.{slice_get_read}
 use Rattle.std.specs.List.{flat_map}
 use Rattle.std.specs.Prelude.{All, count_by, slice_get, slice_set, vec_capacity}
 use Rattle.ba_cache.specs.Passes.{known_on}
+use Rattle.ba_input.specs.Inputs.{IsInput, effort_of}
+use Rattle.ba_input.specs.Published.{IsSetOf}
+use Rattle.ba_input.specs.declared.input.Input.{Input}
 use Rattle.ba_cache.specs.declared.call.ShelfCall.{ShelfCall}
 use Rattle.ba_kernel.specs.Tests as kernel
 use Rattle.ba_model.specs.declared.policy.Context.{Context}
@@ -16,7 +19,7 @@ use Rattle.ba_model.specs.declared.schema.Schema.{Schema}
 use Rattle.ba_script.specs.declared.entry.ScriptEntry.{ScriptEntry}
 use Rattle.ba_script.specs.declared.entry.ScriptEntry.TheVariants as said
 use Rattle.ba_session.proofs.PassLemmas.{more_calls, no_calls, one_call}
-use Rattle.ba_session.specs.Asking.{IsRequestOf, IsBegun, IsChecked, IsGround, IsKept, IsLook, Replies, answer_in}
+use Rattle.ba_session.specs.Asking.{HasLooked, IsRequestOf, IsBegun, IsChecked, IsGround, IsKept, IsLook, Replies, question}
 use Rattle.ba_session.specs.Passing.{AreOf, HasRoom, LeavesShelves, Makes, MakesCalls, ShelfCalls, calls_on}
 use Rattle.ba_session.specs.declared.reply.By.{By}
 use Rattle.ba_session.specs.declared.reply.By.TheVariants.{Cover, Template, Proof}
@@ -27,14 +30,14 @@ use Rattle.ba_session.specs.declared.reply.Reply.TheVariants as replied
 use Rattle.ba_session.specs.declared.request.Request.{Request}
 use Rattle.ba_session.specs.declared.service.Passes.{Passes}
 use Rattle.ba_session.specs.declared.service.Service.{Service}
+use Rattle.ba_settle.specs.Settling.{Effort}
 use Rattle.ba_tables.specs.TableSet.{TableSet}
-use Rattle.ba_lanes.specs.Legal.{IsInput, LineCalls, LineDone, begins, no_calls as nothing_made, on_shelves, on_versions, pin_of}
-use Rattle.ba_lanes.specs.Published.{IsSetOf}
-use Rattle.ba_lanes.specs.Serving.{CanServe, Does, EndsOrLost, CanTake, MakesAll, Takes, calls_versions, is_ask}
+use Rattle.ba_lanes.specs.Legal.{LineCalls, LineDone, asked, begins, made_on, no_calls as nothing_made, on_shelves, on_versions, pin_of, shelf_calls_of, versions_made}
+use Rattle.ba_lanes.specs.Serving.{CanServe, Does, EndsOrLost, CanTake, MakesAll, Takes, calls_versions, is_ask, told}
 use Rattle.ba_lanes.specs.declared.lane.Lane.{Lane}
 use Rattle.ba_lanes.specs.declared.journal.Entry.{Entry}
-use Rattle.ba_lanes.specs.declared.journal.Entry.TheVariants.{Begin, Unbegun, Ask, Publish, NoMemory}
-use Rattle.ba_lanes.specs.declared.journal.Input.{Input}
+use Rattle.ba_lanes.specs.declared.journal.Entry.TheVariants.{Begin, Publish, Memory}
+use Rattle.ba_lanes.specs.declared.journal.LineKind.TheVariants as kinds
 use Rattle.ba_turn.specs.Passes.{MakesCall, known_by}
 use Rattle.ba_versions.specs.Reads.{published as publication}
 use Rattle.ba_versions.specs.declared.call.VersionCall.{VersionCall}
@@ -55,17 +58,13 @@ makes_start p = record {
 pub makes_on : (its more : List LineDone) (old between new : Passes) → MakesAll its old between → MakesAll more between new → MakesAll (its ++ more) old new
 makes_on its more old between new a b = record {
   versions = subst (MakesCalls (known_by old.versions) (known_by new.versions)) (sym (flat_end (λ (it : LineDone). it.made.versions) its more))
-      (more_calls (known_by old.versions) (known_by between.versions) (known_by new.versions) (flat_map (λ (it : LineDone). it.made.versions) its) (flat_map (λ (it : LineDone). it.made.versions) more) a.versions b.versions);
+      (more_calls (known_by old.versions) (known_by between.versions) (known_by new.versions) (versions_made its) (versions_made more) a.versions b.versions);
   shelves = λ k low.
-      subst (MakesCalls (known_on old.cache k) (known_on new.cache k)) (sym (flat_end (λ (it : LineDone). calls_on k it.made.shelves) its more))
-      (more_calls (known_on old.cache k) (known_on between.cache k) (known_on new.cache k) (flat_map (λ (it : LineDone). calls_on k it.made.shelves) its) (flat_map (λ (it : LineDone). calls_on k it.made.shelves) more) (a.shelves k low) (b.shelves k low));
+      subst (MakesCalls (known_on old.cache k) (known_on new.cache k)) (sym (flat_end (λ (it : LineDone). shelf_calls_of k it) its more))
+      (more_calls (known_on old.cache k) (known_on between.cache k) (known_on new.cache k) (made_on k its) (made_on k more) (a.shelves k low) (b.shelves k low));
 }
 
 -- ---- how many calls a question makes
-
-cond_same : {A : Type 0} (t : Bool) (x : A) → cond t x x ≡ x
-cond_same true x = refl
-cond_same false x = refl
 
 at_most : (t : Bool) (xs : List ShelfCall) (n : ℕ) → length xs ≤ n → length (cond t xs []) ≤ n
 at_most true xs n h = h
@@ -77,57 +76,75 @@ kept_most proof keeping.Wide calls h = let e = ap length h.1 in omega (arith, e)
 kept_most proof keeping.NoMemory calls (inl e) = let n = ap length e in omega (arith, n)
 kept_most proof keeping.NoMemory calls (inr e) = let n = ap length e in omega (arith, n)
 
-ground_most : (policy : Policy) (asker : Request) (budget : ℕ) (query : Query) (ground : By) (made : ShelfCalls) → IsGround policy asker budget query ground made → length made.calls ≤ 2
-ground_most policy asker budget query (Cover cover) made h = let e = ap length h.1 in omega (arith, e)
-ground_most policy asker budget query (Template shard id it) made h = let e = ap (λ (z : ShelfCalls). length z.calls) h.made_is in omega (arith, e)
-ground_most policy asker budget query (Proof steps it) made h =
+ground_most : (policy : Policy) (asker : Request) (effort : Effort) (query : Query) (ground : By) (made : ShelfCalls) → IsGround policy asker effort query ground made → length made.calls ≤ 2
+ground_most policy asker effort query (Cover cover) made h = let e = ap length h.1 in omega (arith, e)
+ground_most policy asker effort query (Template shard id template it) made h = let e = ap (λ (z : ShelfCalls). length z.calls) h.made_is in omega (arith, e)
+ground_most policy asker effort query (Proof steps it) made h =
     let e = ap (λ (z : ShelfCalls). length z.calls) h.made_is in
-    let most = kept_most _ it h.rest h.kept_is in
+    let most = kept_most (record { problem = question policy asker query; steps = steps }) it h.rest h.kept_is in
     omega (arith, e, most)
 
 look_most : (query : Query) (calls : List ShelfCall) → IsLook query calls → length calls ≤ 1
 look_most query calls (inl e) = let n = ap length e in omega (arith, n)
 look_most query calls (inr h) = let n = ap length h.1 in omega (arith, n)
 
-pub replies_most : (policy : Policy) (asker : Request) (budget : ℕ) (text : List ℕ) (made : ShelfCalls) (reply : Reply) → Replies policy asker budget text made reply → length made.calls ≤ 2
-replies_most policy asker budget text made (replied.Answer query rows ground) h = ground_most policy asker budget query ground made h.ground
-replies_most policy asker budget text made (replied.Blocked query why) h = let e = ap (λ (z : ShelfCalls). length z.calls) h.denied.made_is in omega (arith, e)
-replies_most policy asker budget text made (replied.Unread fault) h = let e = ap length h.1 in omega (arith, e)
-replies_most policy asker budget text made replied.NoMemory (inl e) = let n = ap length e in omega (arith, n)
-replies_most policy asker budget text made replied.NoMemory (inr h) =
-    let looked = h.2 in
+looked_most : (policy : Policy) (asker : Request) (query : Query) (made : ShelfCalls) → HasLooked policy asker query made → length made.calls ≤ 2
+looked_most policy asker query made looked =
     let e = ap (λ (z : ShelfCalls). length z.calls) looked.made_is in
-    let most = look_most h.0 looked.calls looked.look in
+    let most = look_most query looked.calls looked.look in
     omega (arith, e, most)
+
+pub replies_most : (policy : Policy) (asker : Request) (effort : Effort) (text : List ℕ) (made : ShelfCalls) (reply : Reply) → Replies policy asker effort text made reply → length made.calls ≤ 2
+replies_most policy asker effort text made (replied.Answer query rows ground) h = ground_most policy asker effort query ground made h.ground
+replies_most policy asker effort text made (replied.Blocked query why) h = let e = ap (λ (z : ShelfCalls). length z.calls) h.denied.made_is in omega (arith, e)
+replies_most policy asker effort text made (replied.Unread fault) h = let e = ap length h.1 in omega (arith, e)
+replies_most policy asker effort text made replied.NoMemory (inl e) = let n = ap length e in omega (arith, n)
+replies_most policy asker effort text made replied.NoMemory (inr h) = looked_most policy asker h.0 made h.2
 
 -- what a line takes of the allowances
 
 versions_most : (input : Input) (requests : List (Option Request)) (line : ScriptEntry) (it : LineDone) (later : List (Option Request)) → Does input requests line it later → length it.made.versions ≤ cond (calls_versions line) 1 0
 unfolding calls_versions
 versions_most input requests (said.Begin r name c) it later (inl h) = let e = ap (λ (z : LineDone). length z.made.versions) h.is in omega (arith, e)
-versions_most input requests (said.Begin r name c) it later (inr ((entry, inl e), same)) = let n = ap (λ (z : LineCalls). length z.versions) e in omega (arith, n)
-versions_most input requests (said.Begin r name c) it later (inr ((entry, inr e), same)) = let n = ap (λ (z : LineCalls). length z.versions) e in omega (arith, n)
+versions_most input requests (said.Begin r name c) it later (inr (h, same)) = by h.made_is
+  where
+    by : (it.made ≡ nothing_made) ⊎ (it.made ≡ on_versions (Refused ∷ [])) → length it.made.versions ≤ 1
+    by (inl e) = let n = ap (λ (z : LineCalls). length z.versions) e in omega (arith, n)
+    by (inr e) = let n = ap (λ (z : LineCalls). length z.versions) e in omega (arith, n)
 versions_most input requests (said.Ask r name text) it later (inl h) = let e = ap (λ (z : LineDone). length z.made.versions) h.is in omega (arith, e)
-versions_most input requests (said.Ask r name text) it later (inr h) = let e = ap (λ (z : LineDone). length z.made.versions) h.0.1 in omega (arith, e)
+versions_most input requests (said.Ask r name text) it later (inr (h, same)) = let e = ap (λ (z : LineDone). length z.made.versions) h.unserved in omega (arith, e)
 versions_most input requests (said.End r name) it later (inl h, same) = let e = ap (λ (z : LineDone). length z.made.versions) h.is in omega (arith, e)
-versions_most input requests (said.End r name) it later (inr h, same) = let e = ap (λ (z : LineDone). length z.made.versions) h.1 in omega (arith, e)
+versions_most input requests (said.End r name) it later (inr h, same) = let e = ap (λ (z : LineDone). length z.made.versions) h.unserved in omega (arith, e)
 versions_most input requests (said.Publish n set) it later (inl h, same) = let e = ap (λ (z : LineDone). length z.made.versions) h.is in omega (arith, e)
 versions_most input requests (said.Publish n set) it later (inr h, same) = let e = ap (λ (z : LineDone). length z.made.versions) h in omega (arith, e)
 
-shelves_most : (input : Input) (requests : List (Option Request)) (line : ScriptEntry) (it : LineDone) (later : List (Option Request)) → Does input requests line it later → length it.made.shelves.calls ≤ 2 * cond (is_ask line) 1 0
+-- the calls of a line that judges no query, and of one that judges one
+pub none_on : (k : ℕ) (it : LineDone) (made : List VersionCall) → it.made ≡ on_versions made → shelf_calls_of k it ≡ []
+none_on k it made e = ap (λ (z : LineCalls). flat_map (λ calls. calls_on k calls) z.shelves) e
+
+pub some_on : (k : ℕ) (it : LineDone) (calls : ShelfCalls) → it.made ≡ on_shelves calls → shelf_calls_of k it ≡ calls_on k calls
+some_on k it calls e = ap (λ (z : LineCalls). flat_map (λ calls. calls_on k calls) z.shelves) e ∙ append-nil (calls_on k calls)
+
+none_most : (k n : ℕ) (it : LineDone) (made : List VersionCall) → it.made ≡ on_versions made → length (shelf_calls_of k it) ≤ n
+none_most k n it made e = let none = ap length (none_on k it made e) in omega (arith, none)
+
+shelves_most : (input : Input) (requests : List (Option Request)) (line : ScriptEntry) (it : LineDone) (later : List (Option Request)) (k : ℕ) → Does input requests line it later → length (shelf_calls_of k it) ≤ 2 * cond (is_ask line) 1 0
 unfolding is_ask
-shelves_most input requests (said.Begin r name c) it later (inl h) = let e = ap (λ (z : LineDone). length z.made.shelves.calls) h.is in omega (arith, e)
-shelves_most input requests (said.Begin r name c) it later (inr ((entry, inl e), same)) = let n = ap (λ (z : LineCalls). length z.shelves.calls) e in omega (arith, n)
-shelves_most input requests (said.Begin r name c) it later (inr ((entry, inr e), same)) = let n = ap (λ (z : LineCalls). length z.shelves.calls) e in omega (arith, n)
-shelves_most input requests (said.Ask r name text) it later (inl h) =
-    let e = ap (λ (z : LineDone). length z.made.shelves.calls) h.is in
-    let most = replies_most input.policy h.asker input.budget text h.calls h.reply h.replies in
+shelves_most input requests (said.Begin r name c) it later k (inl h) = none_most k 0 it (pin_of h.asker.version h.asker.tables ∷ []) (ap (λ (z : LineDone). z.made) h.is)
+shelves_most input requests (said.Begin r name c) it later k (inr (h, same)) = by h.made_is
+  where
+    by : (it.made ≡ nothing_made) ⊎ (it.made ≡ on_versions (Refused ∷ [])) → length (shelf_calls_of k it) ≤ 0
+    by (inl e) = none_most k 0 it [] e
+    by (inr e) = none_most k 0 it (Refused ∷ []) e
+shelves_most input requests (said.Ask r name text) it later k (inl h) =
+    let e = ap length (some_on k it h.calls (ap (λ (z : LineDone). z.made) h.is)) in
+    let most = at_most (h.calls.shard == k) h.calls.calls 2 (replies_most input.policy h.asker (effort_of input) text h.calls h.reply h.replies) in
     omega (arith, e, most)
-shelves_most input requests (said.Ask r name text) it later (inr h) = let e = ap (λ (z : LineDone). length z.made.shelves.calls) h.0.1 in omega (arith, e)
-shelves_most input requests (said.End r name) it later (inl h, same) = let e = ap (λ (z : LineDone). length z.made.shelves.calls) h.is in omega (arith, e)
-shelves_most input requests (said.End r name) it later (inr h, same) = let e = ap (λ (z : LineDone). length z.made.shelves.calls) h.1 in omega (arith, e)
-shelves_most input requests (said.Publish n set) it later (inl h, same) = let e = ap (λ (z : LineDone). length z.made.shelves.calls) h.is in omega (arith, e)
-shelves_most input requests (said.Publish n set) it later (inr h, same) = let e = ap (λ (z : LineDone). length z.made.shelves.calls) h in omega (arith, e)
+shelves_most input requests (said.Ask r name text) it later k (inr (h, same)) = none_most k 2 it [] (ap (λ (z : LineDone). z.made) h.unserved)
+shelves_most input requests (said.End r name) it later k (inl h, same) = none_most k 0 it [] (ap (λ (z : LineDone). z.made) h.is)
+shelves_most input requests (said.End r name) it later k (inr h, same) = none_most k 0 it [] (ap (λ (z : LineDone). z.made) h.unserved)
+shelves_most input requests (said.Publish n set) it later k (inl h, same) = none_most k 0 it (publication h.tables h.version ∷ []) (ap (λ (z : LineDone). z.made) h.is)
+shelves_most input requests (said.Publish n set) it later k (inr h, same) = none_most k 0 it [] (ap (λ (z : LineDone). z.made) h)
 
 -- ---- allowances
 
@@ -153,8 +170,8 @@ can_rest input requests line lines it later old new does can makes = record {
     each = λ k low.
         let s = can.shelves.each k low in
         let left = (makes.shelves k low).left in
-        let most = at_most (it.made.shelves.shard == k) it.made.shelves.calls (2 * cond (is_ask line) 1 0) (shelves_most input requests line it later does) in
-        let same = ap length (append-nil (calls_on k it.made.shelves)) in
+        let most = shelves_most input requests line it later k does in
+        let same = ap length (append-nil (shelf_calls_of k it)) in
         omega (arith, s, left, most, same, count_cons is_ask line lines);
   };
 }
@@ -211,34 +228,31 @@ set_of schema (x ∷ xs) (suc n) tables all e = set_of schema xs n tables (All-t
 -- the calls of one line
 pub makes_pin : {old new : Passes} (call : VersionCall) (it : LineDone) → it.made ≡ on_versions (call ∷ []) → MakesCall (known_by old.versions) (known_by new.versions) call → LeavesShelves old new → MakesAll (it ∷ []) old new
 makes_pin {old = old} {new = new} call it is made leaves =
-    let versions : flat_map (λ (z : LineDone). z.made.versions) (it ∷ []) ≡ call ∷ [] = append-nil it.made.versions ∙ ap (λ (z : LineCalls). z.versions) is in
+    let versions : versions_made (it ∷ []) ≡ call ∷ [] = append-nil it.made.versions ∙ ap (λ (z : LineCalls). z.versions) is in
     record {
       versions = subst (MakesCalls (known_by old.versions) (known_by new.versions)) (sym versions) (one_call (known_by old.versions) (known_by new.versions) call made);
       shelves = λ k low.
-          let shelves : flat_map (λ (z : LineDone). calls_on k z.made.shelves) (it ∷ []) ≡ [] =
-          append-nil (calls_on k it.made.shelves) ∙ ap (λ (z : LineCalls). calls_on k z.shelves) is ∙ cond_same (0 == k) [] in
+          let shelves : made_on k (it ∷ []) ≡ [] = append-nil (shelf_calls_of k it) ∙ none_on k it (call ∷ []) is in
           subst (MakesCalls (known_on old.cache k) (known_on new.cache k)) (sym shelves) (no_calls (known_on old.cache k) (known_on new.cache k) (leaves.each k low));
     }
 
 pub makes_nothing : (p : Passes) (it : LineDone) → it.made ≡ on_versions [] → MakesAll (it ∷ []) p p
 makes_nothing p it is =
-    let versions : flat_map (λ (z : LineDone). z.made.versions) (it ∷ []) ≡ [] = append-nil it.made.versions ∙ ap (λ (z : LineCalls). z.versions) is in
+    let versions : versions_made (it ∷ []) ≡ [] = append-nil it.made.versions ∙ ap (λ (z : LineCalls). z.versions) is in
     record {
       versions = subst (MakesCalls (known_by p.versions) (known_by p.versions)) (sym versions) (no_calls (known_by p.versions) (known_by p.versions) refl);
       shelves = λ k low.
-          let shelves : flat_map (λ (z : LineDone). calls_on k z.made.shelves) (it ∷ []) ≡ [] =
-          append-nil (calls_on k it.made.shelves) ∙ ap (λ (z : LineCalls). calls_on k z.shelves) is ∙ cond_same (0 == k) [] in
+          let shelves : made_on k (it ∷ []) ≡ [] = append-nil (shelf_calls_of k it) ∙ none_on k it [] is in
           subst (MakesCalls (known_on p.cache k) (known_on p.cache k)) (sym shelves) (no_calls (known_on p.cache k) (known_on p.cache k) refl);
     }
 
 pub makes_looks : (old new : Passes) (calls : ShelfCalls) (it : LineDone) → it.made ≡ on_shelves calls → Makes calls old new → MakesAll (it ∷ []) old new
 makes_looks old new calls it is made =
-    let versions : flat_map (λ (z : LineDone). z.made.versions) (it ∷ []) ≡ [] = append-nil it.made.versions ∙ ap (λ (z : LineCalls). z.versions) is in
+    let versions : versions_made (it ∷ []) ≡ [] = append-nil it.made.versions ∙ ap (λ (z : LineCalls). z.versions) is in
     record {
       versions = subst (MakesCalls (known_by old.versions) (known_by new.versions)) (sym versions) (no_calls (known_by old.versions) (known_by new.versions) made.versions);
       shelves = λ k low.
-          let shelves : flat_map (λ (z : LineDone). calls_on k z.made.shelves) (it ∷ []) ≡ calls_on k calls =
-          append-nil (calls_on k it.made.shelves) ∙ ap (λ (z : LineCalls). calls_on k z.shelves) is in
+          let shelves : made_on k (it ∷ []) ≡ calls_on k calls = append-nil (shelf_calls_of k it) ∙ some_on k it calls is in
           subst (MakesCalls (known_on old.cache k) (known_on new.cache k)) (sym shelves) (made.shelves k low);
     }
 
@@ -257,31 +271,32 @@ module _ (input : Input) (service : Service) (old new : Lane) (of : AreOf servic
   }
 
   pub takes_refused : (r : ℕ) (name : List ℕ) (c : Context) → new.requests.items ≡ old.requests.items ++ None ∷ [] → MakesCall (known_by old.passes.versions) (known_by new.passes.versions) Refused → LeavesShelves old.passes new.passes →
-      Takes input service (said.Begin r name c) (Unbegun r) old new
-  takes_refused r name c later made leaves = record {
+      (entry : Entry) → entry ≡ Memory kinds.Begin (Some r) None → Takes input service (said.Begin r name c) entry old new
+  takes_refused r name c later made leaves entry is = record {
     made = on_versions (Refused ∷ []);
-    does = inr ((refl, inr refl), later);
-    makes = makes_pin {old = old.passes} {new = new.passes} Refused (record { entry = Unbegun r; made = on_versions (Refused ∷ []) }) refl made leaves;
+    does = inr (record { entry_is = is; made_is = inr refl }, later);
+    makes = makes_pin {old = old.passes} {new = new.passes} Refused (record { entry = entry; made = on_versions (Refused ∷ []) }) refl made leaves;
     of = of;
     entries = entries;
     room = room;
   }
 
-  pub takes_unmade : (r : ℕ) (name : List ℕ) (c : Context) → new.requests.items ≡ old.requests.items ++ None ∷ [] → new.passes ≡ old.passes → Takes input service (said.Begin r name c) (Unbegun r) old new
-  takes_unmade r name c later same = record {
+  pub takes_unmade : (r : ℕ) (name : List ℕ) (c : Context) → new.requests.items ≡ old.requests.items ++ None ∷ [] → new.passes ≡ old.passes → (entry : Entry) → entry ≡ Memory kinds.Begin (Some r) None →
+      Takes input service (said.Begin r name c) entry old new
+  takes_unmade r name c later same entry is = record {
     made = nothing_made;
-    does = inr ((refl, inl refl), later);
-    makes = subst (MakesAll (record { entry = Unbegun r; made = nothing_made } ∷ []) old.passes) (sym same) (makes_nothing old.passes (record { entry = Unbegun r; made = nothing_made }) refl);
+    does = inr (record { entry_is = is; made_is = inl refl }, later);
+    makes = subst (MakesAll (record { entry = entry; made = nothing_made } ∷ []) old.passes) (sym same) (makes_nothing old.passes (record { entry = entry; made = nothing_made }) refl);
     of = of;
     entries = entries;
     room = room;
   }
 
-  pub takes_asked : (r : ℕ) (name text : List ℕ) (asker next : Request) (reply : Reply) → slice_get old.requests.items r ≡ Some (Some asker) → IsRequestOf input.policy next → next ≡ record asker { trace = asker.trace ++ answer_in reply } →
-      new.requests.items ≡ slice_set old.requests.items r (Some next) → ((calls : ShelfCalls) × Replies input.policy asker input.budget text calls reply × Makes calls old.passes new.passes) →
-      Takes input service (said.Ask r name text) (Ask r next.version reply) old new
-  takes_asked r name text asker next reply at may next_is later (calls, replies, makes) =
-      subst (λ z. Takes input service (said.Ask r name text) (Ask r z reply) old new) (sym (ap (λ (z : Request). z.version) next_is)) (record {
+  pub takes_asked : (r : ℕ) (name text : List ℕ) (asker next : Request) (reply : Reply) → slice_get old.requests.items r ≡ Some (Some asker) → IsRequestOf input.policy next → next ≡ told asker reply →
+      new.requests.items ≡ slice_set old.requests.items r (Some next) → ((calls : ShelfCalls) × Replies input.policy asker (effort_of input) text calls reply × Makes calls old.passes new.passes) →
+      (entry : Entry) → entry ≡ asked r next.version reply → Takes input service (said.Ask r name text) entry old new
+  takes_asked r name text asker next reply at may next_is later (calls, replies, makes) entry is =
+      subst (λ z. Takes input service (said.Ask r name text) z old new) (sym (is ∙ ap (λ (z : Request). asked r z.version reply) next_is)) (record {
         made = on_shelves calls;
         does = inl (record {
           asker = asker;
@@ -293,17 +308,18 @@ module _ (input : Input) (service : Service) (old new : Lane) (of : AreOf servic
           may = subst (IsRequestOf input.policy) next_is may;
           later_is = later ∙ ap (λ z. slice_set old.requests.items r (Some z)) next_is;
         });
-        makes = makes_looks old.passes new.passes calls (record { entry = Ask r asker.version reply; made = on_shelves calls }) refl makes;
+        makes = makes_looks old.passes new.passes calls (record { entry = asked r asker.version reply; made = on_shelves calls }) refl makes;
         of = of;
         entries = entries;
         room = room;
       })
 
-  pub takes_lost : (r : ℕ) (name text : List ℕ) → slice_get old.requests.items r ≡ Some None → new.requests.items ≡ old.requests.items → new.passes ≡ old.passes → Takes input service (said.Ask r name text) NoMemory old new
-  takes_lost r name text at later same = record {
+  pub takes_lost : (r : ℕ) (name text : List ℕ) → slice_get old.requests.items r ≡ Some None → new.requests.items ≡ old.requests.items → new.passes ≡ old.passes → (entry : Entry) → entry ≡ Memory kinds.Ask (Some r) None →
+      Takes input service (said.Ask r name text) entry old new
+  takes_lost r name text at later same entry is = record {
     made = nothing_made;
-    does = inr ((at, refl), later);
-    makes = subst (MakesAll (record { entry = NoMemory; made = nothing_made } ∷ []) old.passes) (sym same) (makes_nothing old.passes (record { entry = NoMemory; made = nothing_made }) refl);
+    does = inr (record { there = at; unserved = (λ i. record { entry = is i; made = nothing_made }) }, later);
+    makes = subst (MakesAll (record { entry = entry; made = nothing_made } ∷ []) old.passes) (sym same) (makes_nothing old.passes (record { entry = entry; made = nothing_made }) refl);
     of = of;
     entries = entries;
     room = room;
@@ -331,15 +347,17 @@ module _ (input : Input) (service : Service) (old new : Lane) (of : AreOf servic
     room = room;
   }
 
-  pub takes_unpublished : (n : ℕ) (set : List ℕ) → new.requests.items ≡ old.requests.items → new.passes ≡ old.passes → Takes input service (said.Publish n set) NoMemory old new
-  takes_unpublished n set later same = record {
-    made = nothing_made;
-    does = (inr refl, later);
-    makes = subst (MakesAll (record { entry = NoMemory; made = nothing_made } ∷ []) old.passes) (sym same) (makes_nothing old.passes (record { entry = NoMemory; made = nothing_made }) refl);
-    of = of;
-    entries = entries;
-    room = room;
-  }
+  pub takes_unpublished : (n : ℕ) (set : List ℕ) → new.requests.items ≡ old.requests.items → new.passes ≡ old.passes → Takes input service (said.Publish n set) (Memory kinds.Publish None None) old new
+  takes_unpublished n set later same =
+      let entry : Entry = Memory kinds.Publish None None in
+      record {
+        made = nothing_made;
+        does = (inr refl, later);
+        makes = subst (MakesAll (record { entry = entry; made = nothing_made } ∷ []) old.passes) (sym same) (makes_nothing old.passes (record { entry = entry; made = nothing_made }) refl);
+        of = of;
+        entries = entries;
+        room = room;
+      }
 
 -- ---- counting
 

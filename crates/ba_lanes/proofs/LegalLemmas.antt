@@ -1,15 +1,16 @@
 -- What all lanes did is a legal journal.
 use Rattle.std.proofs.Common.{◌≡◌, ◌∙◌, refl, sym, subst, List, ℕ}
+use Rattle.ba_input.specs.Inputs.{IsInput}
+use Rattle.ba_input.specs.declared.input.Input.{Input}
 use Rattle.ba_session.specs.Passing.{AreClosed, AreOf, AreWhole}
 use Rattle.ba_session.specs.declared.service.Closed.{Closed}
 use Rattle.ba_session.specs.declared.service.Passes.{Passes}
 use Rattle.ba_session.specs.declared.service.Service.{Service}
 use Rattle.ba_lanes.proofs.HistoryLemmas.{are_whole, has_shelves, has_versions}
 use Rattle.ba_lanes.proofs.MergeLemmas.{all_entries, all_lines}
-use Rattle.ba_lanes.specs.Legal.{HasShelves, HasVersions, IsInput, Legal}
+use Rattle.ba_lanes.specs.Legal.{HasShelves, HasVersions, Legal}
 use Rattle.ba_lanes.specs.Working.{AreGathered, AreMerged}
 use Rattle.ba_lanes.specs.declared.journal.Entry.{Entry}
-use Rattle.ba_lanes.specs.declared.journal.Input.{Input}
 use Rattle.ba_lanes.specs.declared.journal.Journal.{Journal}
 use Rattle.ba_turn.specs.Passes.{start_of}
 use Rattle.ba_versions.specs.Reads.{opening_of}

@@ -1,21 +1,22 @@
 -- What each lane does with its lines is what becomes of all lines.
-use Rattle.std.proofs.Common.{◌≡◌, ◌≢◌, ◌∙◌, refl, sym, ap, ap₂, subst, ℕ, ◌+◌, ◌<◌, ◌%◌, ◌⊎◌, inl, inr, List, [], ◌∷◌, ◌++◌, length, map, arith}
+use Rattle.std.proofs.Common.{◌≡◌, ◌≢◌, ◌∙◌, refl, sym, ap, ap₂, subst, ℕ, ◌<◌, ◌%◌, ◌⊎◌, inl, inr, List, [], ◌∷◌, ◌++◌, map, Option, Some, None}
 use Rattle.std.proofs.lemmas.List.{length-map}
 use Rattle.std.proofs.lemmas.List.Elements.{Contains-append_left, Contains-push, Contains-push_cases}
 use Rattle.std.specs.Prelude.{Contains}
 use native.Mathlib.Nat.{mod-lt}
+use Rattle.ba_input.specs.declared.input.Input.{Input}
 use Rattle.ba_script.specs.declared.entry.ScriptEntry.{ScriptEntry}
 use Rattle.ba_script.specs.declared.entry.ScriptEntry.TheVariants as said
 use Rattle.ba_tables.specs.TableSet.{TableSet}
 use Rattle.ba_lanes.proofs.LineLemmas as lines
-use Rattle.ba_lanes.proofs.ServeLemmas.{BeginsNot, answers_other, ask_begins_not, end_begins_not, entry_same, memory_begins_not, other_begins_not, publish_begins_not, same_length, trace_more, unbegun_begins_not}
-use Rattle.ba_lanes.specs.Lanes.{of_lane}
-use Rattle.ba_lanes.specs.Legal.{AreServed, IsLost, IsServed, LineDone, answer_of, begins, done_in, lane_of, number_in, trace_of}
+use Rattle.ba_lanes.proofs.ServeLemmas.{BeginsNot, answers_other, asked_is_no_begin, begins_not, end_is_no_begin, entry_same, memory_is_no_begin, other_begins_not, publish_is_no_begin, same_length, trace_more}
+use Rattle.ba_lanes.specs.Legal.{AreServed, IsLost, IsServed, LineDone, answer_of, asked, begins, lane_of, number_in, trace_of}
 use Rattle.ba_lanes.specs.Serving.{lines_in}
 use Rattle.ba_lanes.specs.Working.{AreMerged}
 use Rattle.ba_lanes.specs.declared.journal.Entry.{Entry}
-use Rattle.ba_lanes.specs.declared.journal.Entry.TheVariants.{Begin, Unbegun, Ask, End, Publish, NoMemory}
-use Rattle.ba_lanes.specs.declared.journal.Input.{Input}
+use Rattle.ba_lanes.specs.declared.journal.Entry.TheVariants.{End, Publish, Memory}
+use Rattle.ba_lanes.specs.declared.journal.LineKind.{LineKind}
+use Rattle.ba_lanes.specs.declared.journal.LineKind.TheVariants as kinds
 
 -- each line has a lane
 pub lane_low : (input : Input) → 0 < input.workers → (line : ScriptEntry) → lane_of input.workers line < input.workers
@@ -25,23 +26,27 @@ lane_low input some line = mod-lt (number_in line) some
 
 quiet_other : (input : Input) (earlier : List LineDone) (line : ScriptEntry) (it : LineDone) (number : ℕ) → IsServed input earlier line it → number ≢ number_in line → answer_of number it.entry ≡ []
 quiet_other input earlier (said.Begin request name context) it number (inl h) differ = ap (answer_of number) (entry_same it (begins request h.version h.tables) h.is)
-quiet_other input earlier (said.Begin request name context) it number (inr h) differ = ap (answer_of number) h.0
+quiet_other input earlier (said.Begin request name context) it number (inr h) differ = ap (answer_of number) h.entry_is
 quiet_other input earlier (said.Ask request name text) it number (inl h) differ = ap (λ (z : LineDone). answer_of number z.entry) h.is ∙ answers_other request h.asker.version number h.reply differ
-quiet_other input earlier (said.Ask request name text) it number (inr h) differ = ap (λ (z : LineDone). answer_of number z.entry) h.1
+quiet_other input earlier (said.Ask request name text) it number (inr h) differ = ap (λ (z : LineDone). answer_of number z.entry) h.unserved
 quiet_other input earlier (said.End request name) it number (inl h) differ = ap (λ (z : LineDone). answer_of number z.entry) h.is
-quiet_other input earlier (said.End request name) it number (inr h) differ = ap (λ (z : LineDone). answer_of number z.entry) h.1
+quiet_other input earlier (said.End request name) it number (inr h) differ = ap (λ (z : LineDone). answer_of number z.entry) h.unserved
 quiet_other input earlier (said.Publish n set) it number (inl h) differ = ap (λ (z : LineDone). answer_of number z.entry) h.is
 quiet_other input earlier (said.Publish n set) it number (inr h) differ = ap (λ (z : LineDone). answer_of number z.entry) h
 
+of_memory : (it : LineDone) (kind : LineKind) (request version : Option ℕ) (number : ℕ) → it.entry ≡ Memory kind request version → BeginsNot it number
+of_memory it kind request version number is = begins_not it (Memory kind request version) number is (memory_is_no_begin kind request version)
+
 begins_no_other : (input : Input) (earlier : List LineDone) (line : ScriptEntry) (it : LineDone) (number : ℕ) → IsServed input earlier line it → number ≢ number_in line → BeginsNot it number
 begins_no_other input earlier (said.Begin request name context) it number (inl h) differ = λ version tables same. other_begins_not request h.version h.tables number differ version tables (sym h.is ∙ same)
-begins_no_other input earlier (said.Begin request name context) it number (inr h) differ = unbegun_begins_not it request number h.0
-begins_no_other input earlier (said.Ask request name text) it number (inl h) differ = ask_begins_not it request h.asker.version h.reply number (ap (λ (z : LineDone). z.entry) h.is)
-begins_no_other input earlier (said.Ask request name text) it number (inr h) differ = memory_begins_not it number (ap (λ (z : LineDone). z.entry) h.1)
-begins_no_other input earlier (said.End request name) it number (inl h) differ = end_begins_not it request number (ap (λ (z : LineDone). z.entry) h.is)
-begins_no_other input earlier (said.End request name) it number (inr h) differ = memory_begins_not it number (ap (λ (z : LineDone). z.entry) h.1)
-begins_no_other input earlier (said.Publish n set) it number (inl h) differ = publish_begins_not it h.version number (ap (λ (z : LineDone). z.entry) h.is)
-begins_no_other input earlier (said.Publish n set) it number (inr h) differ = memory_begins_not it number (ap (λ (z : LineDone). z.entry) h)
+begins_no_other input earlier (said.Begin request name context) it number (inr h) differ = of_memory it kinds.Begin (Some request) None number h.entry_is
+begins_no_other input earlier (said.Ask request name text) it number (inl h) differ =
+    begins_not it (asked request h.asker.version h.reply) number (ap (λ (z : LineDone). z.entry) h.is) (asked_is_no_begin request h.asker.version h.reply)
+begins_no_other input earlier (said.Ask request name text) it number (inr h) differ = of_memory it kinds.Ask (Some request) None number (ap (λ (z : LineDone). z.entry) h.unserved)
+begins_no_other input earlier (said.End request name) it number (inl h) differ = begins_not it (End request h.version) number (ap (λ (z : LineDone). z.entry) h.is) (end_is_no_begin request h.version)
+begins_no_other input earlier (said.End request name) it number (inr h) differ = of_memory it kinds.End (Some request) None number (ap (λ (z : LineDone). z.entry) h.unserved)
+begins_no_other input earlier (said.Publish n set) it number (inl h) differ = begins_not it (Publish h.version) number (ap (λ (z : LineDone). z.entry) h.is) (publish_is_no_begin h.version)
+begins_no_other input earlier (said.Publish n set) it number (inr h) differ = of_memory it kinds.Publish None None number (ap (λ (z : LineDone). z.entry) h)
 
 -- ---- what a lane sees of all lines
 
@@ -69,9 +74,9 @@ module _ (input : Input) where
     replies = h.replies;
     is = h.is;
   })
-  lift own all (said.Ask request name text) it sees (inr h) = inr (sees.lost request refl h.0, h.1)
+  lift own all (said.Ask request name text) it sees (inr h) = inr (record { lost = sees.lost request refl h.lost; unserved = h.unserved })
   lift own all (said.End request name) it sees (inl h) = inl (record { version = h.version; tables = h.tables; begun = sees.begun request h.version h.tables refl h.begun; is = h.is })
-  lift own all (said.End request name) it sees (inr h) = inr (sees.lost request refl h.0, h.1)
+  lift own all (said.End request name) it sees (inr h) = inr (record { lost = sees.lost request refl h.lost; unserved = h.unserved })
   lift own all (said.Publish n set) it sees h = h
 
   pub sees_own : (own all : List LineDone) (line : ScriptEntry) (it : LineDone) → Sees input (lane_of input.workers line) own all → IsServed input own line it →

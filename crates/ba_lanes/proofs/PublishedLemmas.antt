@@ -1,12 +1,12 @@
 -- Which table set a publish line has.
 use Rattle.std.proofs.Common.{◌≡◌, ℕ, ◌+◌, ◌<◌, List, [], ◌∷◌, ◌++◌, length, cond, ap, arith, subst}
 use Rattle.std.proofs.lemmas.List.Sums.{sum_by-append, sum_by-cons}
+use Rattle.ba_input.specs.Inputs.{IsInput}
+use Rattle.ba_input.specs.declared.input.Input.{Input}
 use Rattle.ba_script.specs.Reading.{is_publish, published}
 use Rattle.ba_script.specs.Scripts.{PublishedFrom}
 use Rattle.ba_script.specs.declared.entry.ScriptEntry.{ScriptEntry}
 use Rattle.ba_script.specs.declared.entry.ScriptEntry.TheVariants as said
-use Rattle.ba_lanes.specs.Legal.{IsInput}
-use Rattle.ba_lanes.specs.declared.journal.Input.{Input}
 
 published_cons : (e : ScriptEntry) (es : List ScriptEntry) → published (e ∷ es) ≡ cond (is_publish e) 1 0 + published es
 published_cons e es = sum_by-cons (λ x. cond (is_publish x) 1 0) e es

@@ -5,6 +5,8 @@ use Rattle.std.proofs.lemmas.List.{length-map, map_push, take_all, take_more, ta
 use Rattle.std.proofs.lemmas.List.Elements.{Contains-append_left, Contains-push, Contains-push_cases, filter-append}
 use Rattle.std.specs.List.{flat_map}
 use Rattle.std.specs.Prelude.{Contains, Vec, slice_get, slice_set, vec_capacity}
+use Rattle.ba_input.specs.Inputs.{IsInput}
+use Rattle.ba_input.specs.declared.input.Input.{Input}
 use Rattle.ba_model.specs.declared.policy.Context.{Context}
 use Rattle.ba_script.specs.Scripts.{BeginFits, NumberedFrom}
 use Rattle.ba_script.specs.declared.entry.ScriptEntry.{ScriptEntry}
@@ -12,6 +14,7 @@ use Rattle.ba_script.specs.declared.entry.ScriptEntry.TheVariants as said
 use Rattle.ba_session.specs.Asking.{answer_in}
 use Rattle.ba_session.specs.Passing.{AreOf}
 use Rattle.ba_session.specs.declared.reply.Reply.{Reply}
+use Rattle.ba_session.specs.declared.reply.Reply.TheVariants as replied
 use Rattle.ba_session.specs.declared.request.Request.{Request}
 use Rattle.ba_session.specs.declared.service.Passes.{Passes}
 use Rattle.ba_session.specs.declared.service.Service.{Service}
@@ -19,12 +22,13 @@ use Rattle.ba_tables.specs.TableSet.{TableSet}
 use Rattle.ba_lanes.proofs.LaneLemmas.{can_first, can_rest, makes_on, makes_start}
 use Rattle.ba_lanes.proofs.LineLemmas.{other_line, own_line}
 use Rattle.ba_lanes.proofs.PublishedLemmas.{set_there}
-use Rattle.ba_lanes.specs.Legal.{AreServed, HasContext, IsInput, IsLost, IsServed, Legal, LineDone, answer_of, begins, context_in, contexts_of, lane_of, trace_of}
-use Rattle.ba_lanes.specs.Serving.{AreAskers, Asks, Begins, CanServe, CanTake, Comes, Does, Ends, FindsLost, HasServed, IsStanding, MakesAll, PassesOver, Stand, StandsIn, Takes, lines_in}
+use Rattle.ba_lanes.specs.Legal.{AreServed, HasContext, IsLost, IsServed, Legal, LineDone, answer_of, asked, begins, context_in, contexts_of, lane_of, trace_of}
+use Rattle.ba_lanes.specs.Serving.{AreAskers, Asks, Begins, CanServe, CanTake, Comes, Does, Ends, FindsLost, HasServed, IsStanding, MakesAll, PassesOver, Stand, StandsIn, Takes, lines_in, told}
 use Rattle.ba_lanes.specs.declared.lane.Lane.{Lane}
 use Rattle.ba_lanes.specs.declared.journal.Entry.{Entry}
-use Rattle.ba_lanes.specs.declared.journal.Entry.TheVariants.{Begin, Unbegun, Ask, End, Publish, NoMemory}
-use Rattle.ba_lanes.specs.declared.journal.Input.{Input}
+use Rattle.ba_lanes.specs.declared.journal.Entry.TheVariants.{Begin, Ask, End, Publish, Memory}
+use Rattle.ba_lanes.specs.declared.journal.LineKind.{LineKind}
+use Rattle.ba_lanes.specs.declared.journal.LineKind.TheVariants as kinds
 use Rattle.ba_lanes.specs.declared.journal.Journal.{Journal}
 
 -- ---- lists
@@ -104,19 +108,31 @@ trace_more number earlier it =
 trace_same : (number : ℕ) (earlier : List LineDone) (it : LineDone) → answer_of number it.entry ≡ [] → trace_of number (earlier ++ it ∷ []) ≡ trace_of number earlier
 trace_same number earlier it quiet = trace_more number earlier it ∙ ap (λ z. trace_of number earlier ++ z) quiet ∙ append-nil (trace_of number earlier)
 
-answers_own : (r version : ℕ) (reply : Reply) → answer_of r (Ask r version reply) ≡ answer_in reply
-answers_own r version reply = by (r == r) refl
+asks_own : (r version : ℕ) (reply : Reply) → answer_of r (Ask r version reply) ≡ answer_in reply
+asks_own r version reply = by (r == r) refl
   where
     by : (t : Bool) → (r == r) ≡ t → cond t (answer_in reply) [] ≡ answer_in reply
     by true e = refl
     by false e = absurd (eqb-false r r e refl)
 
-pub answers_other : (r version number : ℕ) (reply : Reply) → number ≢ r → answer_of number (Ask r version reply) ≡ []
-answers_other r version number reply differ = by (r == number) refl
+pub answers_own : (r version : ℕ) (reply : Reply) → answer_of r (asked r version reply) ≡ answer_in reply
+answers_own r version (replied.Answer query rows by) = asks_own r version (replied.Answer query rows by)
+answers_own r version (replied.Blocked query why) = asks_own r version (replied.Blocked query why)
+answers_own r version (replied.Unread fault) = asks_own r version (replied.Unread fault)
+answers_own r version replied.NoMemory = refl
+
+asks_other : (r version number : ℕ) (reply : Reply) → number ≢ r → answer_of number (Ask r version reply) ≡ []
+asks_other r version number reply differ = by (r == number) refl
   where
     by : (t : Bool) → (r == number) ≡ t → cond t (answer_in reply) [] ≡ []
     by true e = absurd (differ (sym (eqb-true r number e)))
     by false e = refl
+
+pub answers_other : (r version number : ℕ) (reply : Reply) → number ≢ r → answer_of number (asked r version reply) ≡ []
+answers_other r version number (replied.Answer query rows by) differ = asks_other r version number (replied.Answer query rows by) differ
+answers_other r version number (replied.Blocked query why) differ = asks_other r version number (replied.Blocked query why) differ
+answers_other r version number (replied.Unread fault) differ = asks_other r version number (replied.Unread fault) differ
+answers_other r version number replied.NoMemory differ = refl
 
 -- ---- lines that begin no request, and requests that are lost
 
@@ -134,21 +150,30 @@ lost_more earlier it number lost other version tables h = by (Contains-push_case
 pub entry_same : (a b : LineDone) → a ≡ b → a.entry ≡ b.entry
 entry_same a b e = ap (λ (z : LineDone). z.entry) e
 
-pub ask_begins_not : (it : LineDone) (r version : ℕ) (reply : Reply) (number : ℕ) → it.entry ≡ Ask r version reply → BeginsNot it number
-ask_begins_not it r version reply number is v tables same =
-    let e : Ask r version reply ≡ Begin number v = sym is ∙ entry_same it (begins number v tables) same in cc
+-- the entry begins no request
+abbrev pub IsNoBegin : Entry → Type 0
+IsNoBegin entry = (number version : ℕ) → entry ≢ Begin number version
 
-pub end_begins_not : (it : LineDone) (r number : ℕ) → it.entry ≡ End r → BeginsNot it number
-end_begins_not it r number is v tables same = let e : End r ≡ Begin number v = sym is ∙ entry_same it (begins number v tables) same in cc
+pub begins_not : (it : LineDone) (entry : Entry) (number : ℕ) → it.entry ≡ entry → IsNoBegin entry → BeginsNot it number
+begins_not it entry number is other version tables same = other number version (sym is ∙ entry_same it (begins number version tables) same)
 
-pub publish_begins_not : (it : LineDone) (n number : ℕ) → it.entry ≡ Publish n → BeginsNot it number
-publish_begins_not it n number is v tables same = let e : Publish n ≡ Begin number v = sym is ∙ entry_same it (begins number v tables) same in cc
+ask_is_no_begin : (r version : ℕ) (reply : Reply) → IsNoBegin (Ask r version reply)
+ask_is_no_begin r version reply number v e = cc
 
-pub memory_begins_not : (it : LineDone) (number : ℕ) → it.entry ≡ NoMemory → BeginsNot it number
-memory_begins_not it number is v tables same = let e : NoMemory ≡ Begin number v = sym is ∙ entry_same it (begins number v tables) same in cc
+pub memory_is_no_begin : (kind : LineKind) (request version : Option ℕ) → IsNoBegin (Memory kind request version)
+memory_is_no_begin kind request version number v e = cc
 
-pub unbegun_begins_not : (it : LineDone) (r number : ℕ) → it.entry ≡ Unbegun r → BeginsNot it number
-unbegun_begins_not it r number is v tables same = let e : Unbegun r ≡ Begin number v = sym is ∙ entry_same it (begins number v tables) same in cc
+pub asked_is_no_begin : (r version : ℕ) (reply : Reply) → IsNoBegin (asked r version reply)
+asked_is_no_begin r version (replied.Answer query rows by) = ask_is_no_begin r version (replied.Answer query rows by)
+asked_is_no_begin r version (replied.Blocked query why) = ask_is_no_begin r version (replied.Blocked query why)
+asked_is_no_begin r version (replied.Unread fault) = ask_is_no_begin r version (replied.Unread fault)
+asked_is_no_begin r version replied.NoMemory = memory_is_no_begin kinds.Ask (Some r) (Some version)
+
+pub end_is_no_begin : (r version : ℕ) → IsNoBegin (End r version)
+end_is_no_begin r version number v e = cc
+
+pub publish_is_no_begin : (n : ℕ) → IsNoBegin (Publish n)
+publish_is_no_begin n number v e = cc
 
 pub other_begins_not : (r version : ℕ) (tables : TableSet) (number : ℕ) → number ≢ r → BeginsNot (begins r version tables) number
 other_begins_not r version tables number differ v t same =
@@ -228,10 +253,14 @@ module _ (input : Input) (u n : ℕ) (earlier : List LineDone) (requests : List 
       })
       h.later_is)
 
-  lost_on : (request : ℕ) (it : LineDone) (later : List (Option Request)) → it.entry ≡ Unbegun request → later ≡ requests ++ None ∷ [] → Stand input u (n + 1) (earlier ++ it ∷ []) later
+  -- a line that found no memory
+  memory_line : (it : LineDone) (kind : LineKind) (request version : Option ℕ) → it.entry ≡ Memory kind request version → Stand input u n (earlier ++ it ∷ []) requests
+  memory_line it kind request version is = quiet_line it (λ number. ap (answer_of number) is) (λ number. begins_not it (Memory kind request version) number is (memory_is_no_begin kind request version))
+
+  lost_on : (request : ℕ) (it : LineDone) (later : List (Option Request)) → it.entry ≡ Memory kinds.Begin (Some request) None → later ≡ requests ++ None ∷ [] → Stand input u (n + 1) (earlier ++ it ∷ []) later
   lost_on request it later is more =
-      next_place it None later (λ number. ap (answer_of number) is) (λ number differ. unbegun_begins_not it request number is)
-      (λ mine. lost_more earlier it n (stand.unbegun n (omega arith)) (unbegun_begins_not it request n is)) more
+      let other : (number : ℕ) → BeginsNot it number = λ number. begins_not it (Memory kinds.Begin (Some request) None) number is (memory_is_no_begin kinds.Begin (Some request) None) in
+      next_place it None later (λ number. ap (answer_of number) is) (λ number differ. other number) (λ mine. lost_more earlier it n (stand.unbegun n (omega arith)) (other n)) more
 
   asked_on : (request : ℕ) (text : List ℕ) (it : LineDone) (later : List (Option Request)) → Asks input requests request text it later → Stand input u n (earlier ++ it ∷ []) later
   asked_on request text it later h = subst (Stand input u n (earlier ++ it ∷ [])) (sym h.later_is) (record {
@@ -242,13 +271,13 @@ module _ (input : Input) (u n : ℕ) (earlier : List LineDone) (requests : List 
   })
     where
       next : Request
-      next = record h.asker { trace = h.asker.trace ++ answer_in h.reply }
+      next = told h.asker h.reply
 
-      is : it.entry ≡ Ask request h.asker.version h.reply
+      is : it.entry ≡ asked request h.asker.version h.reply
       is = ap (λ (z : LineDone). z.entry) h.is
 
       not_begin : (number : ℕ) → BeginsNot it number
-      not_begin number = ask_begins_not it request h.asker.version h.reply number is
+      not_begin number = begins_not it (asked request h.asker.version h.reply) number is (asked_is_no_begin request h.asker.version h.reply)
 
       other : (number : ℕ) → n ≤ number → answer_of number it.entry ≡ []
       other number past =
@@ -271,31 +300,29 @@ module _ (input : Input) (u n : ℕ) (earlier : List LineDone) (requests : List 
       at number place (is_kept e k) =
           place_on input u earlier it number place (ap (answer_of number) is ∙ answers_other request h.asker.version number h.reply e) (not_begin number) (stand.places number place k)
 
+  same_many : (it : LineDone) (later : List (Option Request)) → Stand input u n (earlier ++ it ∷ []) later → Stand input u (n + 0) (earlier ++ it ∷ []) later
+  same_many it later h = subst (λ z. Stand input u z (earlier ++ it ∷ []) later) (omega arith) h
+
+  unchanged : (it : LineDone) (later : List (Option Request)) → later ≡ requests → Stand input u n (earlier ++ it ∷ []) requests → Stand input u (n + 0) (earlier ++ it ∷ []) later
+  unchanged it later same h = same_many it later (subst (Stand input u n (earlier ++ it ∷ [])) (sym same) h)
+
   -- the requests after a line
   pub stand_on : (line : ScriptEntry) (it : LineDone) (later : List (Option Request)) → Comes input n line → Does input requests line it later → Stand input u (n + length (context_in line)) (earlier ++ it ∷ []) later
   stand_on (said.Begin request name context) it later comes (inl h) = begun_on request context it later comes.0 comes.2 h
-  stand_on (said.Begin request name context) it later comes (inr h) = lost_on request it later h.0.0 h.1
-  stand_on (said.Ask request name text) it later comes (inl h) = subst (λ z. Stand input u z (earlier ++ it ∷ []) later) (omega arith) (asked_on request text it later h)
-  stand_on (said.Ask request name text) it later comes (inr h) = unserved it later (ap (λ (z : LineDone). z.entry) h.0.1) h.1
+  stand_on (said.Begin request name context) it later comes (inr (h, more)) = lost_on request it later h.entry_is more
+  stand_on (said.Ask request name text) it later comes (inl h) = same_many it later (asked_on request text it later h)
+  stand_on (said.Ask request name text) it later comes (inr (h, same)) = unchanged it later same (memory_line it kinds.Ask (Some request) None (ap (λ (z : LineDone). z.entry) h.unserved))
+  stand_on (said.End request name) it later comes (h, same) = unchanged it later same (by h)
     where
-      unserved : (it : LineDone) (later : List (Option Request)) → it.entry ≡ NoMemory → later ≡ requests → Stand input u (n + 0) (earlier ++ it ∷ []) later
-      unserved it later is same =
-          subst (λ z. Stand input u z (earlier ++ it ∷ []) later) (omega arith) (subst (Stand input u n (earlier ++ it ∷ [])) (sym same)
-          (quiet_line it (λ number. ap (answer_of number) is) (λ number. memory_begins_not it number is)))
-  stand_on (said.End request name) it later comes (h, same) =
-      subst (λ z. Stand input u z (earlier ++ it ∷ []) later) (omega arith) (subst (Stand input u n (earlier ++ it ∷ [])) (sym same) (by h))
-    where
-      by : Ends requests request it ⊎ FindsLost requests request it → Stand input u n (earlier ++ it ∷ []) requests
-      by (inl e) = let is = ap (λ (z : LineDone). z.entry) e.is in quiet_line it (λ number. ap (answer_of number) is) (λ number. end_begins_not it request number is)
-      by (inr e) = let is = ap (λ (z : LineDone). z.entry) e.1 in quiet_line it (λ number. ap (answer_of number) is) (λ number. memory_begins_not it number is)
+      by : Ends requests request it ⊎ FindsLost requests kinds.End request it → Stand input u n (earlier ++ it ∷ []) requests
+      by (inl e) =
+          let is = ap (λ (z : LineDone). z.entry) e.is in
+          quiet_line it (λ number. ap (answer_of number) is) (λ number. begins_not it (End request e.asker.version) number is (end_is_no_begin request e.asker.version))
+      by (inr e) = memory_line it kinds.End (Some request) None (ap (λ (z : LineDone). z.entry) e.unserved)
   stand_on (said.Publish number set) it later comes (inl h, same) =
       let is = ap (λ (z : LineDone). z.entry) h.is in
-      subst (λ z. Stand input u z (earlier ++ it ∷ []) later) (omega arith) (subst (Stand input u n (earlier ++ it ∷ [])) (sym same)
-      (quiet_line it (λ number. ap (answer_of number) is) (λ number. publish_begins_not it h.version number is)))
-  stand_on (said.Publish number set) it later comes (inr h, same) =
-      let is = ap (λ (z : LineDone). z.entry) h in
-      subst (λ z. Stand input u z (earlier ++ it ∷ []) later) (omega arith) (subst (Stand input u n (earlier ++ it ∷ [])) (sym same)
-      (quiet_line it (λ number. ap (answer_of number) is) (λ number. memory_begins_not it number is)))
+      unchanged it later same (quiet_line it (λ k. ap (answer_of k) is) (λ k. begins_not it (Publish h.version) k is (publish_is_no_begin h.version)))
+  stand_on (said.Publish number set) it later comes (inr h, same) = unchanged it later same (memory_line it kinds.Publish None None (ap (λ (z : LineDone). z.entry) h))
 
   -- the requests after a line of another lane
   pub skipped_on : (line : ScriptEntry) → Comes input n line → Stand input u (n + length (context_in line)) earlier (requests ++ map (λ context. None) (context_in line))
@@ -320,11 +347,11 @@ module _ (input : Input) (u n : ℕ) (earlier : List LineDone) (requests : List 
   served_is (said.Ask request name text) it later mine (inl h) =
       let standing : IsStanding input earlier request h.asker = stand.places request (Some h.asker) h.there in
       inl (record { asker = h.asker; asks = standing.asks; reply = h.reply; calls = h.calls; replies = h.replies; is = h.is })
-  served_is (said.Ask request name text) it later mine (inr h) = inr (stand.places request None h.0.0 mine, h.0.1)
+  served_is (said.Ask request name text) it later mine (inr (h, same)) = inr (record { lost = stand.places request None h.there mine; unserved = h.unserved })
   served_is (said.End request name) it later mine (inl h, same) =
       let standing : IsStanding input earlier request h.asker = stand.places request (Some h.asker) h.there in
       inl (record { version = h.asker.version; tables = h.asker.tables; begun = standing.asks.begun; is = h.is })
-  served_is (said.End request name) it later mine (inr h, same) = inr (stand.places request None h.0 mine, h.1)
+  served_is (said.End request name) it later mine (inr h, same) = inr (record { lost = stand.places request None h.there mine; unserved = h.unserved })
   served_is (said.Publish number set) it later mine (h, same) = h
 
   pub askers_of : AreAskers input requests

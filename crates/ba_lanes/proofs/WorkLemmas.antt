@@ -5,20 +5,18 @@ use Rattle.std.proofs.Math.Seq.{get_or-append_seam}
 use Rattle.std.proofs.lemmas.Bool.Decides.{nat_tests}
 use Rattle.std.proofs.lemmas.List.{take_all, take_more}
 use Rattle.std.specs.Prelude.{OnOk, nat_lt, slice_set}
+use Rattle.ba_input.specs.declared.input.Input.{Input}
 use Rattle.ba_session.specs.Passing.{AreJoined, AreOf}
 use Rattle.ba_session.specs.declared.service.Passes.{Passes}
 use Rattle.ba_session.specs.declared.service.Service.{Service}
-use Rattle.ba_script.specs.declared.entry.ScriptEntry.{ScriptEntry}
 use Rattle.ba_lanes.proofs.HistoryLemmas.{have_joined_more, have_joined_none, has_made, sum_up}
 use Rattle.ba_lanes.proofs.LineLemmas.{nothing_more, other_end, other_line, own_end, own_line, same_or_not}
-use Rattle.ba_lanes.proofs.ServeLemmas.{same_length}
 use Rattle.ba_lanes.specs.Lanes.{lines_of, of_lane}
-use Rattle.ba_lanes.specs.Legal.{AreServed, LineDone, lane_of}
-use Rattle.ba_lanes.specs.Serving.{AreUnused, HasDone, HasServed, HaveJoined, HaveSplit, IsDone, SumUp, lines_in}
-use Rattle.ba_lanes.specs.Working.{AreGathered, AreMerged, IsWork}
+use Rattle.ba_lanes.specs.Legal.{LineDone}
+use Rattle.ba_lanes.specs.Serving.{AreUnused, HasDone, HasServed, HaveJoined, HaveSplit, IsDone, SumUp}
+use Rattle.ba_lanes.specs.Working.{AreGathered}
 use Rattle.ba_lanes.specs.declared.lane.Lane.{Lane}
 use Rattle.ba_lanes.specs.declared.journal.Entry.{Entry}
-use Rattle.ba_lanes.specs.declared.journal.Input.{Input}
 use Rattle.ba_lanes.specs.declared.work.Work.{Work}
 
 -- ---- one lane
@@ -194,11 +192,11 @@ pub some_of : {X : Type 0} (xs : List X) → 0 < length xs → X
 some_of [] low = absurd (omega (arith, low))
 some_of (x ∷ xs) low = x
 
-module _ {R Q : Type 0} (items : Q → List Entry) (input : Input) (service : Service) (works : List (Work R)) where
+module _ {R S Q : Type 0} (items : Q → List Entry) (input : Input) (service : Service) (works : List (Work R S)) where
   -- what is known once the first i lanes are joined
   pub record Gathering (i : ℕ) (queues : List Q) (p : Passes) : Type 0 where
     pub done : ℕ → List LineDone
-    pub all : (k : ℕ) (d : Work R) → k < input.workers → HasDone input service k (done k) (get_or works k d).lane
+    pub all : (k : ℕ) (d : Work R S) → k < input.workers → HasDone input service k (done k) (get_or works k d).lane
     pub at_most : i ≤ input.workers
     pub many : length queues ≡ i
     pub entries : (k : ℕ) (d : Q) → k < i → items (get_or queues k d) ≡ map (λ it. it.entry) (done k)
@@ -206,7 +204,7 @@ module _ {R Q : Type 0} (items : Q → List Entry) (input : Input) (service : Se
     pub of : AreOf service p
     pub sums : 0 < i → SumUp p
 
-  pub gathering_none : (p : Passes) → 0 < input.workers → length works ≡ input.workers → AreOf service p → HaveSplit input.workers p → ((k : ℕ) (d : Work R) → k < input.workers → IsDone input service k (get_or works k d).lane) → Gathering 0 [] p
+  pub gathering_none : (p : Passes) → 0 < input.workers → length works ≡ input.workers → AreOf service p → HaveSplit input.workers p → ((k : ℕ) (d : Work R S) → k < input.workers → IsDone input service k (get_or works k d).lane) → Gathering 0 [] p
   gathering_none p some many of split dones = record {
     done = family.at;
     all = λ k d low. subst (λ z. HasDone input service k (family.at k) z.lane) (get_any works k one d (omega (arith, low, many))) (family.is k low);
@@ -218,13 +216,13 @@ module _ {R Q : Type 0} (items : Q → List Entry) (input : Input) (service : Se
     sums = λ low. absurd (omega (arith, low));
   }
     where
-      one : Work R
+      one : Work R S
       one = some_of works (omega (arith, some, many))
 
       family : Chosen input.workers (λ k served. HasDone input service k served (get_or works k one).lane) []
       family = chosen input.workers (λ k served. HasDone input service k served (get_or works k one).lane) [] (λ k low. let it = dones k one low in (it.served, it.has))
 
-  pub gathering_more : (i : ℕ) (queues more : List Q) (old new : Passes) (work : Work R) (queue : Q) → i < input.workers → ((d : Work R) → work ≡ get_or works i d) → Gathering i queues old →
+  pub gathering_more : (i : ℕ) (queues more : List Q) (old new : Passes) (work : Work R S) (queue : Q) → i < input.workers → ((d : Work R S) → work ≡ get_or works i d) → Gathering i queues old →
       AreJoined old work.lane.passes new → AreOf service new → items queue ≡ work.lane.entries.items → more ≡ queues ++ queue ∷ [] → Gathering (i + 1) more new
   gathering_more i queues more old new work queue low work_is h joined of queue_is more_is = record {
     done = h.done;

@@ -1,21 +1,15 @@
 -- What a run does with its input.
-use Rattle.std.specs.Prelude.{◌≡◌, ◌⊎◌, ◌≤◌, ◌<◌, ◌==◌, ◌%◌, ℕ, List, [], ◌∷◌, ◌++◌, Bool, true, false, if◌then◌else◌, All, Contains, Some, length, map, slice_get, slice_index_or}
-use Rattle.std.specs.List.{AllZip, flat_map, list_any}
+use Rattle.std.specs.Prelude.{◌≡◌, ◌⊎◌, ◌<◌, ◌==◌, ◌%◌, ℕ, List, [], ◌∷◌, Bool, true, false, if◌then◌else◌, Contains, Option, Some, None, length, map, slice_get, slice_index_or}
+use Rattle.std.specs.List.{flat_map, list_any}
 use Rattle.ba_cache.specs.Passes.{ClosedShelf}
 use Rattle.ba_cache.specs.Reads as shelf
 use Rattle.ba_cache.specs.Rows as shelves
 use Rattle.ba_cache.specs.declared.call.ShelfCall.{ShelfCall}
 use Rattle.ba_comply.specs.declared.trace.TraceEntry.{TraceEntry}
-use Rattle.ba_model.specs.RuleFaults.{RuleFits}
-use Rattle.ba_model.specs.Conform.{Conforms, RowFits}
-use Rattle.ba_model.specs.Fit.{PolicyFits}
-use Rattle.ba_model.specs.SchemaFaults.{AreTables}
-use Rattle.ba_model.specs.Limits.{most_budget, most_workers, shard_count}
+use Rattle.ba_input.specs.Inputs.{IsInput, effort_of}
+use Rattle.ba_input.specs.declared.input.Input.{Input}
+use Rattle.ba_model.specs.Limits.{shard_count}
 use Rattle.ba_model.specs.declared.policy.Context.{Context}
-use Rattle.ba_model.specs.declared.schema.Table.{Table}
-use Rattle.ba_model.specs.declared.value.Value.{Value}
-use Rattle.ba_script.specs.Reading.{published}
-use Rattle.ba_script.specs.Scripts.{IsScript}
 use Rattle.ba_script.specs.declared.entry.Script.{Script}
 use Rattle.ba_script.specs.declared.entry.ScriptEntry.{ScriptEntry}
 use Rattle.ba_script.specs.declared.entry.ScriptEntry.TheVariants as said
@@ -27,19 +21,15 @@ use Rattle.ba_session.specs.declared.request.Request.{Request}
 use Rattle.ba_session.specs.declared.service.Closed.{Closed}
 use Rattle.ba_tables.specs.TableSet.{TableSet}
 use Rattle.ba_lanes.specs.Lanes.{AreOfLanes, EachAfter, of_lane}
-use Rattle.ba_lanes.specs.Published.{IsSetOf}
 use Rattle.ba_lanes.specs.declared.journal.Entry.{Entry}
-use Rattle.ba_lanes.specs.declared.journal.Entry.TheVariants.{Begin, Unbegun, Ask, End, Publish, NoMemory}
-use Rattle.ba_lanes.specs.declared.journal.Input.{Input}
+use Rattle.ba_lanes.specs.declared.journal.Entry.TheVariants.{Begin, Ask, End, Publish, Memory}
 use Rattle.ba_lanes.specs.declared.journal.Journal.{Journal}
+use Rattle.ba_lanes.specs.declared.journal.LineKind.{LineKind}
+use Rattle.ba_lanes.specs.declared.journal.LineKind.TheVariants as kinds
 use Rattle.ba_versions.specs.Calls as versions
 use Rattle.ba_versions.specs.Reads.{calls_of, published as publication, versions_of}
 use Rattle.ba_versions.specs.declared.call.VersionCall.{VersionCall}
 use Rattle.ba_versions.specs.declared.call.VersionCall.TheVariants.{Pin, Refused}
-
--- the rows fit their tables, list by list
-abbrev pub RowsOfTables : List Table → List (List (List Value)) → Type 0
-RowsOfTables tables lists = AllZip (λ table list. All (RowFits table) list) tables lists
 
 -- ---- requests, which their begin lines number from 0
 
@@ -70,35 +60,19 @@ number_in (said.Publish number set) = number
 abbrev pub lane_of : ℕ → ScriptEntry → ℕ
 lane_of workers line = number_in line % workers
 
--- ---- the input
-
--- The input belongs together: the policy fits its schema, which is well formed, the tables are of that schema and conform to it, the
--- script is one for the policy's parameters, there is a table set for each of its publish lines, of that schema too, and the workers and the budget
--- are within their limits.
-pub record IsInput (input : Input) : Type 0 where
-  pub policy : PolicyFits input.policy
-  pub schema : input.tables.schema ≡ input.policy.schema
-  pub conform : Conforms input.policy.schema input.tables.rows
-  pub script : IsScript input.policy.params input.script
-  pub sets : All (IsSetOf input.policy.schema) input.published
-  pub one_each : length input.published ≡ published input.script.entries
-  pub workers : (0 < input.workers) × (input.workers ≤ most_workers)
-  pub budget : input.budget ≤ most_budget
-  pub tables_are : AreTables input.policy.schema.tables
-  pub rules : All (RuleFits input.policy.schema) input.policy.schema.rules
-
 -- ---- lines
 
--- the calls that a line makes: on the versions, and on the shelf of a shard
+-- the calls that a line makes: on the versions, and for each query that it judges on a shelf
 pub record LineCalls : Type 0 where
   pub versions : List VersionCall
-  pub shelves : ShelfCalls
+  pub shelves : List ShelfCalls
 
 abbrev pub on_versions : List VersionCall → LineCalls
-on_versions calls = record { versions = calls; shelves = record { shard = 0; calls = [] } }
+on_versions calls = record { versions = calls; shelves = [] }
 
+-- of a line that judges one query
 abbrev pub on_shelves : ShelfCalls → LineCalls
-on_shelves calls = record { versions = []; shelves = calls }
+on_shelves calls = record { versions = []; shelves = calls ∷ [] }
 
 -- a line that makes no call
 abbrev pub no_calls : LineCalls
@@ -118,11 +92,10 @@ pub record LineDone : Type 0 where
 -- the answer that the entry gives this request, if it gives one
 abbrev pub answer_of : ℕ → Entry → List TraceEntry
 answer_of number (Begin request version) = []
-answer_of number (Unbegun request) = []
 answer_of number (Ask request version it) = if request == number then answer_in it else []
-answer_of number (End request) = []
+answer_of number (End request version) = []
 answer_of number (Publish version) = []
-answer_of number NoMemory = []
+answer_of number (Memory kind request version) = []
 
 -- the trace of a request: the answers that entries give it, in order
 abbrev pub trace_in : ℕ → List Entry → List TraceEntry
@@ -133,18 +106,23 @@ trace_of number earlier = flat_map (λ it. answer_of number it.entry) earlier
 
 -- the line begins the request over this version of the tables, which it pins
 abbrev pub begins : ℕ → ℕ → TableSet → LineDone
-begins number version tables = record { entry = Begin number version; made = on_versions (pin_of version tables ∷ []) }
+begins number version tables = record {
+  entry = Begin number version;
+  made = on_versions (pin_of version tables ∷ []);
+}
 
--- the request with this number as it stands after earlier lines: it began over its version of the tables, has the context of its begin line, and was told what they
--- answer it
-pub record IsRequest (input : Input) (earlier : List LineDone) (number : ℕ) (asker : Request) : Type 0 where
+-- The request with this number as it stands after earlier lines: it began over its version of the
+-- tables, has the context of its begin line, and was told what they answer it.
+pub record IsRequest (input : Input) (earlier : List LineDone) (number : ℕ) (asker : Request)
+    : Type 0 where
   pub begun : Contains earlier (begins number asker.version asker.tables)
   pub context : HasContext input.script number asker.context
   pub trace : asker.trace ≡ trace_of number earlier
 
 -- the request found no memory when it began
 abbrev pub IsLost : List LineDone → ℕ → Type 0
-IsLost earlier number = (version : ℕ) (tables : TableSet) → ¬ (Contains earlier (begins number version tables))
+IsLost earlier number =
+    (version : ℕ) (tables : TableSet) → ¬ (Contains earlier (begins number version tables))
 
 -- ---- entries
 
@@ -154,43 +132,67 @@ pub record IsBegun (request : ℕ) (it : LineDone) : Type 0 where
   pub tables : TableSet
   pub is : it ≡ begins request version tables
 
--- the line finds no memory, before its call on the versions or in it
-abbrev pub IsUnbegun : ℕ → LineDone → Type 0
-IsUnbegun request it = (it.entry ≡ Unbegun request) × ((it.made ≡ no_calls) ⊎ (it.made ≡ on_versions (Refused ∷ [])))
+-- the request finds no memory to begin, before its call on the versions or in it
+pub record IsUnbegun (request : ℕ) (it : LineDone) : Type 0 where
+  pub entry_is : it.entry ≡ Memory kinds.Begin (Some request) None
+  pub made_is : (it.made ≡ no_calls) ⊎ (it.made ≡ on_versions (Refused ∷ []))
 
--- the line finds no memory, and makes no call
-abbrev pub IsUnserved : LineDone → Type 0
-IsUnserved it = it ≡ record { entry = NoMemory; made = no_calls }
+-- a line of this kind, and of this request if it is of one, finds no memory, and makes no call
+abbrev pub IsUnserved : LineKind → Option ℕ → LineDone → Type 0
+IsUnserved kind request it = it ≡ record { entry = Memory kind request None; made = no_calls }
+
+-- a line of this kind is of a request that found no memory when it began
+pub record IsOfLost (earlier : List LineDone) (kind : LineKind) (request : ℕ) (it : LineDone)
+    : Type 0 where
+  pub lost : IsLost earlier request
+  pub unserved : IsUnserved kind (Some request) it
+
+-- The entry of a question of the request, over its version, with this reply. Want of memory is no
+-- reply there: it is told as that of any other line.
+abbrev pub asked : ℕ → ℕ → Reply → Entry
+asked request version (reply.Answer query rows by) =
+    Ask request version (reply.Answer query rows by)
+asked request version (reply.Blocked query why) = Ask request version (reply.Blocked query why)
+asked request version (reply.Unread fault) = Ask request version (reply.Unread fault)
+asked request version reply.NoMemory = Memory kinds.Ask (Some request) (Some version)
 
 -- a question of the request, with the reply that it has after earlier lines
-pub record IsAsk (input : Input) (earlier : List LineDone) (request : ℕ) (text : List ℕ) (it : LineDone) : Type 0 where
+pub record IsAsk (input : Input) (earlier : List LineDone) (request : ℕ) (text : List ℕ)
+    (it : LineDone) : Type 0 where
   pub asker : Request
   pub asks : IsRequest input earlier request asker
   pub reply : Reply
   pub calls : ShelfCalls
-  pub replies : Replies input.policy asker input.budget text calls reply
-  pub is : it ≡ record { entry = Ask request asker.version reply; made = on_shelves calls }
+  pub replies : Replies input.policy asker (effort_of input) text calls reply
+  pub is : it ≡ record { entry = asked request asker.version reply; made = on_shelves calls }
 
--- the request, which had begun, ends
+-- the request, which had begun, ends over its version
 pub record IsEnd (earlier : List LineDone) (request : ℕ) (it : LineDone) : Type 0 where
   pub version : ℕ
   pub tables : TableSet
   pub begun : Contains earlier (begins request version tables)
-  pub is : it ≡ record { entry = End request; made = no_calls }
+  pub is : it ≡ record { entry = End request version; made = no_calls }
 
 -- the table set of the publish line with this number becomes a version
 pub record IsPublish (input : Input) (number : ℕ) (it : LineDone) : Type 0 where
   pub tables : TableSet
   pub there : slice_get input.published number ≡ Some tables
   pub version : ℕ
-  pub is : it ≡ record { entry = Publish version; made = on_versions (publication tables version ∷ []) }
+  pub is : it ≡ record {
+    entry = Publish version;
+    made = on_versions (publication tables version ∷ []);
+  }
 
 -- what becomes of a line, after earlier lines
 abbrev pub IsServed : Input → List LineDone → ScriptEntry → LineDone → Type 0
-IsServed input earlier (said.Begin request name context) it = IsBegun request it ⊎ IsUnbegun request it
-IsServed input earlier (said.Ask request name text) it = IsAsk input earlier request text it ⊎ (IsLost earlier request × IsUnserved it)
-IsServed input earlier (said.End request name) it = IsEnd earlier request it ⊎ (IsLost earlier request × IsUnserved it)
-IsServed input earlier (said.Publish number set) it = IsPublish input number it ⊎ IsUnserved it
+IsServed input earlier (said.Begin request name context) it =
+    IsBegun request it ⊎ IsUnbegun request it
+IsServed input earlier (said.Ask request name text) it =
+    IsAsk input earlier request text it ⊎ IsOfLost earlier kinds.Ask request it
+IsServed input earlier (said.End request name) it =
+    IsEnd earlier request it ⊎ IsOfLost earlier kinds.End request it
+IsServed input earlier (said.Publish number set) it =
+    IsPublish input number it ⊎ IsUnserved kinds.Publish None it
 
 -- the lines and what becomes of them, one by one, after earlier lines
 abbrev pub AreServed : Input → List LineDone → List ScriptEntry → List LineDone → Type 0
@@ -202,29 +204,42 @@ AreServed input earlier lines its = EachAfter (IsServed input) earlier lines its
 abbrev pub done_in : Input → List LineDone → ℕ → List LineDone
 done_in input served k = of_lane (lane_of input.workers) k input.script.entries served
 
+-- the calls that the line made on the shelf k, query by query
+abbrev pub shelf_calls_of : ℕ → LineDone → List ShelfCall
+shelf_calls_of k it = flat_map (λ calls. calls_on k calls) it.made.shelves
+
 -- the calls that these lines made, on the versions and on the shelf k
 abbrev pub versions_made : List LineDone → List VersionCall
 versions_made its = flat_map (λ it. it.made.versions) its
 
 abbrev pub made_on : ℕ → List LineDone → List ShelfCall
-made_on k its = flat_map (λ it. calls_on k it.made.shelves) its
+made_on k its = flat_map (λ it. shelf_calls_of k it) its
 
--- the versions' calls are those of the lines, lane by lane in their order, and legal from the input's tables on
+-- The versions' calls are those of the lines, lane by lane in their order, and legal from the
+-- input's tables on. The opening pass makes none.
 pub record HasVersions (input : Input) (served : List LineDone) (histories : Closed) : Type 0 where
-  pub calls : AreOfLanes input.workers (λ k. versions_made (done_in input served k)) (calls_of histories.versions) histories.numbers.items
-  pub legal : ∥ versions.Legal input.tables (calls_of histories.versions) (versions_of histories.versions) ∥₁
+  pub calls : AreOfLanes [] input.workers (λ k. versions_made (done_in input served k))
+      (calls_of histories.versions) histories.numbers.items
+  pub legal : ∥ versions.Legal input.tables (calls_of histories.versions)
+      (versions_of histories.versions) ∥₁
 
--- the calls of the shelf k are those of the lines, lane by lane in their order, and legal from an empty shelf on
-pub record HasShelf (input : Input) (served : List LineDone) (k : ℕ) (it : ClosedShelf) : Type 0 where
-  pub calls : AreOfLanes input.workers (λ i. made_on k (done_in input served i)) (shelf.calls_of it.0) it.1.items
+-- The calls of the shelf k are those of the lines, lane by lane in their order, and legal from an
+-- empty shelf on. The opening pass makes none.
+pub record HasShelf (input : Input) (served : List LineDone) (k : ℕ) (it : ClosedShelf)
+    : Type 0 where
+  pub calls : AreOfLanes [] input.workers (λ i. made_on k (done_in input served i))
+      (shelf.calls_of it.0) it.1.items
   pub legal : ∥ shelves.Legal (shelf.calls_of it.0) (shelf.rows_of it.0) ∥₁
 
 pub record HasShelves (input : Input) (served : List LineDone) (histories : Closed) : Type 0 where
   pub eight : length histories.shelves.items ≡ shard_count
-  pub each : (k : ℕ) (d : ClosedShelf) → k < shard_count → HasShelf input served k (slice_index_or histories.shelves.items k d)
+  pub each : (k : ℕ) (d : ClosedShelf) → k < shard_count →
+      HasShelf input served k (slice_index_or histories.shelves.items k d)
 
--- One entry for each line of the script, in order, and the calls of these lines are the histories of the versions and of the shelves, each lane's in the order of its
--- lines, with the number of its pass. A request begins over the version that was the last one, with an empty trace, and each of its questions has the reply of the request as it then stands, under the input's budget.
+-- One entry for each line of the script, in order, and the calls of these lines are the histories
+-- of the versions and of the shelves, each lane's in the order of its lines, with the number of its
+-- pass. A request begins over the version that was the last one, with an empty trace, and each of
+-- its questions has the reply of the request as it then stands, under the input's effort.
 pub record Legal (input : Input) (journal : Journal) : Type 0 where
   pub input_fits : IsInput input
   pub served : List LineDone
@@ -233,16 +248,14 @@ pub record Legal (input : Input) (journal : Journal) : Type 0 where
   pub versions : HasVersions input served journal.histories
   pub shelves : HasShelves input served journal.histories
 
+-- Whether the entry is want of memory. A question that has this reply is such an entry too (see
+-- `asked`), so the reply of an `Ask` is none in a legal journal.
 unfoldable pub is_memory : Entry → Bool
 is_memory (Begin request version) = false
-is_memory (Unbegun request) = true
-is_memory (Ask request version (reply.Answer query rows by)) = false
-is_memory (Ask request version (reply.Blocked query why)) = false
-is_memory (Ask request version (reply.Unread fault)) = false
-is_memory (Ask request version reply.NoMemory) = true
-is_memory (End request) = false
+is_memory (Ask request version it) = false
+is_memory (End request version) = false
 is_memory (Publish version) = false
-is_memory NoMemory = true
+is_memory (Memory kind request version) = true
 
 -- whether some line answered want of memory
 abbrev pub lacks_memory : Journal → Bool

@@ -1,4 +1,3 @@
-pub mod Published
 pub mod Lanes
 pub mod Legal
 pub mod Headline

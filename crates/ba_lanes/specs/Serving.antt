@@ -1,25 +1,27 @@
 -- What is known between the lines of a script.
 use Rattle.std.specs.Prelude.{◌≡◌, ◌⊎◌, ℕ, ◌+◌, ◌*◌, ◌%◌, ◌<◌, ◌≤◌, List, [], ◌∷◌, ◌++◌, Bool, true, false, Option, Some, None, count_by, length, map, slice_get, slice_set, vec_capacity}
-use Rattle.std.specs.List.{flat_map}
 use Rattle.ba_cache.specs.Passes.{known_on}
+use Rattle.ba_input.specs.Inputs.{IsInput, effort_of}
+use Rattle.ba_input.specs.declared.input.Input.{Input}
 use Rattle.ba_model.specs.Fit.{ContextFits, kinds_of}
 use Rattle.ba_model.specs.Limits.{shard_count}
 use Rattle.ba_model.specs.declared.policy.Context.{Context}
 use Rattle.ba_script.specs.declared.entry.ScriptEntry.{ScriptEntry}
 use Rattle.ba_script.specs.declared.entry.ScriptEntry.TheVariants as said
 use Rattle.ba_session.specs.Asking.{IsRequestOf, IsBegun, Replies, answer_in}
-use Rattle.ba_session.specs.Passing.{AreOf, HasRoom, MakesCalls, ShelfCalls, calls_on}
+use Rattle.ba_session.specs.Passing.{AreOf, HasRoom, MakesCalls, ShelfCalls}
 use Rattle.ba_session.specs.declared.reply.Reply.{Reply}
 use Rattle.ba_session.specs.declared.request.Request.{Request}
 use Rattle.ba_session.specs.declared.service.Passes.{Passes}
 use Rattle.ba_session.specs.declared.service.Service.{Service}
 use Rattle.ba_lanes.specs.Lanes.{HasJoined, HasSplit, lines_of, total}
-use Rattle.ba_lanes.specs.Legal.{AreServed, HasContext, IsInput, IsLost, IsPublish, IsRequest, IsUnbegun, IsUnserved, LineCalls, LineDone, begins, context_in, contexts_of, lane_of, made_on, no_calls, on_shelves, trace_of, versions_made}
+use Rattle.ba_lanes.specs.Legal.{AreServed, HasContext, IsLost, IsPublish, IsRequest, IsUnbegun, IsUnserved, LineCalls, LineDone, asked, begins, context_in, contexts_of, lane_of, made_on, no_calls, on_shelves, trace_of, versions_made}
 use Rattle.ba_lanes.specs.declared.lane.Lane.{Lane}
 use Rattle.ba_lanes.specs.declared.share.Share.{Share}
 use Rattle.ba_lanes.specs.declared.journal.Entry.{Entry}
-use Rattle.ba_lanes.specs.declared.journal.Entry.TheVariants.{Ask, End}
-use Rattle.ba_lanes.specs.declared.journal.Input.{Input}
+use Rattle.ba_lanes.specs.declared.journal.Entry.TheVariants.{End}
+use Rattle.ba_lanes.specs.declared.journal.LineKind.{LineKind}
+use Rattle.ba_lanes.specs.declared.journal.LineKind.TheVariants as kinds
 use Rattle.ba_turn.specs.Knowing.{SumsToAllowance}
 use Rattle.ba_turn.specs.Passes.{known_by}
 use Rattle.ba_turn.specs.declared.known.Known.{Known}
@@ -53,74 +55,100 @@ pub record CanServe (lines : List ScriptEntry) (p : Passes) : Type 0 where
 
 -- the calls of lines take the passes from old to new
 pub record MakesAll (served : List LineDone) (old new : Passes) : Type 0 where
-  pub versions : MakesCalls (known_by old.versions) (known_by new.versions) (flat_map (λ it. it.made.versions) served)
-  pub shelves : (k : ℕ) → k < shard_count → MakesCalls (known_on old.cache k) (known_on new.cache k) (flat_map (λ it. calls_on k it.made.shelves) served)
+  pub versions :
+      MakesCalls (known_by old.versions) (known_by new.versions) (versions_made served)
+  pub shelves : (k : ℕ) → k < shard_count →
+      MakesCalls (known_on old.cache k) (known_on new.cache k) (made_on k served)
 
 -- ---- requests
 
 -- the request as it stands after earlier lines, which may ask
-pub record IsStanding (input : Input) (earlier : List LineDone) (number : ℕ) (asker : Request) : Type 0 where
+pub record IsStanding (input : Input) (earlier : List LineDone) (number : ℕ) (asker : Request)
+    : Type 0 where
   pub asks : IsRequest input earlier number asker
   pub may : IsRequestOf input.policy asker
 
--- a place of the requests, by their numbers, after earlier lines of the lane k: the request, or that it is lost, or one of another lane
+-- a place of the requests, by their numbers, after earlier lines of the lane k: the request, or
+-- that it is lost, or one of another lane
 abbrev pub StandsIn : Input → ℕ → List LineDone → ℕ → Option Request → Type 0
 StandsIn input k earlier number (Some asker) = IsStanding input earlier number asker
 StandsIn input k earlier number None = number % input.workers ≡ k → IsLost earlier number
 
--- The requests that have begun, so many, as they stand after earlier lines of the lane k; those lines are of no other request.
-pub record Stand (input : Input) (k begun : ℕ) (earlier : List LineDone) (requests : List (Option Request)) : Type 0 where
+-- The requests that have begun, so many, as they stand after earlier lines of the lane k; those
+-- lines are of no other request.
+pub record Stand (input : Input) (k begun : ℕ) (earlier : List LineDone)
+    (requests : List (Option Request)) : Type 0 where
   pub many : length requests ≡ begun
-  pub places : (number : ℕ) (it : Option Request) → slice_get requests number ≡ Some it → StandsIn input k earlier number it
+  pub places : (number : ℕ) (it : Option Request) → slice_get requests number ≡ Some it →
+      StandsIn input k earlier number it
   pub untold : (number : ℕ) → begun ≤ number → trace_of number earlier ≡ []
   pub unbegun : (number : ℕ) → begun ≤ number → IsLost earlier number
 
 -- each request may ask
 pub record AreAskers (input : Input) (requests : List (Option Request)) : Type 0 where
-  pub each : (number : ℕ) (asker : Request) → slice_get requests number ≡ Some (Some asker) → IsRequestOf input.policy asker
+  pub each : (number : ℕ) (asker : Request) → slice_get requests number ≡ Some (Some asker) →
+      IsRequestOf input.policy asker
 
 -- the next request begins, over a version that it pins
-pub record Begins (input : Input) (requests : List (Option Request)) (request : ℕ) (context : Context) (it : LineDone) (later : List (Option Request)) : Type 0 where
+pub record Begins (input : Input) (requests : List (Option Request)) (request : ℕ)
+    (context : Context) (it : LineDone) (later : List (Option Request)) : Type 0 where
   pub asker : Request
   pub is : it ≡ begins request asker.version asker.tables
   pub begun : IsBegun context asker
   pub may : IsRequestOf input.policy asker
   pub later_is : later ≡ requests ++ Some asker ∷ []
 
+-- the request as it stands after a reply
+abbrev pub told : Request → Reply → Request
+told asker reply = record asker { trace = asker.trace ++ answer_in reply }
+
 -- a question gets a reply, and its request alone changes, by the answer
-pub record Asks (input : Input) (requests : List (Option Request)) (request : ℕ) (text : List ℕ) (it : LineDone) (later : List (Option Request)) : Type 0 where
+pub record Asks (input : Input) (requests : List (Option Request)) (request : ℕ) (text : List ℕ)
+    (it : LineDone) (later : List (Option Request)) : Type 0 where
   pub asker : Request
   pub there : slice_get requests request ≡ Some (Some asker)
   pub reply : Reply
   pub calls : ShelfCalls
-  pub replies : Replies input.policy asker input.budget text calls reply
-  pub is : it ≡ record { entry = Ask request asker.version reply; made = on_shelves calls }
-  pub may : IsRequestOf input.policy (record asker { trace = asker.trace ++ answer_in reply })
-  pub later_is : later ≡ slice_set requests request (Some (record asker { trace = asker.trace ++ answer_in reply }))
+  pub replies : Replies input.policy asker (effort_of input) text calls reply
+  pub is : it ≡ record { entry = asked request asker.version reply; made = on_shelves calls }
+  pub may : IsRequestOf input.policy (told asker reply)
+  pub later_is : later ≡ slice_set requests request (Some (told asker reply))
 
 -- the request, which has begun, ends
 pub record Ends (requests : List (Option Request)) (request : ℕ) (it : LineDone) : Type 0 where
   pub asker : Request
   pub there : slice_get requests request ≡ Some (Some asker)
-  pub is : it ≡ record { entry = End request; made = no_calls }
+  pub is : it ≡ record { entry = End request asker.version; made = no_calls }
 
--- the request is lost, and the line makes no call
-abbrev pub FindsLost : List (Option Request) → ℕ → LineDone → Type 0
-FindsLost requests request it = (slice_get requests request ≡ Some None) × IsUnserved it
+-- a line of this kind is of a request that is lost, and makes no call
+pub record FindsLost (requests : List (Option Request)) (kind : LineKind) (request : ℕ)
+    (it : LineDone) : Type 0 where
+  pub there : slice_get requests request ≡ Some None
+  pub unserved : IsUnserved kind (Some request) it
 
 abbrev pub EndsOrLost : List (Option Request) → ℕ → LineDone → Type 0
-EndsOrLost requests request it = Ends requests request it ⊎ FindsLost requests request it
+EndsOrLost requests request it = Ends requests request it ⊎ FindsLost requests kinds.End request it
 
 -- what becomes of a line, and of the requests
-abbrev pub Does : Input → List (Option Request) → ScriptEntry → LineDone → List (Option Request) → Type 0
-Does input requests (said.Begin request name context) it later = Begins input requests request context it later ⊎ (IsUnbegun request it × (later ≡ requests ++ None ∷ []))
-Does input requests (said.Ask request name text) it later = Asks input requests request text it later ⊎ (FindsLost requests request it × (later ≡ requests))
-Does input requests (said.End request name) it later = EndsOrLost requests request it × (later ≡ requests)
-Does input requests (said.Publish number set) it later = (IsPublish input number it ⊎ IsUnserved it) × (later ≡ requests)
+abbrev pub Does : Input → List (Option Request) → ScriptEntry → LineDone
+    → List (Option Request) → Type 0
+Does input requests (said.Begin request name context) it later =
+    Begins input requests request context it later ⊎
+    (IsUnbegun request it × (later ≡ requests ++ None ∷ []))
+Does input requests (said.Ask request name text) it later =
+    Asks input requests request text it later ⊎
+    (FindsLost requests kinds.Ask request it × (later ≡ requests))
+Does input requests (said.End request name) it later =
+    EndsOrLost requests request it × (later ≡ requests)
+Does input requests (said.Publish number set) it later =
+    (IsPublish input number it ⊎ IsUnserved kinds.Publish None it) × (later ≡ requests)
 
--- The line comes after so many begin lines: it begins the next request, or is of one that has begun; or its table set is there.
+-- The line comes after so many begin lines: it begins the next request, or is of one that has
+-- begun; or its table set is there.
 abbrev pub Comes : Input → ℕ → ScriptEntry → Type 0
-Comes input begun (said.Begin request name context) = (request ≡ begun) × ContextFits (kinds_of input.policy.params) context × HasContext input.script request context
+Comes input begun (said.Begin request name context) =
+    (request ≡ begun) × ContextFits (kinds_of input.policy.params) context ×
+    HasContext input.script request context
 Comes input begun (said.Ask request name text) = request < begun
 Comes input begun (said.End request name) = request < begun
 Comes input begun (said.Publish number set) = number < length input.published
@@ -128,14 +156,16 @@ Comes input begun (said.Publish number set) = number < length input.published
 -- ---- a lane
 
 -- a lane with these requests can serve the line
-pub record CanTake (input : Input) (service : Service) (line : ScriptEntry) (lane : Lane) : Type 0 where
+pub record CanTake (input : Input) (service : Service) (line : ScriptEntry) (lane : Lane)
+    : Type 0 where
   pub comes : Comes input (length lane.requests.items) line
   pub askers : AreAskers input lane.requests.items
   pub of : AreOf service lane.passes
   pub can : CanServe (line ∷ []) lane.passes
   pub room : length lane.requests.items + length (context_in line) ≤ vec_capacity lane.requests
 
--- what a lane does with a line that is another's: the place of a request that begins there stays empty
+-- what a lane does with a line that is another's: the place of a request that begins there stays
+-- empty
 pub record PassesOver (line : ScriptEntry) (old new : Lane) : Type 0 where
   pub requests : new.requests.items ≡ old.requests.items ++ map (λ context. None) (context_in line)
   pub room : vec_capacity new.requests ≡ vec_capacity old.requests
@@ -143,9 +173,11 @@ pub record PassesOver (line : ScriptEntry) (old new : Lane) : Type 0 where
   pub entries : new.entries ≡ old.entries
 
 -- what a lane does with a line
-pub record Takes (input : Input) (service : Service) (line : ScriptEntry) (entry : Entry) (old new : Lane) : Type 0 where
+pub record Takes (input : Input) (service : Service) (line : ScriptEntry) (entry : Entry)
+    (old new : Lane) : Type 0 where
   pub made : LineCalls
-  pub does : Does input old.requests.items line (record { entry = entry; made = made }) new.requests.items
+  pub does : Does input old.requests.items line (record { entry = entry; made = made })
+      new.requests.items
   pub makes : MakesAll (record { entry = entry; made = made } ∷ []) old.passes new.passes
   pub of : AreOf service new.passes
   pub entries : new.entries ≡ old.entries
@@ -155,8 +187,10 @@ pub record Takes (input : Input) (service : Service) (line : ScriptEntry) (entry
 abbrev pub lines_in : Input → ℕ → List ScriptEntry → List ScriptEntry
 lines_in input k lines = lines_of (lane_of input.workers) k lines
 
--- What the lane k has done after the first lines of the script: its own are served, its passes made their calls, and its requests stand.
-pub record HasServed (input : Input) (service : Service) (first : Passes) (k : ℕ) (lines : List ScriptEntry) (lane : Lane) : Type 0 where
+-- What the lane k has done after the first lines of the script: its own are served, its passes made
+-- their calls, and its requests stand.
+pub record HasServed (input : Input) (service : Service) (first : Passes) (k : ℕ)
+    (lines : List ScriptEntry) (lane : Lane) : Type 0 where
   pub served : List LineDone
   pub entries : lane.entries.items ≡ map (λ it. it.entry) served
   pub lines_are : AreServed input [] (lines_in input k lines) served
@@ -183,8 +217,10 @@ pub record IsReady (input : Input) (service : Service) (k : ℕ) (lane : Lane) :
   pub of : AreOf service lane.passes
   pub unused : AreUnused k lane.passes
   pub can : CanServe (lines_in input k input.script.entries) lane.passes
-  pub requests : (lane.requests.items ≡ []) × (length (contexts_of input.script.entries) ≤ vec_capacity lane.requests)
-  pub entries : (lane.entries.items ≡ []) × (length (lines_in input k input.script.entries) ≤ vec_capacity lane.entries)
+  pub requests : (lane.requests.items ≡ []) ×
+      (length (contexts_of input.script.entries) ≤ vec_capacity lane.requests)
+  pub entries : (lane.entries.items ≡ []) ×
+      (length (lines_in input k input.script.entries) ≤ vec_capacity lane.entries)
 
 -- a pass with the number of the lane k, which made these calls
 pub record HasMade {S E : Type 0} (k : ℕ) (calls : List E) (v : Known S E) : Type 0 where
@@ -192,12 +228,14 @@ pub record HasMade {S E : Type 0} (k : ℕ) (calls : List E) (v : Known S E) : T
   pub made : v.made ≡ calls
 
 -- what became of the lines of the lane k: its entries, and the calls of its passes
-pub record HasDone (input : Input) (service : Service) (k : ℕ) (served : List LineDone) (lane : Lane) : Type 0 where
+pub record HasDone (input : Input) (service : Service) (k : ℕ) (served : List LineDone)
+    (lane : Lane) : Type 0 where
   pub entries : lane.entries.items ≡ map (λ it. it.entry) served
   pub lines_are : AreServed input [] (lines_in input k input.script.entries) served
   pub of : AreOf service lane.passes
   pub versions : HasMade k (versions_made served) (known_by lane.passes.versions)
-  pub shelves : (i : ℕ) → i < shard_count → HasMade k (made_on i served) (known_on lane.passes.cache i)
+  pub shelves : (i : ℕ) → i < shard_count →
+      HasMade k (made_on i served) (known_on lane.passes.cache i)
 
 -- the lane k has served its lines
 pub record IsDone (input : Input) (service : Service) (k : ℕ) (lane : Lane) : Type 0 where
@@ -210,22 +248,30 @@ pub record IsShare (lines : List ScriptEntry) (share : Share) : Type 0 where
   pub calls_are : share.calls ≡ version_calls lines
   pub looks_are : share.looks ≡ shelf_calls lines
 
--- the passes that the service was made with, once they have split off those of so many lanes
+-- the passes that the service was made with, once they have split off those of so many lanes, and
+-- made no calls themselves
 pub record HaveSplit (splits : ℕ) (p : Passes) : Type 0 where
-  pub versions : HasSplit splits (known_by p.versions)
-  pub shelves : (i : ℕ) → i < shard_count → HasSplit splits (known_on p.cache i)
+  pub versions : HasSplit [] splits (known_by p.versions)
+  pub shelves : (i : ℕ) → i < shard_count → HasSplit [] splits (known_on p.cache i)
 
 -- of the allowances for all lines, what is left once the first lanes, so many, have theirs
 pub record HasLeft (input : Input) (lanes : ℕ) (p : Passes) : Type 0 where
-  pub versions : total (λ k. version_calls (lines_in input k input.script.entries)) lanes + (known_by p.versions).left ≡ version_calls input.script.entries
-  pub shelves : (i : ℕ) → i < shard_count → total (λ k. shelf_calls (lines_in input k input.script.entries)) lanes + (known_on p.cache i).left ≡ shelf_calls input.script.entries
+  pub versions :
+      total (λ k. version_calls (lines_in input k input.script.entries)) lanes +
+      (known_by p.versions).left ≡ version_calls input.script.entries
+  pub shelves : (i : ℕ) → i < shard_count →
+      total (λ k. shelf_calls (lines_in input k input.script.entries)) lanes +
+      (known_on p.cache i).left ≡ shelf_calls input.script.entries
 
--- where these passes have joined what they split off, what is left and what was called sum to each allowance
+-- where these passes have joined what they split off, what is left and what was called sum to each
+-- allowance
 pub record SumUp (p : Passes) : Type 0 where
   pub versions : SumsToAllowance (known_by p.versions)
   pub shelves : (i : ℕ) → i < shard_count → SumsToAllowance (known_on p.cache i)
 
--- The passes of the service as it was made, once they have split off those of so many lanes, and have joined those of the first lanes, so many, which did this.
+-- The passes of the service as it was made, which made no calls themselves, once they have split
+-- off those of so many lanes, and have joined those of the first lanes, so many, which did this.
 pub record HaveJoined (splits joined : ℕ) (done : ℕ → List LineDone) (p : Passes) : Type 0 where
-  pub versions : HasJoined splits joined (λ k. versions_made (done k)) (known_by p.versions)
-  pub shelves : (i : ℕ) → i < shard_count → HasJoined splits joined (λ k. made_on i (done k)) (known_on p.cache i)
+  pub versions : HasJoined [] splits joined (λ k. versions_made (done k)) (known_by p.versions)
+  pub shelves : (i : ℕ) → i < shard_count →
+      HasJoined [] splits joined (λ k. made_on i (done k)) (known_on p.cache i)

@@ -1,22 +1,19 @@
-//! What a run is given, and what it did.
+//! What a run did.
 
-use ba_model::{List, Policy, Shared};
-use ba_script::Script;
+use ba_model::List;
 use ba_session::{Closed, Reply};
-use ba_tables::Tables;
 
-/// What a run is given.
-#[derive(Debug, Drop)]
-pub struct Input {
-    pub policy: Shared<Policy>,
-    pub tables: Shared<Tables>,
-    pub script: Script,
-    /// The table set of each publish line, in their order.
-    pub published: List<Shared<Tables>>,
-    /// How many workers serve the script, each a lane of its lines.
-    pub workers: u32,
-    /// How many steps the search for a question's proof may take.
-    pub budget: u32,
+/// What a line of the script says.
+#[derive(Clone, Copy, Debug, Drop, PartialEq, Eq)]
+pub enum LineKind {
+    /// A request begins.
+    Begin,
+    /// A request asks.
+    Ask,
+    /// A request ends.
+    End,
+    /// A table set is published.
+    Publish,
 }
 
 /// What became of a line of the script. Requests and versions of the tables are numbered from 0.
@@ -27,30 +24,35 @@ pub enum Entry {
         request: u32,
         version: u32,
     },
-    /// The request finds no memory to begin.
-    Unbegun {
-        request: u32,
-    },
-    /// A question of the request, over its version, and its reply.
+    /// A question of the request, over its version, and its reply: an answer, a block, or that the
+    /// text is unread. Want of memory is an entry of its own.
     Ask {
         request: u32,
         version: u32,
         reply: Reply,
     },
-    /// The request ends.
+    /// The request ends, over its version.
     End {
         request: u32,
+        version: u32,
     },
     /// A table set becomes this version.
     Publish {
         version: u32,
     },
-    /// The line found no memory: one that publishes, or a line of a request that found none when it began.
-    NoMemory,
+    /// The line found no memory: what it says, the request where it is a line of one, and the
+    /// request's version where it has one. A request that found no memory when it began has none,
+    /// and so each later line of it finds none.
+    Memory {
+        kind: LineKind,
+        request: Option<u32>,
+        version: Option<u32>,
+    },
 }
 
 /// What a run did: what became of each line of the script, in order, and the histories of what the
-/// requests share, each call with the number of the pass that made it: k + 1 of the worker k.
+/// requests share, each call with the number of the pass that made it: k + 1 of the worker k, and 0
+/// of the pass that the workers' passes were split off.
 #[derive(Drop)]
 pub struct Journal {
     pub entries: List<Entry>,

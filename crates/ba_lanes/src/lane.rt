@@ -1,23 +1,27 @@
 //! A lane: the lines of a script that one worker serves, one after another.
 
-ghost use Rattle.std.specs.Prelude.{◌≡◌, ℕ, ◌+◌, ◌<◌, ◌≤◌, List, [], IfOk, length, vec_capacity};
+ghost use Rattle.std.specs.Prelude.{◌≡◌, ℕ, ◌+◌, ◌<◌, ◌≤◌, List, [], IfOk, None, Some, length, vec_capacity};
+ghost use Rattle.ba_input.specs.Inputs.{IsInput};
 ghost use Rattle.ba_script.specs.declared.entry.ScriptEntry.TheVariants as line;
 ghost use Rattle.ba_session.specs.Passing.{AreOf};
-ghost use Rattle.ba_lanes.specs.Legal.{IsInput, context_in, contexts_of, no_calls};
+ghost use Rattle.ba_lanes.specs.Legal.{asked, context_in, contexts_of, no_calls};
+ghost use Rattle.ba_lanes.specs.declared.journal.Entry.TheVariants as entry;
 ghost use Rattle.ba_lanes.specs.Serving.{CanServe, CanTake, EndsOrLost, HasServed, PassesOver, Takes, lines_in};
 
-use crate::journal::{Entry, Input};
+use crate::journal::{Entry, LineKind};
 use crate::share::lane_of;
+use ba_input::Input;
 use ba_model::{Context, Duplicate, Str};
 use ba_outside::Gate;
 use ba_script::ScriptEntry;
-use ba_session::{Passes, Request, Service};
+use ba_session::{Passes, Reply, Request, Service};
+use ba_settle::Settle;
 use std::alloc::{AllocError, Global};
 use std::sync::Wait;
 
-/// What a worker has: its passes, the requests that it began, by their numbers, and the entries of the
-/// lines that it served. A request that found no memory when it began has an empty place, and so have
-/// those of other lanes.
+/// What a worker has: its passes, the requests that it began, by their numbers, and the entries of
+/// the lines that it served. A request that found no memory when it began has an empty place, and
+/// so have those of other lanes.
 #[derive(Drop)]
 pub(crate) struct Lane {
     pub(crate) passes: Passes,
@@ -25,8 +29,38 @@ pub(crate) struct Lane {
     pub(crate) entries: Vec<Entry>,
 }
 
+/// The entry of a question of the request, over its version, with this reply.
+fn asked(request: u32, version: u32, reply: Reply) -> Entry
+    ensures { result ≡ asked request version reply }
+{
+    match reply {
+        Reply::NoMemory => Entry::Memory {
+            kind: LineKind::Ask,
+            request: Some(request),
+            version: Some(version),
+        },
+        reply => Entry::Ask {
+            request,
+            version,
+            reply,
+        },
+    }
+}
+
+/// The entry of a line of a request that found no memory when it began.
+fn unserved(kind: LineKind, request: u32) -> Entry
+    ensures { result ≡ entry.Memory kind (Some request) None }
+{
+    Entry::Memory {
+        kind,
+        request: Some(request),
+        version: None,
+    }
+}
+
 impl Lane {
-    /// A lane that has served nothing, with room for so many requests of the script and lines of its own.
+    /// A lane that has served nothing, with room for so many requests of the script and lines of its
+    /// own.
     pub(crate) fn new(
         alloc: Global,
         passes: Passes,
@@ -34,8 +68,10 @@ impl Lane {
         lines: usize,
     ) -> Result<Lane, AllocError>
         ensures passes { IfOk result (λ it. it.passes ≡ passes) }
-        ensures requests { IfOk result (λ it. (it.requests.items ≡ []) × (requests ≤ vec_capacity it.requests)) }
-        ensures entries { IfOk result (λ it. (it.entries.items ≡ []) × (lines ≤ vec_capacity it.entries)) }
+        ensures requests { IfOk result (λ it.
+            (it.requests.items ≡ []) × (requests ≤ vec_capacity it.requests)) }
+        ensures entries { IfOk result (λ it.
+            (it.entries.items ≡ []) × (lines ≤ vec_capacity it.entries)) }
     {
         let requests = Vec::with_capacity(alloc, requests)?;
         let entries = Vec::with_capacity(alloc, lines)?;
@@ -58,12 +94,15 @@ impl Lane {
     ) -> Entry
         requires input { IsInput input.now }
         requires policy { service.now.policy ≡ input.now.policy }
-        requires can { (name : List ℕ) → CanTake input.now service.now (line.Begin number name context.now) self.old }
-        ensures { (name : List ℕ) → Takes input.now service.now (line.Begin number name context.now) result self.old self.new }
+        requires can { (name : List ℕ) →
+            CanTake input.now service.now (line.Begin number name context.now) self.old }
+        ensures { (name : List ℕ) →
+            Takes input.now service.now (line.Begin number name context.now) result self.old
+            self.new }
     {
         let Ok(context) = context.copy(alloc) else {
             self.requests.push_reserved(None);
-            return Entry::Unbegun { request: number };
+            return unserved(LineKind::Begin, number);
         };
         match Request::begin(rt, alloc, service, &mut self.passes, context) {
             Ok(asker) => {
@@ -76,25 +115,29 @@ impl Lane {
             }
             Err(_) => {
                 self.requests.push_reserved(None);
-                Entry::Unbegun { request: number }
+                unserved(LineKind::Begin, number)
             }
         }
     }
 
     /// The request asks.
-    fn ask<R: Wait>(
+    fn ask<R: Wait, S: Settle>(
         &mut self,
         rt: &R,
         alloc: Global,
         input: &Input,
         service: &Service,
+        settle: &S,
         number: u32,
         text: &Str,
     ) -> Entry
         requires input { IsInput input.now }
         requires policy { service.now.policy ≡ input.now.policy }
-        requires can { (name : List ℕ) → CanTake input.now service.now (line.Ask number name text.now) self.old }
-        ensures { (name : List ℕ) → Takes input.now service.now (line.Ask number name text.now) result self.old self.new }
+        requires orders { S.orders settle.now ≡ input.now.orders }
+        requires can { (name : List ℕ) →
+            CanTake input.now service.now (line.Ask number name text.now) self.old }
+        ensures { (name : List ℕ) →
+            Takes input.now service.now (line.Ask number name text.now) result self.old self.new }
     {
         match &mut self.requests[number as usize] {
             Some(asker) => {
@@ -103,27 +146,28 @@ impl Lane {
                     alloc,
                     service,
                     &mut self.passes,
+                    settle,
                     input.budget,
                     text.as_str(),
                 );
-                Entry::Ask {
-                    request: number,
-                    version: asker.version,
-                    reply,
-                }
+                asked(number, asker.version, reply)
             }
-            None => Entry::NoMemory,
+            None => unserved(LineKind::Ask, number),
         }
     }
 
     /// The request ends.
     fn end(&self, number: u32) -> Entry
         requires known { number < length self.now.requests.items }
-        ensures { EndsOrLost self.now.requests.items number (record { entry = result; made = no_calls }) }
+        ensures { EndsOrLost self.now.requests.items number
+            (record { entry = result; made = no_calls }) }
     {
         match &self.requests[number as usize] {
-            Some(_) => Entry::End { request: number },
-            None => Entry::NoMemory,
+            Some(asker) => Entry::End {
+                request: number,
+                version: asker.version,
+            },
+            None => unserved(LineKind::End, number),
         }
     }
 
@@ -138,28 +182,36 @@ impl Lane {
     ) -> Entry
         requires input { IsInput input.now }
         requires policy { service.now.policy ≡ input.now.policy }
-        requires can { (name : List ℕ) → CanTake input.now service.now (line.Publish number name) self.old }
-        ensures { (name : List ℕ) → Takes input.now service.now (line.Publish number name) result self.old self.new }
+        requires can { (name : List ℕ) →
+            CanTake input.now service.now (line.Publish number name) self.old }
+        ensures { (name : List ℕ) →
+            Takes input.now service.now (line.Publish number name) result self.old self.new }
     {
         match input.published.get(number as usize).copy(alloc) {
             Ok(tables) => Entry::Publish {
                 version: service.publish(rt, &mut self.passes, tables),
             },
-            Err(_) => Entry::NoMemory,
+            Err(_) => Entry::Memory {
+                kind: LineKind::Publish,
+                request: None,
+                version: None,
+            },
         }
     }
 
     /// The entry of a line.
-    fn line<R: Wait>(
+    fn line<R: Wait, S: Settle>(
         &mut self,
         rt: &R,
         alloc: Global,
         input: &Input,
         service: &Service,
+        settle: &S,
         said: &ScriptEntry,
     ) -> Entry
         requires input { IsInput input.now }
         requires policy { service.now.policy ≡ input.now.policy }
+        requires orders { S.orders settle.now ≡ input.now.orders }
         requires can { CanTake input.now service.now said.now self.old }
         ensures { Takes input.now service.now said.now result self.old self.new }
     {
@@ -170,7 +222,7 @@ impl Lane {
                 ..
             } => self.begin(rt, alloc, input, service, *request, context),
             ScriptEntry::Ask { request, query, .. } => {
-                self.ask(rt, alloc, input, service, *request, query)
+                self.ask(rt, alloc, input, service, settle, *request, query)
             }
             ScriptEntry::End { request, .. } => self.end(*request),
             ScriptEntry::Publish { number, .. } => {
@@ -181,7 +233,8 @@ impl Lane {
 
     // Leaves a line to its own lane; a request that begins there has an empty place here.
     fn pass_over(&mut self, said: &ScriptEntry)
-        requires room { length self.old.requests.items + length (context_in said.now) ≤ vec_capacity self.old.requests }
+        requires room { length self.old.requests.items + length (context_in said.now)
+            ≤ vec_capacity self.old.requests }
         ensures { PassesOver said.now self.old self.new }
     {
         if let ScriptEntry::Begin { .. } = said {
@@ -190,29 +243,36 @@ impl Lane {
     }
 
     /// Serves the lines of the lane `number` among those of the script, in order.
-    pub(crate) fn serve<R: Wait, G: Gate>(
+    pub(crate) fn serve<R: Wait, S: Settle, G: Gate>(
         &mut self,
         rt: &R,
         alloc: Global,
         input: &Input,
         service: &Service,
+        settle: &S,
         number: u32,
         gate: &G,
     )
         requires input { IsInput input.now }
         requires policy { service.now.policy ≡ input.now.policy }
+        requires orders { S.orders settle.now ≡ input.now.orders }
         requires of { AreOf service.now self.old.passes }
-        requires can { CanServe (lines_in input.now number input.now.script.entries) self.old.passes }
-        requires requests { (self.old.requests.items ≡ []) × (length (contexts_of input.now.script.entries) ≤ vec_capacity self.old.requests) }
-        requires entries { (self.old.entries.items ≡ []) × (length (lines_in input.now number input.now.script.entries) ≤ vec_capacity self.old.entries) }
-        ensures { HasServed input.now service.now self.old.passes number input.now.script.entries self.new }
+        requires can { CanServe (lines_in input.now number input.now.script.entries)
+            self.old.passes }
+        requires requests { (self.old.requests.items ≡ []) ×
+            (length (contexts_of input.now.script.entries) ≤ vec_capacity self.old.requests) }
+        requires entries { (self.old.entries.items ≡ []) ×
+            (length (lines_in input.now number input.now.script.entries)
+            ≤ vec_capacity self.old.entries) }
+        ensures { HasServed input.now service.now self.old.passes number input.now.script.entries
+            self.new }
     {
         let mut point = 0u32;
         for said in input.script.entries.as_slice() {
             if lane_of(input.workers, said) == number {
                 gate.pass(number, point);
                 point = point.saturating_add(1);
-                let entry = self.line(rt, alloc, input, service, said);
+                let entry = self.line(rt, alloc, input, service, settle, said);
                 self.entries.push_reserved(entry);
             } else {
                 self.pass_over(said);

@@ -1,4 +1,5 @@
-//! Serves a script: its questions are answered or blocked, by several workers, each a lane of the lines.
+//! Serves a script: its questions are answered or blocked, by several workers, each a lane of the
+//! lines.
 #![tactic(auto)]
 
 mod journal;
@@ -7,5 +8,5 @@ mod lanes;
 mod share;
 mod work;
 
-pub use journal::{Entry, Input, Journal};
+pub use journal::{Entry, Journal, LineKind};
 pub use lanes::serve;

@@ -15,7 +15,8 @@ pub(crate) struct Share {
     pub(crate) looks: u32,
 }
 
-/// The lane that carries a line: requests go round the lanes by their numbers, and so do publish lines.
+/// The lane that carries a line: requests go round the lanes by their numbers, and so do publish
+/// lines.
 pub(crate) fn lane_of(workers: u32, said: &ScriptEntry) -> u32
     requires { 0 < workers }
     ensures { result ≡ lane_of workers said.now }

@@ -1,15 +1,17 @@
 //! The work of each lane: split off, done beside the others' and joined.
 ghost use Rattle.std.specs.Prelude.{◌≡◌, ℕ, ◌+◌, ◌<◌, length, slice_index_or, IfOk, OnOk};
+ghost use Rattle.ba_input.specs.Inputs.{IsInput};
 ghost use Rattle.ba_session.specs.Passing.{AreOf};
-ghost use Rattle.ba_lanes.specs.Legal.{IsInput};
 ghost use Rattle.ba_lanes.specs.Serving.{HasLeft, HaveSplit, IsDone, IsReady, lines_in};
 ghost use Rattle.ba_lanes.specs.Working.{AreGathered, AreMerged, IsWork};
 
-use crate::journal::{Entry, Input};
+use crate::journal::Entry;
 use crate::lane::Lane;
 use crate::share::{Share, lane_of, requests_in};
+use ba_input::Input;
 use ba_outside::Gate;
 use ba_session::{Passes, Service};
+use ba_settle::Settle;
 use ba_workers::Job;
 use std::alloc::{AllocError, Global};
 use std::collections::VecDeque;
@@ -17,24 +19,34 @@ use std::sync::Wait;
 
 /// What a worker has: what it shares with the others, and a lane of its own.
 #[derive(Drop)]
-pub(crate) struct Work<'a, R: Wait> {
+pub(crate) struct Work<'a, R: Wait, S: Settle> {
     pub(crate) rt: &'a R,
     pub(crate) alloc: Global,
     pub(crate) input: &'a Input,
     pub(crate) service: &'a Service,
+    pub(crate) settle: &'a S,
     pub(crate) lane: Lane,
 }
 
-impl<'a, R: Wait> Job for Work<'a, R> {
+impl<'a, R: Wait, S: Settle> Job for Work<'a, R, S> {
+    ghost use Rattle.std.specs.Prelude.{◌≡◌};
     ghost use Rattle.ba_lanes.specs.Serving.{IsDone, IsReady};
 
-    ghost ready = { λ it k. IsReady it.input.now it.service.now k it.lane };
+    ghost ready = { λ it k. (S.orders it.settle.now ≡ it.input.now.orders) ×
+        IsReady it.input.now it.service.now k it.lane };
 
     ghost done = { λ it k new. IsDone it.input.now it.service.now k new.lane };
 
     fn work<G: Gate>(&mut self, job: u32, gate: &G) {
-        self.lane
-            .serve(self.rt, self.alloc, self.input, self.service, job, gate);
+        self.lane.serve(
+            self.rt,
+            self.alloc,
+            self.input,
+            self.service,
+            self.settle,
+            job,
+            gate,
+        );
     }
 }
 
@@ -64,15 +76,17 @@ fn lane_for(
 }
 
 /// A lane for each worker, with passes split off the opening ones.
-pub(crate) fn split<'a, R: Wait>(
+pub(crate) fn split<'a, R: Wait, S: Settle>(
     rt: &'a R,
     alloc: Global,
     input: &'a Input,
     service: &'a Service,
+    settle: &'a S,
     passes: &mut Passes,
-) -> Result<Vec<Work<'a, R>>, AllocError>
+) -> Result<Vec<Work<'a, R, S>>, AllocError>
     requires input { IsInput input.now }
     requires policy { service.now.policy ≡ input.now.policy }
+    requires orders { S.orders settle.now ≡ input.now.orders }
     requires of { AreOf service.now passes.old }
     requires split { HaveSplit 0 passes.old }
     requires left { HasLeft input.now 0 passes.old }
@@ -80,7 +94,7 @@ pub(crate) fn split<'a, R: Wait>(
     ensures split { OnOk result (HaveSplit input.now.workers passes.new) }
     ensures many { IfOk result (λ works. length works.items ≡ input.now.workers) }
     ensures ready { IfOk result (λ works. (k : ℕ) (d : _) → k < input.now.workers
-        → IsWork input.now service.now k (slice_index_or works.items k d)) }
+        → IsWork S.orders input.now service.now k (slice_index_or works.items k d)) }
 {
     let mut works = Vec::with_capacity(alloc, input.workers as usize)?;
     for number in 0..input.workers {
@@ -90,6 +104,7 @@ pub(crate) fn split<'a, R: Wait>(
             alloc,
             input,
             service,
+            settle,
             lane,
         });
     }
@@ -97,12 +112,12 @@ pub(crate) fn split<'a, R: Wait>(
 }
 
 /// Joins the passes of the lanes, whose work is done, and gives the entries of each.
-pub(crate) fn join<R: Wait>(
+pub(crate) fn join<R: Wait, S: Settle>(
     alloc: Global,
     input: &Input,
     service: &Service,
     passes: &mut Passes,
-    works: Vec<Work<'_, R>>,
+    works: Vec<Work<'_, R, S>>,
 ) -> Result<Vec<VecDeque<Entry>>, AllocError>
     requires some { 0 < input.now.workers }
     requires many { length works.items ≡ input.now.workers }
@@ -137,7 +152,8 @@ pub(crate) fn merge(
     requires some { 0 < input.now.workers }
     requires many { length queues.items ≡ input.now.workers }
     requires long { (k : ℕ) (d : _) → k < input.now.workers
-        → length (slice_index_or queues.items k d).items ≡ length (lines_in input.now k input.now.script.entries) }
+        → length (slice_index_or queues.items k d).items
+        ≡ length (lines_in input.now k input.now.script.entries) }
     ensures { (d : _) → IfOk result (λ entries.
         AreMerged input.now (λ k. (slice_index_or queues.items k d).items) entries.items) }
 {

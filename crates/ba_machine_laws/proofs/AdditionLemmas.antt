@@ -14,7 +14,7 @@ use Rattle.ba_model.specs.declared.query.Query.{Query}
 use Rattle.ba_machine_laws.proofs.BetweenLemmas.{same_true}
 use Rattle.ba_machine_laws.proofs.HistoryLemmas.{on_its_shelf}
 use Rattle.ba_machine_laws.specs.OneWorker.{Addition, added_with, kept_as, place_among}
-use Rattle.ba_session.specs.Asking.{IsKept, IsLook, Replies, look_at}
+use Rattle.ba_session.specs.Asking.{IsKept, IsLook, Replies, look_at, question}
 use Rattle.ba_session.specs.Passing.{ShelfCalls, on_shelf}
 use Rattle.ba_session.specs.declared.reply.By.TheVariants as by
 use Rattle.ba_session.specs.declared.reply.Keeping.{Keeping}
@@ -22,6 +22,7 @@ use Rattle.ba_session.specs.declared.reply.Keeping.TheVariants as keeping
 use Rattle.ba_session.specs.declared.reply.Reply.{Reply}
 use Rattle.ba_session.specs.declared.reply.Reply.TheVariants.{Answer, Blocked, Unread, NoMemory}
 use Rattle.ba_session.specs.declared.request.Request.{Request}
+use Rattle.ba_settle.specs.Settling.{Effort}
 use Rattle.ba_template.specs.Shapes.{shape_of, shard_of}
 
 -- ---- as many as are counted
@@ -127,12 +128,12 @@ interrupted made query tried (inl refused) e =
     looks calls.Refused [] (on_its_shelf query made tried e) calls_are (ap templates_of calls_are) refl no_look_in_none
 interrupted made query tried (inr (found, is)) e = look_calls made query found NoMemory (e ∙ ap (on_shelf query) is) refl
 
-pub question_calls : (policy : Policy) (asker : Request) (budget : ℕ) (text : List ℕ) (made : ShelfCalls) (reply : Reply) → Replies policy asker budget text made reply → QuestionCalls made.shard made.calls reply
-question_calls policy asker budget text made (Answer query rows (by.Cover cover)) h = none h.ground.1 refl
-question_calls policy asker budget text made (Answer query rows (by.Template shard id it)) h = look_calls made query h.ground.found (Answer query rows (by.Template shard id it)) h.ground.made_is refl
-question_calls policy asker budget text made (Answer query rows (by.Proof steps it)) h =
-    kept_calls made query h.ground.found _ it h.ground.rest (Answer query rows (by.Proof steps it)) h.ground.kept_is h.ground.made_is refl
-question_calls policy asker budget text made (Blocked query why) h = look_calls made query h.denied.found (Blocked query why) h.denied.made_is refl
-question_calls policy asker budget text made (Unread fault) h = none h.1 refl
-question_calls policy asker budget text made NoMemory (inl h) = none h refl
-question_calls policy asker budget text made NoMemory (inr (query, reads, h)) = interrupted made query h.calls h.look h.made_is
+pub question_calls : (policy : Policy) (asker : Request) (effort : Effort) (text : List ℕ) (made : ShelfCalls) (reply : Reply) → Replies policy asker effort text made reply → QuestionCalls made.shard made.calls reply
+question_calls policy asker effort text made (Answer query rows (by.Cover cover)) h = none h.ground.1 refl
+question_calls policy asker effort text made (Answer query rows (by.Template shard id template it)) h = look_calls made query h.ground.found (Answer query rows (by.Template shard id template it)) h.ground.made_is refl
+question_calls policy asker effort text made (Answer query rows (by.Proof steps it)) h =
+    kept_calls made query h.ground.found (record { problem = question policy asker query; steps = steps }) it h.ground.rest (Answer query rows (by.Proof steps it)) h.ground.kept_is h.ground.made_is refl
+question_calls policy asker effort text made (Blocked query why) h = look_calls made query h.denied.found (Blocked query why) h.denied.made_is refl
+question_calls policy asker effort text made (Unread fault) h = none h.1 refl
+question_calls policy asker effort text made NoMemory (inl h) = none h refl
+question_calls policy asker effort text made NoMemory (inr (query, reads, h)) = interrupted made query h.calls h.look h.made_is

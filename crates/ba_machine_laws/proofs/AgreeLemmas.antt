@@ -26,6 +26,7 @@ use Rattle.ba_session.specs.declared.reply.By.TheVariants as by
 use Rattle.ba_session.specs.declared.reply.Reply.{Reply}
 use Rattle.ba_session.specs.declared.reply.Reply.TheVariants.{Answer, Blocked, Unread, NoMemory}
 use Rattle.ba_session.specs.declared.request.Request.{Request}
+use Rattle.ba_settle.specs.Settling.{Effort}
 use Rattle.ba_template.specs.declared.found.Match.{Match}
 
 -- ---- the beginning
@@ -62,15 +63,15 @@ proof_answers : (proof : Proof) → grounds.Proof proof ≢ grounds.Refuse
 proof_answers proof e = true≢false (sym (ap is_refusal e))
 
 -- the template that serves was admitted under its number
-pub admitted : (number : ℕ → ℕ → ℕ) (policy : Policy) (s : State) (asker : Request) (query : Query) (shard id : ℕ) (it : Match) (made : ShelfCalls) → HasFound number s made →
-    (g : asking.IsServed policy asker query shard id it made) → slice_get s.templates (number shard id) ≡ Some g.first.template
-admitted number policy s asker query shard id it made found g =
-    let one = kept id g.first.template in
+pub admitted : (number : ℕ → ℕ → ℕ) (policy : Policy) (s : State) (asker : Request) (query : Query) (shard id : ℕ) (template : Proof) (it : Match) (made : ShelfCalls) → HasFound number s made →
+    asking.IsServed policy asker query shard id template it made → slice_get s.templates (number shard id) ≡ Some template
+admitted number policy s asker query shard id template it made found g =
+    let one = kept id template in
     let looked : Contains made.calls (look_at query g.found) = subst (λ m. Contains m.calls (look_at query g.found)) (sym g.made_is) (Contains-push [] (look_at query g.found)) in
     let front : Contains (one ∷ g.first.after) one = (0, omega arith, refl) in
     let among : Contains g.found one = subst (λ its. Contains its one) (sym g.first.found_is) (Contains-append_right g.first.before (one ∷ g.first.after) one front) in
     let same : made.shard ≡ shard = ap (λ m. m.shard) g.made_is ∙ sym g.shard_is in
-    subst (λ n. slice_get s.templates (number n id) ≡ Some g.first.template) same (found.each query g.found one looked among)
+    subst (λ n. slice_get s.templates (number n id) ≡ Some template) same (found.each query g.found one looked among)
 
 -- ---- replies
 
@@ -95,32 +96,32 @@ module _ (number : ℕ → ℕ → ℕ) (s : State) (k : ℕ) (asker : Request) 
           has = record { is_for = record { policy_is = refl; tables_are = has.is_for.tables_are }; is_open = here };
         }
 
-    answered : (budget : ℕ) (query : Query) (made : ShelfCalls) (basis : By) (rows : List (List Value)) → HasFound number s made → IsGround s.policy asker budget query basis made →
+    answered : (effort : Effort) (query : Query) (made : ShelfCalls) (basis : By) (rows : List (List Value)) → HasFound number s made → IsGround s.policy asker effort query basis made →
         IsAnswer query asker.context asker.tables.rows rows →
         IsToldBy s.policy s k (events.Ask k query (ground_of number s.policy asker query basis)) (replies.Asked (asked.Answer rows)) (after asker (Answer query rows basis))
-    answered budget query made (by.Cover cover) rows found ground answer = told query (by.Cover cover) rows (grounds.Cover cover) ground.0 tt (cover_answers cover) answer
-    answered budget query made (by.Template shard id it) rows found ground answer =
-        let there = admitted number s.policy s asker query shard id it made found ground in
-        told query (by.Template shard id it) rows (grounds.Template (number shard id) it)
-        (record { template = ground.first.template; there = there; is_match = ground.first.first.is_match })
-        (slice_get_within s.templates (number shard id) ground.first.template there) (template_answers (number shard id) it) answer
-    answered budget query made (by.Proof steps keeping) rows found ground answer =
+    answered effort query made (by.Cover cover) rows found ground answer = told query (by.Cover cover) rows (grounds.Cover cover) ground.0 tt (cover_answers cover) answer
+    answered effort query made (by.Template shard id template it) rows found ground answer =
+        let there = admitted number s.policy s asker query shard id template it made found ground in
+        told query (by.Template shard id template it) rows (grounds.Template (number shard id) it)
+        (record { template = template; there = there; is_match = ground.first.first.is_match })
+        (slice_get_within s.templates (number shard id) template there) (template_answers (number shard id) it) answer
+    answered effort query made (by.Proof steps keeping) rows found ground answer =
         let proof : Proof = record { problem = question s.policy asker query; steps = steps } in
         told query (by.Proof steps keeping) rows (grounds.Proof proof) refl tt (proof_answers proof) answer
 
-    agrees : (budget : ℕ) (text : List ℕ) (made : ShelfCalls) (reply : Reply) → HasFound number s made → Replies s.policy asker budget text made reply → AgreesOn number s.policy s k asker reply
-    agrees budget text made (Answer query rows basis) found h = answered budget query made basis rows found h.ground h.released.answer
-    agrees budget text made (Blocked query why) found h =
+    agrees : (effort : Effort) (text : List ℕ) (made : ShelfCalls) (reply : Reply) → HasFound number s made → Replies s.policy asker effort text made reply → AgreesOn number s.policy s k asker reply
+    agrees effort text made (Answer query rows basis) found h = answered effort query made basis rows found h.ground h.released.answer
+    agrees effort text made (Blocked query why) found h =
         record { new = s; is_reply = blocked_reply s k (opened_of asker) query has.is_open h.denied.uncovered; has = stays }
-    agrees budget text made (Unread fault) found h = stays
-    agrees budget text made NoMemory found h = stays
+    agrees effort text made (Unread fault) found h = stays
+    agrees effort text made NoMemory found h = stays
 
 pub ask_agrees : AnswerIsUnique → AskAgrees
-ask_agrees unique number policy s k asker budget text made reply has found replies =
+ask_agrees unique number policy s k asker effort text made reply has found replies =
     let own : HasRequest s.policy s k asker =
     record { is_for = record { policy_is = refl; tables_are = has.is_for.tables_are }; is_open = has.is_open } in
     subst (λ p. AgreesOn number p s k asker reply) has.is_for.policy_is
-    (agrees number s k asker own unique budget text made reply found (subst (λ p. Replies p asker budget text made reply) (sym has.is_for.policy_is) replies))
+    (agrees number s k asker own unique effort text made reply found (subst (λ p. Replies p asker effort text made reply) (sym has.is_for.policy_is) replies))
 
 -- ---- the end
 

@@ -1,5 +1,5 @@
 -- What a machine has between two lines of a script: the chosen requests that are open there, as they stand.
-use Rattle.std.proofs.Common.{◌≡◌, ◌≢◌, ◌∙◌, ℕ, ◌+◌, ◌<◌, ◌≤◌, ◌==◌, Bool, true, false, cond, List, [], ◌∷◌, ◌++◌, Contains, None, Some, ap, append-nil, arith, inl, inr, length, length-append, refl, slice_get, subst, sym, ◌⊎◌}
+use Rattle.std.proofs.Common.{◌≡◌, ◌≢◌, ◌∙◌, ℕ, ◌+◌, ◌<◌, ◌≤◌, ◌==◌, Bool, true, false, cond, List, [], ◌∷◌, ◌++◌, Contains, None, Option, Some, ap, append-nil, arith, inl, inr, length, length-append, refl, slice_get, subst, sym, ◌⊎◌}
 use Rattle.std.proofs.lemmas.Bool.Decides.{eqb_tells}
 use Rattle.std.proofs.lemmas.List.Concat.{flat_map-append}
 use Rattle.std.proofs.lemmas.List.Elements.{Contains-push_cases}
@@ -7,16 +7,20 @@ use Rattle.std.proofs.lemmas.Option.{same_Some}
 use Rattle.ba_machine_laws.specs.Agreeing.{HasRequest, opened_of}
 use Rattle.ba_core.specs.State.{State, opened_at}
 use Rattle.ba_core.specs.declared.opened.Opened.{Opened}
-use Rattle.ba_lanes.specs.Legal.{IsRequest, LineDone, answer_of, begins, context_in, contexts_of, trace_of}
+use Rattle.ba_comply.specs.declared.trace.TraceEntry.{TraceEntry}
+use Rattle.ba_input.specs.declared.input.Input.{Input}
+use Rattle.ba_lanes.proofs.ServeLemmas.{answers_other, asked_is_no_begin, memory_is_no_begin}
+use Rattle.ba_lanes.specs.Legal.{IsRequest, LineDone, answer_of, asked, begins, context_in, contexts_of, trace_of}
 use Rattle.ba_lanes.specs.declared.journal.Entry.{Entry}
-use Rattle.ba_lanes.specs.declared.journal.Entry.TheVariants.{Begin, Unbegun, Ask, End, Publish, NoMemory}
-use Rattle.ba_lanes.specs.declared.journal.Input.{Input}
+use Rattle.ba_lanes.specs.declared.journal.Entry.TheVariants.{Begin, End, Publish, Memory}
+use Rattle.ba_lanes.specs.declared.journal.LineKind.{LineKind}
 use Rattle.ba_model.specs.declared.policy.Policy.{Policy}
 use Rattle.ba_machine_laws.proofs.ScriptLemmas.{IsOpenAfter, Opens, WasOpen, next_number, opened_before}
 use Rattle.ba_script.specs.Scripts.{NumberedFrom}
 use Rattle.ba_script.specs.declared.entry.ScriptEntry.{ScriptEntry}
 use Rattle.ba_session.specs.Asking.{IsRequestOf, answer_in}
 use Rattle.ba_session.specs.declared.reply.Reply.{Reply}
+use Rattle.ba_session.specs.declared.reply.Reply.TheVariants as replied
 use Rattle.ba_session.specs.declared.request.Request.{Request}
 use Rattle.ba_tables.specs.TableSet.{TableSet}
 
@@ -76,32 +80,28 @@ quiet_begin k r version it is differ = quiet_by k it (Begin r version) is refl (
     begun_same : (r v k w : ℕ) → Begin r v ≡ Begin k w → r ≡ k
     begun_same r v k w e = cc
 
-pub quiet_unbegun : (k r : ℕ) (it : LineDone) → it.entry ≡ Unbegun r → IsQuiet k it
-quiet_unbegun k r it is = quiet_by k it (Unbegun r) is refl (λ v e. apart r k v e)
-  where
-    apart : (r k v : ℕ) → Unbegun r ≡ Begin k v → ⊥
-    apart r k v e = cc
-
-ask_begin : (r v : ℕ) (reply : Reply) (k w : ℕ) → Ask r v reply ≡ Begin k w → ⊥
-ask_begin r v reply k w e = cc
-
-pub quiet_ask : (k r version : ℕ) (reply : Reply) (it : LineDone) → it.entry ≡ Ask r version reply → k ≢ r → IsQuiet k it
-quiet_ask k r version reply it is differ =
-    quiet_by k it (Ask r version reply) is (ap (λ t. cond t (answer_in reply) []) (differ_false r k (λ e. differ (sym e)))) (λ v e. ask_begin r version reply k v e)
+pub quiet_ask : (k r version : ℕ) (reply : Reply) (it : LineDone) → it.entry ≡ asked r version reply → k ≢ r → IsQuiet k it
+quiet_ask k r version reply it is differ = quiet_by k it (asked r version reply) is (answers_other r version k reply differ) (λ v e. asked_is_no_begin r version reply k v e)
 
 -- a reply without an answer
-pub quiet_reply : (k r version : ℕ) (reply : Reply) (it : LineDone) → it.entry ≡ Ask r version reply → answer_in reply ≡ [] → IsQuiet k it
-quiet_reply k r version reply it is none = quiet_by k it (Ask r version reply) is (by (r == k)) (λ v e. ask_begin r version reply k v e)
+pub quiet_reply : (k r version : ℕ) (reply : Reply) (it : LineDone) → it.entry ≡ asked r version reply → answer_in reply ≡ [] → IsQuiet k it
+quiet_reply k r version reply it is none = quiet_by k it (asked r version reply) is (told reply none) (λ v e. asked_is_no_begin r version reply k v e)
   where
-    by : (t : Bool) → cond t (answer_in reply) [] ≡ []
-    by true = none
-    by false = refl
+    by : (xs : List TraceEntry) (t : Bool) → xs ≡ [] → cond t xs [] ≡ []
+    by xs true e = e
+    by xs false e = refl
 
-pub quiet_end : (k r : ℕ) (it : LineDone) → it.entry ≡ End r → IsQuiet k it
-quiet_end k r it is = quiet_by k it (End r) is refl (λ v e. apart r k v e)
+    told : (reply : Reply) → answer_in reply ≡ [] → answer_of k (asked r version reply) ≡ []
+    told (replied.Answer query rows basis) e = by (answer_in (replied.Answer query rows basis)) (r == k) e
+    told (replied.Blocked query why) e = by [] (r == k) e
+    told (replied.Unread fault) e = by [] (r == k) e
+    told replied.NoMemory e = refl
+
+pub quiet_end : (k r version : ℕ) (it : LineDone) → it.entry ≡ End r version → IsQuiet k it
+quiet_end k r version it is = quiet_by k it (End r version) is refl (λ v e. apart r version k v e)
   where
-    apart : (r k v : ℕ) → End r ≡ Begin k v → ⊥
-    apart r k v e = cc
+    apart : (r version k v : ℕ) → End r version ≡ Begin k v → ⊥
+    apart r version k v e = cc
 
 pub quiet_publish : (k n : ℕ) (it : LineDone) → it.entry ≡ Publish n → IsQuiet k it
 quiet_publish k n it is = quiet_by k it (Publish n) is refl (λ v e. apart n k v e)
@@ -109,11 +109,8 @@ quiet_publish k n it is = quiet_by k it (Publish n) is refl (λ v e. apart n k v
     apart : (n k v : ℕ) → Publish n ≡ Begin k v → ⊥
     apart n k v e = cc
 
-pub quiet_unserved : (k : ℕ) (it : LineDone) → it.entry ≡ NoMemory → IsQuiet k it
-quiet_unserved k it is = quiet_by k it NoMemory is refl (λ v e. apart k v e)
-  where
-    apart : (k v : ℕ) → NoMemory ≡ Begin k v → ⊥
-    apart k v e = cc
+pub quiet_memory : (k : ℕ) (kind : LineKind) (request version : Option ℕ) (it : LineDone) → it.entry ≡ Memory kind request version → IsQuiet k it
+quiet_memory k kind request version it is = quiet_by k it (Memory kind request version) is refl (λ v e. memory_is_no_begin kind request version k v e)
 
 -- ---- between two lines
 

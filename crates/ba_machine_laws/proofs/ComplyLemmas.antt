@@ -7,8 +7,8 @@ use Rattle.ba_machine_laws.specs.Whole.{AreSound}
 use Rattle.ba_comply.specs.Comply.{Complies, Strong, StrongComplies}
 use Rattle.ba_core.specs.State.{State}
 use Rattle.ba_direct.specs.Cover.{CoverCovers, CoveredIsStrong}
-use Rattle.ba_instant.specs.Dues.{Searches}
-use Rattle.ba_instant.specs.declared.order.Pick.{Pick}
+use Rattle.ba_settle.specs.Dues.{Searches}
+use Rattle.ba_settle.specs.declared.order.Pick.{Pick}
 use Rattle.ba_kernel.proofs.StepFits.{All-at}
 use Rattle.ba_kernel.specs.Asked.{AnswersAreRecords, QuestionFits, QuestionIsProblem}
 use Rattle.ba_kernel.specs.Courses.{ClosedIsStrong, Slots}
@@ -27,6 +27,7 @@ use Rattle.ba_session.specs.Passing.{ShelfCalls}
 use Rattle.ba_session.specs.declared.reply.By.{By}
 use Rattle.ba_session.specs.declared.reply.By.TheVariants as by
 use Rattle.ba_session.specs.declared.request.Request.{Request}
+use Rattle.ba_settle.specs.Settling.{Effort}
 use Rattle.ba_template.specs.Found.{MatchedIsStrong}
 
 -- the laws of the crates below on which it rests
@@ -44,25 +45,24 @@ runs_of : {pick : Pick} {p : Problem} {taken : List Step} {slots : Slots} → Se
 runs_of (Searches.start h) = courses.Runs.start h
 runs_of (Searches.next before each picked takes) = courses.Runs.next (runs_of before) takes
 
-strong_by : Grounds → (number : ℕ → ℕ → ℕ) (policy : Policy) (t : State) (asker : Request) (budget : ℕ) (query : Query) (made : ShelfCalls) (basis : By) → IsChecked policy → AreSound t →
-    HasFound number t made → IsRequestOf policy asker → IsQuery policy.schema (kinds_of policy.params) [] query → IsGround policy asker budget query basis made →
+strong_by : Grounds → (number : ℕ → ℕ → ℕ) (policy : Policy) (t : State) (asker : Request) (effort : Effort) (query : Query) (made : ShelfCalls) (basis : By) → IsChecked policy → AreSound t →
+    HasFound number t made → IsRequestOf policy asker → IsQuery policy.schema (kinds_of policy.params) [] query → IsGround policy asker effort query basis made →
     Strong policy asker.context asker.trace query
-strong_by laws number policy t asker budget query made (by.Cover cover) checked sound found may asks ground =
+strong_by laws number policy t asker effort query made (by.Cover cover) checked sound found may asks ground =
     laws.covered policy asker.context asker.trace query checked.fits may.context (laws.covers policy asker.context query cover ground.0)
-strong_by laws number policy t asker budget query made (by.Template shard id it) checked sound found may asks ground =
-    let there = admitted number policy t asker query shard id it made found ground in
-    let template = ground.first.template in
+strong_by laws number policy t asker effort query made (by.Template shard id template it) checked sound found may asks ground =
+    let there = admitted number policy t asker query shard id template it made found ground in
     laws.matched template.problem policy asker.context asker.trace query it
     (All-at (λ (it : Proof). StrongAll it.problem) t.templates (number shard id) template sound there) may.context ground.first.first.is_match
-strong_by laws number policy t asker budget query made (by.Proof steps keeping) checked sound found may asks ground =
+strong_by laws number policy t asker effort query made (by.Proof steps keeping) checked sound found may asks ground =
     let fits : QuestionFits policy asker.context asker.trace query = question_fits laws.records policy asker query checked may asks in
     laws.problem policy asker.context asker.trace query may.context
-    (laws.closed (question policy asker query) steps ground.proof.slots (laws.question policy asker.context asker.trace query fits) (runs_of ground.proof.searches) ground.proof.closed)
+    (laws.closed (question policy asker query) steps ground.proof.1.slots (laws.question policy asker.context asker.trace query fits) (runs_of ground.proof.1.searches) ground.proof.1.closed)
 
 -- an answer complies on a machine that has the request
 pub answers_comply : Grounds → AnswersComply
-answers_comply laws number policy t k asker budget query rows made basis checked has sound found may asks ground answer =
-    let strong = strong_by laws number policy t asker budget query made basis checked sound found may asks ground in
+answers_comply laws number policy t k asker effort query rows made basis checked has sound found may asks ground answer =
+    let strong = strong_by laws number policy t asker effort query made basis checked sound found may asks ground in
     record {
       asker = opened_of asker;
       is_open = has.is_open;

@@ -18,14 +18,14 @@ use Rattle.ba_cache.specs.declared.call.Admit.TheVariants.{Added, Known}
 use Rattle.ba_cache.specs.declared.call.ShelfCall.{ShelfCall}
 use Rattle.ba_cache.specs.declared.call.ShelfCall.TheVariants as calls
 use Rattle.ba_core.specs.State.{State}
+use Rattle.ba_input.specs.declared.input.Input.{Input}
 use Rattle.ba_kernel.specs.Problems.{StrongAll}
 use Rattle.ba_kernel.specs.Tests.{Proof}
 use Rattle.ba_lanes.proofs.JoinLemmas.{told_by}
 use Rattle.ba_lanes.proofs.MergeLemmas.{lane_low}
 use Rattle.ba_lanes.proofs.ServeLemmas.{same_length}
 use Rattle.ba_lanes.specs.Lanes.{AreOfLanes, of_lane}
-use Rattle.ba_lanes.specs.Legal.{Legal, LineDone, done_in, lane_of, pin_of}
-use Rattle.ba_lanes.specs.declared.journal.Input.{Input}
+use Rattle.ba_lanes.specs.Legal.{Legal, LineDone, done_in, lane_of, pin_of, shelf_calls_of}
 use Rattle.ba_lanes.specs.declared.journal.Journal.{Journal}
 use Rattle.ba_model.specs.declared.query.Query.{Query}
 use Rattle.ba_machine_laws.specs.Journals.{IsMachineOf, number_by_shelf, templates_in}
@@ -35,6 +35,7 @@ use Rattle.ba_session.specs.declared.reply.By.TheVariants as by
 use Rattle.ba_session.specs.declared.reply.Reply.{Reply}
 use Rattle.ba_session.specs.declared.reply.Reply.TheVariants.{Answer, Blocked, Unread, NoMemory}
 use Rattle.ba_session.specs.declared.request.Request.{Request}
+use Rattle.ba_settle.specs.Settling.{Effort}
 use Rattle.ba_model.specs.declared.policy.Policy.{Policy}
 use Rattle.ba_tables.specs.TableSet.{TableSet}
 use Rattle.ba_template.specs.Shapes.{shape_of, shard_of}
@@ -156,7 +157,7 @@ on_its_shelf query made calls e =
 -- a call of the line is one of the histories
 pub record IsMade (journal : Journal) (it : LineDone) : Type 0 where
   pub versions : (c : VersionCall) → Contains it.made.versions c → Contains (calls_of journal.histories.versions) c
-  pub shelves : (k : ℕ) (d : ClosedShelf) → k < 8 → (c : ShelfCall) → Contains (calls_on k it.made.shelves) c → Contains (shelf.calls_of (get_or journal.histories.shelves.items k d).0) c
+  pub shelves : (k : ℕ) (d : ClosedShelf) → k < 8 → (c : ShelfCall) → Contains (shelf_calls_of k it) c → Contains (shelf.calls_of (get_or journal.histories.shelves.items k d).0) c
 
 module _ {L X : Type 0} (P : X → Type 0) (lane : L → ℕ) (w : ℕ) (low : (line : L) → lane line < w) where
   -- what holds of the elements of each lane holds of all
@@ -184,7 +185,7 @@ each_part f S (x ∷ xs) all =
 -- the calls of the lines of each lane stand in the history of all lanes
 of_lanes : {E : Type 0} (input : Input) (served : List LineDone) (f : LineDone → List E) (made : List E) (numbers : List ℕ) →
     0 < input.workers → length served ≡ length input.script.entries →
-    AreOfLanes input.workers (λ k. flat_map f (done_in input served k)) made numbers → All (λ it. (c : E) → Contains (f it) c → Contains made c) served
+    AreOfLanes [] input.workers (λ k. flat_map f (done_in input served k)) made numbers → All (λ it. (c : E) → Contains (f it) c → Contains made c) served
 of_lanes input served f made numbers some long h =
     all_lanes (λ it. (c : _) → Contains (f it) c → Contains made c) (lane_of input.workers) input.workers (lane_low input some) input.script.entries served long
     (λ k below. each_part f (Contains made) (done_in input served k)
@@ -198,15 +199,15 @@ module _ (input : Input) (journal : Journal) (legal : Legal input journal) where
   on_versions = of_lanes input legal.served (λ it. it.made.versions) (calls_of journal.histories.versions) journal.histories.numbers.items legal.input_fits.workers.0 long legal.versions.calls
 
   on_shelves : (k : ℕ) (d : ClosedShelf) → k < 8 →
-      All (λ it. (c : ShelfCall) → Contains (calls_on k it.made.shelves) c → Contains (shelf.calls_of (get_or journal.histories.shelves.items k d).0) c) legal.served
+      All (λ it. (c : ShelfCall) → Contains (shelf_calls_of k it) c → Contains (shelf.calls_of (get_or journal.histories.shelves.items k d).0) c) legal.served
   on_shelves k d below =
       let it = get_or journal.histories.shelves.items k d in
-      of_lanes input legal.served (λ it. calls_on k it.made.shelves) (shelf.calls_of it.0) it.1.items legal.input_fits.workers.0 long (legal.shelves.each k d below).calls
+      of_lanes input legal.served (λ it. shelf_calls_of k it) (shelf.calls_of it.0) it.1.items legal.input_fits.workers.0 long (legal.shelves.each k d below).calls
 
   pub all_made : All (IsMade journal) legal.served
   all_made = All-weaker (Contains legal.served) (IsMade journal) (λ it among. record {
     versions = All-contains (λ it. (c : VersionCall) → Contains it.made.versions c → Contains (calls_of journal.histories.versions) c) legal.served it on_versions among;
-    shelves = λ k d below. All-contains (λ it. (c : ShelfCall) → Contains (calls_on k it.made.shelves) c → Contains (shelf.calls_of (get_or journal.histories.shelves.items k d).0) c) legal.served it (on_shelves k d below) among;
+    shelves = λ k d below. All-contains (λ it. (c : ShelfCall) → Contains (shelf_calls_of k it) c → Contains (shelf.calls_of (get_or journal.histories.shelves.items k d).0) c) legal.served it (on_shelves k d below) among;
   }) legal.served (All-contains_itself legal.served)
 
 -- ---- the shelves' histories
@@ -224,14 +225,14 @@ all_legal input journal legal =
 -- ---- templates that are found
 
 -- the calls of a question stand on a shelf, if it makes any
-pub on_some_shelf : (policy : Policy) (asker : Request) (budget : ℕ) (text : List ℕ) (made : ShelfCalls) (reply : Reply) → Replies policy asker budget text made reply → (made.calls ≡ []) ⊎ (made.shard < 8)
-on_some_shelf policy asker budget text made (Answer query rows (by.Cover cover)) h = inl h.ground.1
-on_some_shelf policy asker budget text made (Answer query rows (by.Template shard id found)) h = inr (on_its_shelf query made _ h.ground.made_is)
-on_some_shelf policy asker budget text made (Answer query rows (by.Proof steps keeping)) h = inr (on_its_shelf query made _ h.ground.made_is)
-on_some_shelf policy asker budget text made (Blocked query why) h = inr (on_its_shelf query made _ h.denied.made_is)
-on_some_shelf policy asker budget text made (Unread fault) h = inl h.1
-on_some_shelf policy asker budget text made NoMemory (inl none) = inl none
-on_some_shelf policy asker budget text made NoMemory (inr (query, reads, h)) = inr (on_its_shelf query made _ h.made_is)
+pub on_some_shelf : (policy : Policy) (asker : Request) (effort : Effort) (text : List ℕ) (made : ShelfCalls) (reply : Reply) → Replies policy asker effort text made reply → (made.calls ≡ []) ⊎ (made.shard < 8)
+on_some_shelf policy asker effort text made (Answer query rows (by.Cover cover)) h = inl h.ground.1
+on_some_shelf policy asker effort text made (Answer query rows (by.Template shard id template found)) h = inr (on_its_shelf query made _ h.ground.made_is)
+on_some_shelf policy asker effort text made (Answer query rows (by.Proof steps keeping)) h = inr (on_its_shelf query made _ h.ground.made_is)
+on_some_shelf policy asker effort text made (Blocked query why) h = inr (on_its_shelf query made _ h.denied.made_is)
+on_some_shelf policy asker effort text made (Unread fault) h = inl h.1
+on_some_shelf policy asker effort text made NoMemory (inl none) = inl none
+on_some_shelf policy asker effort text made NoMemory (inr (query, reads, h)) = inr (on_its_shelf query made _ h.made_is)
 
 -- the shelves of a journal, each with a legal history, beside a machine for it
 module _ (input : Input) (journal : Journal) (s : State) (machine : IsMachineOf input journal s)
@@ -243,18 +244,19 @@ module _ (input : Input) (journal : Journal) (s : State) (machine : IsMachineOf 
   pub all_sound : AreSound s
   all_sound = subst (All Sound) (sym machine.templates_are) (all_flat Sound added_on its (All-weaker IsLegal (λ it. All Sound (added_on it)) (λ it h. sound_of h) its legal))
 
-  -- what the calls of a line found was admitted to it
-  pub all_found : FoundIsAdmitted → (it : LineDone) → IsMade journal it → (it.made.shelves.calls ≡ []) ⊎ (it.made.shelves.shard < 8) → HasFound (number_by_shelf journal) s it.made.shelves
-  all_found law it made (inl none) = record {
+  -- what the calls of a line for its query found was admitted to it
+  pub all_found : FoundIsAdmitted → (it : LineDone) → IsMade journal it → (calls : ShelfCalls) → ((k : ℕ) → shelf_calls_of k it ≡ calls_on k calls) → (calls.calls ≡ []) ⊎ (calls.shard < 8) →
+      HasFound (number_by_shelf journal) s calls
+  all_found law it made calls are (inl none) = record {
     each = λ query found k look among. absurd (nothing (look_at query found) (subst (λ z. Contains z (look_at query found)) none look));
   }
-  all_found law it made (inr below) =
+  all_found law it made calls are (inr below) =
       let d = some_shelf its eight in
-      let k = it.made.shelves.shard in
+      let k = calls.shard in
       let one = get_or its k d in
       let low : k < length its = omega (arith, below, eight) in
       let has : HasAdmitted (length (templates_in (take k its))) s (shelf.calls_of one.0) = record {
         each = λ n template there. ap (λ z. slice_get z (length (templates_in (take k its)) + n)) machine.templates_are ∙ in_part added_on its k n d template low there;
       } in
-      law (λ shard. length (templates_in (take shard its))) s it.made.shelves (shelf.calls_of one.0) (shelf.rows_of one.0) (All-get_or IsLegal its k d low legal) has
-      (λ c there. made.shelves k d below c (subst (λ t. Contains (cond t it.made.shelves.calls []) c) (sym (same_number k)) there))
+      law (λ shard. length (templates_in (take shard its))) s calls (shelf.calls_of one.0) (shelf.rows_of one.0) (All-get_or IsLegal its k d low legal) has
+      (λ c there. made.shelves k d below c (subst (λ z. Contains z c) (sym (are k)) (subst (λ t. Contains (cond t calls.calls []) c) (sym (same_number k)) there)))

@@ -1,5 +1,5 @@
 -- What a machine does at the entry of one line.
-use Rattle.std.proofs.Common.{◌≡◌, ◌≢◌, ◌∙◌, ℕ, ◌<◌, ◌≤◌, ◌==◌, Bool, true, false, cond, List, [], ◌∷◌, ◌++◌, Contains, Some, ap, arith, inl, inr, length, map, refl, slice_get, subst, sym, true≢false, ◌⊎◌}
+use Rattle.std.proofs.Common.{◌≡◌, ◌≢◌, ◌∙◌, ℕ, ◌<◌, ◌≤◌, ◌==◌, Bool, true, false, List, [], ◌∷◌, ◌++◌, Contains, Some, ap, arith, inl, inr, length, map, refl, slice_get, subst, sym, true≢false, ◌⊎◌}
 use Rattle.std.proofs.lemmas.Bool.Decides.{eqb_tells}
 use Rattle.std.proofs.lemmas.List.Elements.{All-contains, All-nil, All-push, Contains-append_right, Contains-push_cases}
 use Rattle.std.specs.Str.{bytes_eq}
@@ -14,10 +14,12 @@ use Rattle.ba_core.specs.Steps as core
 use Rattle.ba_core.specs.declared.event.CoreReply.TheVariants as replies
 use Rattle.ba_core.specs.declared.event.Event.TheVariants as events
 use Rattle.ba_core.specs.declared.opened.Opened.{Opened}
-use Rattle.ba_lanes.specs.Legal.{IsAsk, IsRequest, LineDone, answer_of, begins, contexts_of, trace_in, trace_of}
+use Rattle.ba_input.specs.Inputs.{effort_of}
+use Rattle.ba_input.specs.declared.input.Input.{Input}
+use Rattle.ba_lanes.proofs.ServeLemmas.{answers_own, asked_is_no_begin}
+use Rattle.ba_lanes.specs.Legal.{IsAsk, IsRequest, LineDone, answer_of, asked, begins, contexts_of, trace_in, trace_of}
 use Rattle.ba_lanes.specs.declared.journal.Entry.{Entry}
-use Rattle.ba_lanes.specs.declared.journal.Entry.TheVariants.{Begin, Ask, End}
-use Rattle.ba_lanes.specs.declared.journal.Input.{Input}
+use Rattle.ba_lanes.specs.declared.journal.Entry.TheVariants.{Begin, End}
 use Rattle.ba_lanes.specs.declared.journal.Journal.{Journal}
 use Rattle.ba_model.specs.Conform.{Conforms}
 use Rattle.ba_model.specs.Fit.{IsQuery, kinds_of}
@@ -26,7 +28,7 @@ use Rattle.ba_model.specs.declared.policy.Context.{Context}
 use Rattle.ba_model.specs.declared.policy.Policy.{Policy}
 use Rattle.ba_model.specs.declared.query.Query.{Query}
 use Rattle.ba_model.specs.declared.value.Value.{Value}
-use Rattle.ba_machine_laws.proofs.BetweenLemmas.{Between, IsQuiet, Keeps, Stands, contexts_more, goes_on, kept, quiet_ask, quiet_begin, quiet_end, quiet_reply, same_request, same_true, trace_more}
+use Rattle.ba_machine_laws.proofs.BetweenLemmas.{Between, IsQuiet, Keeps, Stands, contexts_more, goes_on, kept, quiet_ask, quiet_begin, quiet_end, quiet_reply, same_request, trace_more}
 use Rattle.ba_machine_laws.proofs.ScriptLemmas.{IsOpenAfter, Opens, WasOpen, has_begun, has_context, next_number, not_apart, one_name, opened_before}
 use Rattle.ba_machine_laws.proofs.TakesLemmas.{Takes}
 use Rattle.ba_machine_laws.specs.Journals.{event_of, reply_of, standing}
@@ -41,6 +43,7 @@ use Rattle.ba_session.specs.declared.reply.Reply.{Reply}
 use Rattle.ba_session.specs.declared.reply.Reply.TheVariants.{Answer, Blocked, Unread}
 use Rattle.ba_session.specs.declared.reply.Reply.TheVariants as reply
 use Rattle.ba_session.specs.declared.request.Request.{Request}
+use Rattle.ba_settle.specs.Settling.{Effort}
 use Rattle.ba_tables.specs.TableSet.{TableSet}
 use Rattle.ba_versions.specs.Reads.{versions_of}
 use Rattle.ba_versions.specs.declared.call.VersionCall.{VersionCall}
@@ -50,9 +53,9 @@ use Rattle.ba_versions.specs.declared.call.VersionCall.TheVariants as call
 
 -- an answer with its evidence complies, on a machine that has the request
 abbrev pub AnswersComply : Type 0
-AnswersComply = (number : ℕ → ℕ → ℕ) (policy : Policy) (t : State) (k : ℕ) (asker : Request) (budget : ℕ) (query : Query) (rows : List (List Value)) (made : ShelfCalls) (basis : By) →
+AnswersComply = (number : ℕ → ℕ → ℕ) (policy : Policy) (t : State) (k : ℕ) (asker : Request) (effort : Effort) (query : Query) (rows : List (List Value)) (made : ShelfCalls) (basis : By) →
     IsChecked policy → HasRequest policy t k asker → AreSound t → HasFound number t made → IsRequestOf policy asker → IsQuery policy.schema (kinds_of policy.params) [] query →
-    IsGround policy asker budget query basis made → IsAnswer query asker.context asker.tables.rows rows → IsCompliant t k query rows
+    IsGround policy asker effort query basis made → IsAnswer query asker.context asker.tables.rows rows → IsCompliant t k query rows
 
 -- a text reads as a query that is checked
 abbrev pub ReadingIsChecked : Type 0
@@ -112,11 +115,19 @@ trace_same : (k : ℕ) (its : List LineDone) → trace_of k its ≡ trace_in k (
 trace_same k [] = refl
 trace_same k (x ∷ xs) = ap (λ z. answer_of k x.entry ++ z) (trace_same k xs)
 
-begin_ask : (r version k v : ℕ) (reply : Reply) → Ask r version reply ≡ Begin k v → ⊥
-begin_ask r version k v reply e = cc
+-- what the entry of a question is to the machine
+event_asked : (number : ℕ → ℕ → ℕ) (input : Input) (journal : Journal) (past : List Entry) (r version : ℕ) (it : Reply) →
+    event_of number input journal past (asked r version it) ≡ event_in number input.policy r (standing input journal past r version) it
+event_asked number input journal past r version (Answer query rows basis) = refl
+event_asked number input journal past r version (Blocked query why) = refl
+event_asked number input journal past r version (Unread fault) = refl
+event_asked number input journal past r version reply.NoMemory = refl
 
-begin_end : (r k v : ℕ) → End r ≡ Begin k v → ⊥
-begin_end r k v e = cc
+reply_asked : (r version : ℕ) (it : Reply) → reply_of (asked r version it) ≡ told_in it
+reply_asked r version (Answer query rows basis) = refl
+reply_asked r version (Blocked query why) = refl
+reply_asked r version (Unread fault) = refl
+reply_asked r version reply.NoMemory = refl
 
 said_ask : (r k : ℕ) (name text other : List ℕ) (context : Context) → said.Ask r name text ≡ said.Begin k other context → ⊥
 said_ask r k name text other context e = cc
@@ -274,7 +285,7 @@ module _ (laws : Laws) (number : ℕ → ℕ → ℕ) (input : Input) (journal :
       abbrev line : ScriptEntry
       line = said.Ask r name text
 
-      entry_is : it.entry ≡ Ask r h.asker.version h.reply
+      entry_is : it.entry ≡ asked r h.asker.version h.reply
       entry_is = ap entry_in h.is
 
       grown_ask : r < length (contexts_of (before ++ line ∷ []))
@@ -306,12 +317,12 @@ module _ (laws : Laws) (number : ℕ → ℕ → ℕ) (input : Input) (journal :
         is_after asker asks = by (Contains-push_cases earlier it (begins r asker.version asker.tables) asks.begun)
           where
             by : Contains earlier (begins r asker.version asker.tables) ⊎ (it ≡ begins r asker.version asker.tables) → after h.asker h.reply ≡ asker
-            by (inr e) = absurd (begin_ask r h.asker.version r asker.version h.reply (sym entry_is ∙ ap entry_in e))
+            by (inr e) = absurd (asked_is_no_begin r h.asker.version h.reply r asker.version (sym entry_is ∙ ap entry_in e))
             by (inl among) =
                 let old : Request = record asker { trace = trace_of r earlier } in
                 let there = b.standing r old chooses open_before (record { begun = among; context = asks.context; trace = refl }) in
                 let same : h.asker ≡ old = same_request input.policy t r h.asker old stood.has there.has in
-                let answer : answer_of r it.entry ≡ answer_in h.reply = ap (answer_of r) entry_is ∙ ap (λ z. cond z (answer_in h.reply) []) (same_true r r refl) in
+                let answer : answer_of r it.entry ≡ answer_in h.reply = ap (answer_of r) entry_is ∙ answers_own r h.asker.version h.reply in
                 let trace : h.asker.trace ++ answer_in h.reply ≡ asker.trace =
                 (λ i. h.asks.trace i ++ sym answer i) ∙ sym (trace_more r earlier it) ∙ sym asks.trace in
                 λ i. record { context = (same i).context; version = (same i).version; tables = (same i).tables; trace = trace i }
@@ -319,14 +330,14 @@ module _ (laws : Laws) (number : ℕ → ℕ → ℕ) (input : Input) (journal :
         answer_taken : (query : Query) (rows : List (List Value)) (basis : By) → h.reply ≡ Answer query rows basis →
             Takes (Comes line) t (event_in number input.policy r h.asker (Answer query rows basis)) (told_in (Answer query rows basis))
         answer_taken query rows basis is =
-            let replied : asking.IsAnswered input.policy h.asker input.budget text query rows basis h.calls = subst (Replies input.policy h.asker input.budget text h.calls) is h.replies in
-            let told = laws.asks number input.policy t r h.asker input.budget text h.calls (Answer query rows basis) stood.has found replied in
+            let replied : asking.IsAnswered input.policy h.asker (effort_of input) text query rows basis h.calls = subst (Replies input.policy h.asker (effort_of input) text h.calls) is h.replies in
+            let told = laws.asks number input.policy t r h.asker (effort_of input) text h.calls (Answer query rows basis) stood.has found replied in
             let checked_query = laws.reads input.policy text query replied.reads in
             record {
               new = told.new;
               step = record {
                 step = told.is_reply.step;
-                compliant = laws.complies number input.policy t r h.asker input.budget query rows h.calls basis checked stood.has sound found stood.may checked_query replied.ground replied.released.answer;
+                compliant = laws.complies number input.policy t r h.asker (effort_of input) query rows h.calls basis checked stood.has sound found stood.may checked_query replied.ground replied.released.answer;
               };
               only = told.is_reply.only;
               comes_to = λ u step.
@@ -351,7 +362,7 @@ module _ (laws : Laws) (number : ℕ → ℕ → ℕ) (input : Input) (journal :
         reply_taken : (it : Reply) → h.reply ≡ it → Takes (Comes line) t (event_in number input.policy r h.asker it) (told_in it)
         reply_taken (Answer query rows basis) is = answer_taken query rows basis is
         reply_taken (Blocked query why) is =
-            let told = laws.asks number input.policy t r h.asker input.budget text h.calls (Blocked query why) stood.has found (subst (Replies input.policy h.asker input.budget text h.calls) is h.replies) in
+            let told = laws.asks number input.policy t r h.asker (effort_of input) text h.calls (Blocked query why) stood.has found (subst (Replies input.policy h.asker (effort_of input) text h.calls) is h.replies) in
             record {
               new = told.new;
               step = record { step = told.is_reply.step; compliant = tt };
@@ -361,14 +372,18 @@ module _ (laws : Laws) (number : ℕ → ℕ → ℕ) (input : Input) (journal :
         reply_taken (Unread fault) is = quiet_taken t refl (ap answer_in is)
         reply_taken reply.NoMemory is = quiet_taken t refl (ap answer_in is)
 
-        pub ask_taken : Takes (Comes line) t (event_of number input journal past (Ask r h.asker.version h.reply)) (reply_of (Ask r h.asker.version h.reply))
-        ask_taken = subst (λ a. Takes (Comes line) t (event_in number input.policy r a h.reply) (told_in h.reply)) shown (reply_taken h.reply refl)
+        pub ask_taken : Takes (Comes line) t (event_of number input journal past (asked r h.asker.version h.reply)) (reply_of (asked r h.asker.version h.reply))
+        ask_taken =
+            let asks = event_in number input.policy r (standing input journal past r h.asker.version) h.reply in
+            let taken : Takes (Comes line) t asks (told_in h.reply) = subst (λ a. Takes (Comes line) t (event_in number input.policy r a h.reply) (told_in h.reply)) shown (reply_taken h.reply refl) in
+            subst (λ es. Takes (Comes line) t es (reply_of (asked r h.asker.version h.reply))) (sym (event_asked number input journal past r h.asker.version h.reply))
+            (subst (Takes (Comes line) t asks) (sym (reply_asked r h.asker.version h.reply)) taken)
 
     -- ---- ends
 
-    module _ (past : List Entry) (r : ℕ) (name : List ℕ) (asks : ℕ) (are : input.script.entries ≡ before ++ said.End r name ∷ rest) (is_open : IsOpen before name r asks) (is : it.entry ≡ End r) where
+    module _ (past : List Entry) (r : ℕ) (name : List ℕ) (asks : ℕ) (are : input.script.entries ≡ before ++ said.End r name ∷ rest) (is_open : IsOpen before name r asks) (version : ℕ) (is : it.entry ≡ End r version) where
       pub end_passed : Comes (said.End r name) t
-      end_passed = quiet_all (said.End r name) are t (same_itself t) (λ k. refl) (λ k. quiet_end k r it is)
+      end_passed = quiet_all (said.End r name) are t (same_itself t) (λ k. refl) (λ k. quiet_end k r version it is)
 
       -- the request isn't open behind its end
       closed : IsOpenAfter (before ++ said.End r name ∷ []) r → ⊥
@@ -380,8 +395,8 @@ module _ (laws : Laws) (number : ℕ → ℕ → ℕ) (input : Input) (journal :
               let same = one_name input.script.entries before (said.End r name ∷ rest) script.numbered are name was.name r asks was.asked is_open was.was in
               not_apart name (subst (λ z. bytes_eq name z ≡ false) (sym same) was.leaves)
 
-      module _ (version : ℕ) (tables : TableSet) (chooses : chosen r ≡ true) (begun : Contains earlier (begins r version tables)) where
-        pub end_taken : Takes (Comes (said.End r name)) t (event_of number input journal past (End r)) (reply_of (End r))
+      module _ (tables : TableSet) (chooses : chosen r ≡ true) (begun : Contains earlier (begins r version tables)) where
+        pub end_taken : Takes (Comes (said.End r name)) t (event_of number input journal past (End r version)) (reply_of (End r version))
         end_taken =
             let asker : Request = record { context = is_open.context; version = version; tables = tables; trace = trace_of r earlier } in
             let stood = b.standing r asker chooses (record { name = name; asked = asks; is_open = is_open })
@@ -394,6 +409,6 @@ module _ (laws : Laws) (number : ℕ → ℕ → ℕ) (input : Input) (journal :
               step = record { step = told.is_reply.step; compliant = tt };
               only = told.is_reply.only;
               comes_to = λ u step.
-                  of_one (said.End r name) are u (same_by t u (with_log t u step.rest)) r (omega (arith, below, more)) step.closes.others (λ k differ. quiet_end k r it is)
+                  of_one (said.End r name) are u (same_by t u (with_log t u step.rest)) r (omega (arith, below, more)) step.closes.others (λ k differ. quiet_end k r version it is)
                   (λ asker picks open_after asks. absurd (closed open_after));
             }

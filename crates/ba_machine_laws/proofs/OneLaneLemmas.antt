@@ -6,10 +6,10 @@ use Rattle.std.proofs.lemmas.List.Elements.{All-head, All-tail, All-weaker}
 use Rattle.ba_cache.specs.Rows as shelves
 use Rattle.ba_cache.specs.Rows.{Row, count_added}
 use Rattle.ba_cache.specs.declared.call.ShelfCall.{ShelfCall}
+use Rattle.ba_input.specs.declared.input.Input.{Input}
 use Rattle.ba_lanes.proofs.MergeLemmas.{lane_low}
 use Rattle.ba_lanes.specs.Lanes.{AreOfLanes, of_lane}
 use Rattle.ba_lanes.specs.Legal.{LineDone, done_in, lane_of}
-use Rattle.ba_lanes.specs.declared.journal.Input.{Input}
 use Rattle.ba_machine_laws.proofs.BetweenLemmas.{same_true}
 use Rattle.ba_machine_laws.proofs.ScriptLemmas.{last_of}
 use Rattle.ba_script.specs.declared.entry.ScriptEntry.{ScriptEntry}
@@ -43,11 +43,11 @@ all_of_one (c ∷ log) all =
 
 -- the history is the calls of the lines, in their order
 pub one_history : {E : Type 0} (input : Input) (served : List LineDone) (f : LineDone → List E) (made : List E) (numbers : List ℕ) →
-    input.workers ≡ 1 → length served ≡ length input.script.entries → AreOfLanes input.workers (λ k. flat_map f (done_in input served k)) made numbers → made ≡ flat_map f served
+    input.workers ≡ 1 → length served ≡ length input.script.entries → AreOfLanes [] input.workers (λ k. flat_map f (done_in input served k)) made numbers → made ≡ flat_map f served
 one_history input served f made numbers one long h =
     let some : 0 < input.workers = omega (arith, one) in
     let all : All IsOne (map number_of h.log) =
-    All-weaker (λ n. (0 < n) × (n ≤ input.workers)) IsOne (λ n it. (it.0, upto n it.1)) (map number_of h.log) (subst (All (λ n. (0 < n) × (n ≤ input.workers))) h.numbers_are h.no_others) in
+    All-weaker (λ n. (0 < n) × (n ≤ input.workers)) IsOne (λ n it. (it.0, upto n it.1)) (map number_of h.log) h.no_others in
     h.calls_are ∙ sym (all_of_one h.log all) ∙ h.each 0 some ∙ ap (flat_map f) (of_one_lane (lane_of input.workers) input.script.entries served long (λ line. first line))
   where
     upto : (n : ℕ) → n ≤ input.workers → n ≤ 1

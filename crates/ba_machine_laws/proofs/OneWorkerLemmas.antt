@@ -1,6 +1,6 @@
 -- All events of a journal of one worker are a run.
 use mathlib.Core.List.{map-append}
-use Rattle.std.proofs.Common.{◌≡◌, ◌≢◌, ◌∙◌, ℕ, zero, suc, ◌+◌, ◌<◌, ◌==◌, Bool, true, false, cond, List, [], ◌∷◌, ◌++◌, All, Contains, Some, ap, append-nil, append_assoc, arith, drop, flat_map, get_or, inl, inr, length, length-append, map, refl, slice_get, subst, sym, take, ◌⊎◌}
+use Rattle.std.proofs.Common.{◌≡◌, ◌≢◌, ◌∙◌, ℕ, zero, suc, ◌+◌, ◌<◌, ◌==◌, Bool, true, false, cond, List, [], ◌∷◌, ◌++◌, All, Contains, None, Option, Some, ap, append-nil, append_assoc, arith, drop, flat_map, get_or, inl, inr, length, length-append, map, refl, slice_get, subst, sym, take, ◌⊎◌}
 use Rattle.std.proofs.Math.Logic.{∥∥₁_map₂}
 use Rattle.std.proofs.lemmas.Bool.Decides.{eqb_tells}
 use Rattle.std.proofs.lemmas.List.Concat.{flat_map-append}
@@ -25,15 +25,19 @@ use Rattle.ba_core.specs.declared.event.CoreReply.TheVariants as replies
 use Rattle.ba_core.specs.declared.event.Event.TheVariants as events
 use Rattle.ba_kernel.specs.Problems.{StrongAll}
 use Rattle.ba_kernel.specs.Tests as kernel
+use Rattle.ba_input.specs.Inputs.{effort_of}
+use Rattle.ba_input.specs.declared.input.Input.{Input}
+use Rattle.ba_lanes.proofs.LaneLemmas.{none_on, some_on}
 use Rattle.ba_lanes.proofs.ServeLemmas.{same_length}
-use Rattle.ba_lanes.specs.Legal.{AreServed, IsServed, Legal, LineCalls, LineDone, made_on, no_calls, on_versions, pin_of, versions_made}
+use Rattle.ba_lanes.specs.Legal.{AreServed, IsServed, Legal, LineCalls, LineDone, asked, made_on, no_calls, on_shelves, on_versions, pin_of, shelf_calls_of, versions_made}
 use Rattle.ba_lanes.specs.declared.journal.Entry.{Entry}
-use Rattle.ba_lanes.specs.declared.journal.Entry.TheVariants.{Begin, Ask, End, NoMemory}
-use Rattle.ba_lanes.specs.declared.journal.Input.{Input}
+use Rattle.ba_lanes.specs.declared.journal.Entry.TheVariants.{Begin, End, Memory}
+use Rattle.ba_lanes.specs.declared.journal.LineKind.{LineKind}
+use Rattle.ba_lanes.specs.declared.journal.LineKind.TheVariants as kinds
 use Rattle.ba_lanes.specs.declared.journal.Journal.{Journal}
 use Rattle.ba_model.specs.declared.query.Query.{Query}
 use Rattle.ba_machine_laws.proofs.AdditionLemmas.{HasNoLook, QuestionCalls, adds, counted, looks, none, one_no_look, place_new, question_calls}
-use Rattle.ba_machine_laws.proofs.BetweenLemmas.{Between, Keeps, differ_false, quiet_publish, quiet_unbegun, quiet_unserved, same_true}
+use Rattle.ba_machine_laws.proofs.BetweenLemmas.{Between, Keeps, differ_false, quiet_memory, quiet_publish, same_true}
 use Rattle.ba_machine_laws.proofs.HistoryLemmas.{IsLegal, all_legal, are_versions, some_shelf}
 use Rattle.ba_machine_laws.proofs.LineLemmas.{Comes, Laws, ask_taken, begin_taken, end_taken, entry_in, quiet_all, same_itself}
 use Rattle.ba_machine_laws.proofs.OneLaneLemmas.{IsCall, IsFront, IsLast, list_is, one_history, one_part, shelf_front, shelf_last, tables_in, version_call}
@@ -46,8 +50,9 @@ use Rattle.ba_script.specs.Scripts.{EntriesFit, EntryFits}
 use Rattle.ba_script.specs.declared.entry.ScriptEntry.{ScriptEntry}
 use Rattle.ba_script.specs.declared.entry.ScriptEntry.TheVariants as said
 use Rattle.ba_session.specs.Asking.{look_at}
-use Rattle.ba_session.specs.Passing.{ShelfCalls, calls_on}
+use Rattle.ba_session.specs.Passing.{ShelfCalls}
 use Rattle.ba_session.specs.declared.reply.Reply.{Reply}
+use Rattle.ba_session.specs.declared.reply.Reply.TheVariants as reply
 use Rattle.ba_tables.specs.TableSet.{TableSet}
 use Rattle.ba_versions.specs.Calls as versions
 use Rattle.ba_versions.specs.Reads.{calls_of, published as publication, versions_of}
@@ -117,6 +122,27 @@ admit_only t template n is (replies.Asked it) next h = absurd h
 admit_only t template n is replies.Ended next h = absurd h
 admit_only t template n is (replies.Refused fault) next h = absurd h.0
 
+-- ---- what else happens at a question
+
+further_asked : (journal : Journal) (input : Input) (line : ScriptEntry) (r version : ℕ) (it : Reply) → further input journal line (asked r version it) ≡ flat_map (admission_of journal) (added_with it)
+further_asked journal input line r version (reply.Answer query rows basis) = refl
+further_asked journal input line r version (reply.Blocked query why) = refl
+further_asked journal input line r version (reply.Unread fault) = refl
+further_asked journal input line r version reply.NoMemory = refl
+
+further_told : (journal : Journal) (r version : ℕ) (it : Reply) →
+    further_replies journal (asked r version it) ≡ map (λ (a : Addition). replies.Number (number_by_addition journal a.0 a.1)) (added_with it)
+further_told journal r version (reply.Answer query rows basis) = refl
+further_told journal r version (reply.Blocked query why) = refl
+further_told journal r version (reply.Unread fault) = refl
+further_told journal r version reply.NoMemory = refl
+
+added_asked : (r version : ℕ) (it : Reply) → added_at (asked r version it) ≡ added_with it
+added_asked r version (reply.Answer query rows basis) = refl
+added_asked r version (reply.Blocked query why) = refl
+added_asked r version (reply.Unread fault) = refl
+added_asked r version reply.NoMemory = refl
+
 -- ---- the journal
 
 abbrev every : ℕ → Bool
@@ -144,7 +170,7 @@ module _ (laws : Laws) (input : Input) (journal : Journal) (legal : Legal input 
   shelf_whole : (k : ℕ) (d : ClosedShelf) → k < 8 → shelf.calls_of (get_or items k d).0 ≡ made_on k legal.served
   shelf_whole k d below =
       let it = get_or items k d in
-      one_history input legal.served (λ it. calls_on k it.made.shelves) (shelf.calls_of it.0) it.1.items one
+      one_history input legal.served (λ it. shelf_calls_of k it) (shelf.calls_of it.0) it.1.items one
       (same_length input [] input.script.entries legal.served legal.lines) (legal.shelves.each k d below).calls
 
   legal_on : (k : ℕ) → k < 8 → (rows : List Row) × shelves.Legal (made_on k legal.served) rows
@@ -182,20 +208,20 @@ module _ (laws : Laws) (input : Input) (journal : Journal) (legal : Legal input 
     versions_more : versions_made (earlier ++ it ∷ []) ≡ versions_made earlier ++ it.made.versions
     versions_more = flat_map-append _ earlier (it ∷ []) ∙ ap (λ more. versions_made earlier ++ more) (append-nil it.made.versions)
 
-    shelf_more : (k : ℕ) → made_on k (earlier ++ it ∷ []) ≡ made_on k earlier ++ calls_on k it.made.shelves
-    shelf_more k = flat_map-append _ earlier (it ∷ []) ∙ ap (λ more. made_on k earlier ++ more) (append-nil (calls_on k it.made.shelves))
+    shelf_more : (k : ℕ) → made_on k (earlier ++ it ∷ []) ≡ made_on k earlier ++ shelf_calls_of k it
+    shelf_more k = flat_map-append _ earlier (it ∷ []) ∙ ap (λ more. made_on k earlier ++ more) (append-nil (shelf_calls_of k it))
 
     additions_more : additions (past ++ it.entry ∷ []) ≡ additions past ++ added_at it.entry
     additions_more = flat_map-append _ past (it.entry ∷ []) ∙ ap (λ more. additions past ++ more) (append-nil (added_at it.entry))
 
-    templates_more : (k : ℕ) → templates_of (made_on k (earlier ++ it ∷ [])) ≡ templates_of (made_on k earlier) ++ templates_of (calls_on k it.made.shelves)
-    templates_more k = ap templates_of (shelf_more k) ∙ flat_map-append added_in (made_on k earlier) (calls_on k it.made.shelves)
+    templates_more : (k : ℕ) → templates_of (made_on k (earlier ++ it ∷ [])) ≡ templates_of (made_on k earlier) ++ templates_of (shelf_calls_of k it)
+    templates_more k = ap templates_of (shelf_more k) ∙ flat_map-append added_in (made_on k earlier) (shelf_calls_of k it)
 
     -- all calls: the earlier ones, the line's, and the later ones
     versions_split : calls_of journal.histories.versions ≡ versions_made earlier ++ (it.made.versions ++ versions_made its)
     versions_split = versions_whole ∙ ap versions_made served_are ∙ flat_map-append _ earlier (it ∷ its)
 
-    shelf_split : (k : ℕ) → made_on k legal.served ≡ made_on k earlier ++ (calls_on k it.made.shelves ++ made_on k its)
+    shelf_split : (k : ℕ) → made_on k legal.served ≡ made_on k earlier ++ (shelf_calls_of k it ++ made_on k its)
     shelf_split k = ap (made_on k) served_are ∙ flat_map-append _ earlier (it ∷ its)
 
     -- the machine's versions are the first of the journal's
@@ -215,8 +241,8 @@ module _ (laws : Laws) (input : Input) (journal : Journal) (legal : Legal input 
 
     holds_by : (line : ScriptEntry) (v : State) → Between input every v (before ++ line ∷ []) (earlier ++ it ∷ []) → v.policy ≡ t.policy →
         v.versions ≡ t.versions ++ flat_map tables_in it.made.versions → AreSound v → length v.templates ≡ length t.templates + length (added_at it.entry) →
-        ((k id : ℕ) (template : kernel.Proof) → k < 8 → slice_get (templates_of (made_on k earlier) ++ templates_of (calls_on k it.made.shelves)) id ≡ Some template → slice_get v.templates (number k id) ≡ Some template) →
-        ((k id : ℕ) → Contains (added_at it.entry) (k, id) → id < length (templates_of (made_on k earlier) ++ templates_of (calls_on k it.made.shelves))) → Next line v
+        ((k id : ℕ) (template : kernel.Proof) → k < 8 → slice_get (templates_of (made_on k earlier) ++ templates_of (shelf_calls_of k it)) id ≡ Some template → slice_get v.templates (number k id) ≡ Some template) →
+        ((k id : ℕ) → Contains (added_at it.entry) (k, id) → id < length (templates_of (made_on k earlier) ++ templates_of (shelf_calls_of k it))) → Next line v
     holds_by line v between policy versions_are sound many has below = record {
       between = between;
       policy_is = policy ∙ holds.policy_is;
@@ -234,12 +260,12 @@ module _ (laws : Laws) (input : Input) (journal : Journal) (legal : Legal input 
         later : (k id : ℕ) → Contains (additions past) (k, id) ⊎ Contains (added_at it.entry) (k, id) → id < length (templates_of (made_on k (earlier ++ it ∷ [])))
         later k id (inl among) =
             let low = holds.below k id among in
-            let long = ap length (templates_more k) ∙ length-append (templates_of (made_on k earlier)) (templates_of (calls_on k it.made.shelves)) in
+            let long = ap length (templates_more k) ∙ length-append (templates_of (made_on k earlier)) (templates_of (shelf_calls_of k it)) in
             omega (arith, low, long)
         later k id (inr among) = subst (λ z. id < length z) (sym (templates_more k)) (below k id among)
 
     -- no tables are published, and no template is added
-    quiet_next : (line : ScriptEntry) (u : State) → After line u → flat_map tables_in it.made.versions ≡ [] → ((k : ℕ) → templates_of (calls_on k it.made.shelves) ≡ []) → added_at it.entry ≡ [] → Next line u
+    quiet_next : (line : ScriptEntry) (u : State) → After line u → flat_map tables_in it.made.versions ≡ [] → ((k : ℕ) → templates_of (shelf_calls_of k it) ≡ []) → added_at it.entry ≡ [] → Next line u
     quiet_next line u comes no_tables no_templates no_addition =
         let templates = comes.same.templates_are in
         holds_by line u comes.between comes.same.policy_is
@@ -251,12 +277,8 @@ module _ (laws : Laws) (input : Input) (journal : Journal) (legal : Legal input 
         (λ k id among. absurd (empty (k, id) (subst (λ z. Contains z (k, id)) no_addition among)))
 
     -- a line without calls on a shelf
-    no_shelf : (made : List VersionCall) → it.made ≡ on_versions made → (k : ℕ) → templates_of (calls_on k it.made.shelves) ≡ []
-    no_shelf made e k = ap (λ (z : LineCalls). templates_of (calls_on k z.shelves)) e ∙ by (zero == k)
-      where
-        by : (b : Bool) → templates_of (cond b [] []) ≡ []
-        by true = refl
-        by false = refl
+    no_shelf : (made : List VersionCall) → it.made ≡ on_versions made → (k : ℕ) → templates_of (shelf_calls_of k it) ≡ []
+    no_shelf made e k = ap templates_of (none_on k it made e)
 
     abbrev TakesLine : ScriptEntry → Entry → Type 0
     TakesLine line entry = Takes (Next line) t (event_of number input journal past entry ++ further input journal line entry) (reply_of entry ++ further_replies journal entry)
@@ -264,7 +286,7 @@ module _ (laws : Laws) (input : Input) (journal : Journal) (legal : Legal input 
     -- ---- what a question's look found
 
     -- the first call of the line on a shelf, a look, found what the machine was admitted
-    look_found : (k : ℕ) (query : Query) (found : List Kept) (others : List ShelfCall) → k < 8 → calls_on k it.made.shelves ≡ look_at query found ∷ others → (one : Kept) → Contains found one →
+    look_found : (k : ℕ) (query : Query) (found : List Kept) (others : List ShelfCall) → k < 8 → shelf_calls_of k it ≡ look_at query found ∷ others → (one : Kept) → Contains found one →
         slice_get t.templates (number k one.id) ≡ Some one.template
     look_found k query found others low e one among =
         let look = look_at query found in
@@ -280,13 +302,13 @@ module _ (laws : Laws) (input : Input) (journal : Journal) (legal : Legal input 
         let added : templates_of front ≡ templates_of (made_on k earlier) = flat_map-append added_in (made_on k earlier) (look ∷ []) ∙ append-nil (templates_of (made_on k earlier)) in
         holds.has k one.id one.template low (ap (λ z. slice_get z one.id) (sym added) ∙ ap (slice_get (templates_of front)) (sym place) ∙ at)
 
-    on_itself : (made : ShelfCalls) → it.made.shelves ≡ made → calls_on made.shard it.made.shelves ≡ made.calls
-    on_itself made e = ap (calls_on made.shard) e ∙ ap (λ b. cond b made.calls []) (same_true made.shard made.shard refl)
+    on_itself : (made : ShelfCalls) → it.made ≡ on_shelves made → shelf_calls_of made.shard it ≡ made.calls
+    on_itself made e = some_on made.shard it made e ∙ ap (λ b. cond b made.calls []) (same_true made.shard made.shard refl)
 
-    on_other : (made : ShelfCalls) → it.made.shelves ≡ made → (k : ℕ) → made.shard ≢ k → calls_on k it.made.shelves ≡ []
-    on_other made e k differ = ap (calls_on k) e ∙ ap (λ b. cond b made.calls []) (differ_false made.shard k differ)
+    on_other : (made : ShelfCalls) → it.made ≡ on_shelves made → (k : ℕ) → made.shard ≢ k → shelf_calls_of k it ≡ []
+    on_other made e k differ = some_on k it made e ∙ ap (λ b. cond b made.calls []) (differ_false made.shard k differ)
 
-    found_first : (made : ShelfCalls) → it.made.shelves ≡ made → (first : ShelfCall) (others : List ShelfCall) → made.shard < 8 → made.calls ≡ first ∷ others → HasNoLook others → HasFound number t made
+    found_first : (made : ShelfCalls) → it.made ≡ on_shelves made → (first : ShelfCall) (others : List ShelfCall) → made.shard < 8 → made.calls ≡ first ∷ others → HasNoLook others → HasFound number t made
     found_first made e first others low are no_look = record {
       each = λ query found one look among. by query found one among (one_of first others (look_at query found) (subst (λ z. Contains z (look_at query found)) are look));
     }
@@ -295,7 +317,7 @@ module _ (laws : Laws) (input : Input) (journal : Journal) (legal : Legal input 
         by query found one among (inr look) = absurd (no_look query found look)
         by query found one among (inl same) = look_found made.shard query found others low (on_itself made e ∙ are ∙ ap (λ z. z ∷ others) same) one among
 
-    found_by : (made : ShelfCalls) (reply : Reply) → it.made.shelves ≡ made → QuestionCalls made.shard made.calls reply → HasFound number t made
+    found_by : (made : ShelfCalls) (reply : Reply) → it.made ≡ on_shelves made → QuestionCalls made.shard made.calls reply → HasFound number t made
     found_by made reply e (none nothing told) = record {
       each = λ query found one look among. absurd (empty (look_at query found) (subst (λ z. Contains z (look_at query found)) nothing look));
     }
@@ -306,7 +328,7 @@ module _ (laws : Laws) (input : Input) (journal : Journal) (legal : Legal input 
 
     -- ---- a template is added
 
-    module _ (line : ScriptEntry) (made : ShelfCalls) (made_is : it.made.shelves ≡ made) (no_versions : it.made.versions ≡ []) (query : Query) (found : List Kept) (template : kernel.Proof) (id : ℕ) (low : made.shard < 8)
+    module _ (line : ScriptEntry) (made : ShelfCalls) (made_is : it.made ≡ on_shelves made) (no_versions : it.made.versions ≡ []) (query : Query) (found : List Kept) (template : kernel.Proof) (id : ℕ) (low : made.shard < 8)
         (are : made.calls ≡ look_at query found ∷ calls.Admit (record { marker = record {}; value = template }) (Added id) ∷ []) (added : added_at it.entry ≡ (made.shard, id) ∷ []) where
       abbrev before_it : List kernel.Proof
       before_it = templates_of (made_on made.shard earlier)
@@ -317,7 +339,7 @@ module _ (laws : Laws) (input : Input) (journal : Journal) (legal : Legal input 
       abbrev admit : ShelfCall
       admit = calls.Admit (record { marker = record {}; value = template }) (Added id)
 
-      calls_here : calls_on made.shard it.made.shelves ≡ look_at query found ∷ admit ∷ []
+      calls_here : shelf_calls_of made.shard it ≡ look_at query found ∷ admit ∷ []
       calls_here = on_itself made made_is ∙ are
 
       split_here : made_on made.shard legal.served ≡ (look_before ++ admit ∷ []) ++ made_on made.shard its
@@ -371,7 +393,7 @@ module _ (laws : Laws) (input : Input) (journal : Journal) (legal : Legal input 
         same_many : length u.templates ≡ length t.templates
         same_many = ap length comes.same.templates_are
 
-        has_with_it : (k n : ℕ) (other : kernel.Proof) → k < 8 → slice_get (templates_of (made_on k earlier) ++ templates_of (calls_on k it.made.shelves)) n ≡ Some other →
+        has_with_it : (k n : ℕ) (other : kernel.Proof) → k < 8 → slice_get (templates_of (made_on k earlier) ++ templates_of (shelf_calls_of k it)) n ≡ Some other →
             slice_get (u.templates ++ template ∷ []) (number k n) ≡ Some other
         has_with_it k n other inside there = by (eqb_tells made.shard k)
           where
@@ -390,21 +412,21 @@ module _ (laws : Laws) (input : Input) (journal : Journal) (legal : Legal input 
             by (inr other_shelf) =
                 kept (ap (λ z. slice_get z n) (sym (ap (λ z. templates_of (made_on k earlier) ++ templates_of z) (on_other made made_is k other_shelf.1) ∙ append-nil (templates_of (made_on k earlier)))) ∙ there)
             by (inl here) =
-                let calls_k : calls_on k it.made.shelves ≡ look_at query found ∷ admit ∷ [] = subst (λ z. calls_on z it.made.shelves ≡ look_at query found ∷ admit ∷ []) here.1 calls_here in
+                let calls_k : shelf_calls_of k it ≡ look_at query found ∷ admit ∷ [] = subst (λ z. shelf_calls_of z it ≡ look_at query found ∷ admit ∷ []) here.1 calls_here in
                 new here.1 (get_last (templates_of (made_on k earlier)) template n other (ap (λ z. slice_get (templates_of (made_on k earlier) ++ templates_of z) n) (sym calls_k) ∙ there))
 
-        below_with_it : (k n : ℕ) → Contains (added_at it.entry) (k, n) → n < length (templates_of (made_on k earlier) ++ templates_of (calls_on k it.made.shelves))
+        below_with_it : (k n : ℕ) → Contains (added_at it.entry) (k, n) → n < length (templates_of (made_on k earlier) ++ templates_of (shelf_calls_of k it))
         below_with_it k n among = by (one_of (made.shard, id) [] (k, n) (subst (λ z. Contains z (k, n)) added among))
           where
-            by : ◌≡◌ {A = Addition} (made.shard, id) (k, n) ⊎ Contains {X = Addition} [] (k, n) → n < length (templates_of (made_on k earlier) ++ templates_of (calls_on k it.made.shelves))
+            by : ◌≡◌ {A = Addition} (made.shard, id) (k, n) ⊎ Contains {X = Addition} [] (k, n) → n < length (templates_of (made_on k earlier) ++ templates_of (shelf_calls_of k it))
             by (inr never) = absurd (empty (k, n) never)
             by (inl same) =
                 let here : made.shard ≡ k = ap (λ (z : Addition). z.0) same in
                 let n_is : id ≡ n = ap (λ (z : Addition). z.1) same in
-                let long : length (before_it ++ templates_of (calls_on made.shard it.made.shelves)) ≡ length before_it + 1 =
+                let long : length (before_it ++ templates_of (shelf_calls_of made.shard it)) ≡ length before_it + 1 =
                 ap (λ z. length (before_it ++ templates_of z)) calls_here ∙ length-append before_it (template ∷ []) in
-                let low : n < length (before_it ++ templates_of (calls_on made.shard it.made.shelves)) = omega (arith, long, n_is, id_is) in
-                subst (λ z. n < length (templates_of (made_on z earlier) ++ templates_of (calls_on z it.made.shelves))) here low
+                let low : n < length (before_it ++ templates_of (shelf_calls_of made.shard it)) = omega (arith, long, n_is, id_is) in
+                subst (λ z. n < length (templates_of (made_on z earlier) ++ templates_of (shelf_calls_of z it))) here low
 
         next_with_it : Next line with_it
         next_with_it =
@@ -430,12 +452,12 @@ module _ (laws : Laws) (input : Input) (journal : Journal) (legal : Legal input 
     abbrev TakesAdded : ScriptEntry → State → List Addition → Type 0
     TakesAdded line u its = Takes (Next line) u (flat_map (admission_of journal) its) (map (λ (a : Addition). replies.Number (number a.0 a.1)) its)
 
-    unserved : (line : ScriptEntry) → input.script.entries ≡ before ++ line ∷ rest → it ≡ record { entry = NoMemory; made = no_calls } → TakesLine line it.entry
-    unserved line are is =
+    unserved : (line : ScriptEntry) → input.script.entries ≡ before ++ line ∷ rest → (kind : LineKind) (r : Option ℕ) → it ≡ record { entry = Memory kind r None; made = no_calls } → TakesLine line it.entry
+    unserved line are kind r is =
         subst (TakesLine line) (sym (ap entry_in is))
         (quiet_next line t
         (quiet_all laws number input journal every legal.input_fits.script (checked_by input journal legal) before rest earlier it t holds.policy_is holds.between line are t (same_itself t) (λ k. refl)
-        (λ k. quiet_unserved k it (ap entry_in is)))
+        (λ k. quiet_memory k kind r None it (ap entry_in is)))
         (ap (λ (z : LineDone). flat_map tables_in z.made.versions) is) (no_shelf [] (ap (λ (z : LineDone). z.made) is)) (ap (λ (z : LineDone). added_at z.entry) is))
 
     line_taken : (line : ScriptEntry) → input.script.entries ≡ before ++ line ∷ rest → EntryFits before line → IsServed input earlier line it → TakesLine line it.entry
@@ -453,42 +475,46 @@ module _ (laws : Laws) (input : Input) (journal : Journal) (legal : Legal input 
         (begin_taken laws number input journal every legal.input_fits.script (checked_by input journal legal) before rest earlier it t holds.policy_is holds.between past r h.version name context h.tables are h.is pinned good))
     line_taken (said.Begin r name context) are fits (inr h) =
         let line = said.Begin r name context in
-        subst (TakesLine line) (sym h.0)
+        subst (TakesLine line) (sym h.entry_is)
         (quiet_next line t
         (quiet_all laws number input journal every legal.input_fits.script (checked_by input journal legal) before rest earlier it t holds.policy_is holds.between line are t (same_itself t) (λ k. refl)
-        (λ k. quiet_unbegun k r it h.0))
-        (no_tables h.1) (no_templates h.1) (ap added_at h.0))
+        (λ k. quiet_memory k kinds.Begin (Some r) None it h.entry_is))
+        (no_tables h.made_is) (no_templates h.made_is) (ap added_at h.entry_is))
       where
         no_tables : (it.made ≡ no_calls) ⊎ (it.made ≡ on_versions (call.Refused ∷ [])) → flat_map tables_in it.made.versions ≡ []
         no_tables (inl e) = ap (λ (z : LineCalls). flat_map tables_in z.versions) e
         no_tables (inr e) = ap (λ (z : LineCalls). flat_map tables_in z.versions) e
 
-        no_templates : (it.made ≡ no_calls) ⊎ (it.made ≡ on_versions (call.Refused ∷ [])) → (k : ℕ) → templates_of (calls_on k it.made.shelves) ≡ []
+        no_templates : (it.made ≡ no_calls) ⊎ (it.made ≡ on_versions (call.Refused ∷ [])) → (k : ℕ) → templates_of (shelf_calls_of k it) ≡ []
         no_templates (inl e) = no_shelf [] e
         no_templates (inr e) = no_shelf (call.Refused ∷ []) e
     line_taken (said.Ask r name text) are fits (inl h) =
         let line = said.Ask r name text in
         let open_before : IsOpenAfter before r = record { name = name; asked = fits.0; is_open = fits.1 } in
-        let calls_are : it.made.shelves ≡ h.calls = ap (λ (z : LineDone). z.made.shelves) h.is in
-        let made = question_calls input.policy h.asker input.budget text h.calls h.reply h.replies in
+        let entry = asked r h.asker.version h.reply in
+        let made = question_calls input.policy h.asker (effort_of input) text h.calls h.reply h.replies in
+        let added = flat_map (admission_of journal) (added_with h.reply) in
+        let numbers = map (λ (a : Addition). replies.Number (number a.0 a.1)) (added_with h.reply) in
         subst (TakesLine line) (sym (ap entry_in h.is))
-        (takes_both (After line) (Next line) (flat_map (admission_of journal) (added_with h.reply)) (map (λ (a : Addition). replies.Number (number a.0 a.1)) (added_with h.reply))
+        (subst (λ es. Takes (Next line) t (event_of number input journal past entry ++ es) (reply_of entry ++ further_replies journal entry)) (sym (further_asked journal input line r h.asker.version h.reply))
+        (subst (λ rs. Takes (Next line) t (event_of number input journal past entry ++ added) (reply_of entry ++ rs)) (sym (further_told journal r h.asker.version h.reply))
+        (takes_both (After line) (Next line) added numbers
         (λ u comes. rest_taken u comes made)
-        t (event_of number input journal past (Ask r h.asker.version h.reply)) (reply_of (Ask r h.asker.version h.reply))
+        t (event_of number input journal past entry) (reply_of entry)
         (ask_taken laws number input journal every legal.input_fits.script (checked_by input journal legal) before rest earlier it t holds.policy_is holds.between past past_is r name text are open_before h refl
-        holds.sound (found_by h.calls h.reply calls_are made) upto))
+        holds.sound (found_by h.calls h.reply made_is made) upto))))
       where
         no_versions : it.made.versions ≡ []
         no_versions = ap (λ (z : LineDone). z.made.versions) h.is
 
-        made_is : it.made.shelves ≡ h.calls
-        made_is = ap (λ (z : LineDone). z.made.shelves) h.is
+        made_is : it.made ≡ on_shelves h.calls
+        made_is = ap (λ (z : LineDone). z.made) h.is
 
         told_is : added_at it.entry ≡ added_with h.reply
-        told_is = ap (λ (z : LineDone). added_at z.entry) h.is
+        told_is = ap (λ (z : LineDone). added_at z.entry) h.is ∙ added_asked r h.asker.version h.reply
 
-        none_added : templates_of h.calls.calls ≡ [] → (k : ℕ) → templates_of (calls_on k it.made.shelves) ≡ []
-        none_added quiet k = ap (λ z. templates_of (calls_on k z)) made_is ∙ by (h.calls.shard == k)
+        none_added : templates_of h.calls.calls ≡ [] → (k : ℕ) → templates_of (shelf_calls_of k it) ≡ []
+        none_added quiet k = ap templates_of (some_on k it h.calls made_is) ∙ by (h.calls.shard == k)
           where
             by : (b : Bool) → templates_of (cond b h.calls.calls []) ≡ []
             by true = quiet
@@ -501,15 +527,15 @@ module _ (laws : Laws) (input : Input) (journal : Journal) (legal : Legal input 
             subst (TakesAdded (said.Ask r name text) u) (sym told) (quiet_next (said.Ask r name text) u comes (ap (flat_map tables_in) no_versions) (none_added no_templates) (told_is ∙ told))
         rest_taken u comes (adds query found template id low calls_are told) =
             subst (TakesAdded (said.Ask r name text) u) (sym told) (added_taken (said.Ask r name text) h.calls made_is no_versions query found template id low calls_are (told_is ∙ told) u comes)
-    line_taken (said.Ask r name text) are fits (inr h) = unserved (said.Ask r name text) are h.1
+    line_taken (said.Ask r name text) are fits (inr h) = unserved (said.Ask r name text) are kinds.Ask (Some r) h.unserved
     line_taken (said.End r name) are fits (inl h) =
         let line = said.End r name in
         subst (TakesLine line) (sym (ap entry_in h.is))
         (takes_both (After line) (Next line) [] []
         (λ u comes. quiet_next line u comes (ap (λ (z : LineDone). flat_map tables_in z.made.versions) h.is) (no_shelf [] (ap (λ (z : LineDone). z.made) h.is)) (ap (λ (z : LineDone). added_at z.entry) h.is))
-        t (event_of number input journal past (End r)) (reply_of (End r))
-        (end_taken laws number input journal every legal.input_fits.script (checked_by input journal legal) before rest earlier it t holds.policy_is holds.between past r name fits.0 are fits.1 (ap entry_in h.is) h.version h.tables refl h.begun))
-    line_taken (said.End r name) are fits (inr h) = unserved (said.End r name) are h.1
+        t (event_of number input journal past (End r h.version)) (reply_of (End r h.version))
+        (end_taken laws number input journal every legal.input_fits.script (checked_by input journal legal) before rest earlier it t holds.policy_is holds.between past r name fits.0 are fits.1 h.version (ap entry_in h.is) h.tables refl h.begun))
+    line_taken (said.End r name) are fits (inr h) = unserved (said.End r name) are kinds.End (Some r) h.unserved
     line_taken (said.Publish n set) are fits (inl h) =
         let line = said.Publish n set in
         let made : it.made.versions ≡ publication h.tables h.version ∷ [] = ap (λ (z : LineDone). z.made.versions) h.is in
@@ -534,7 +560,7 @@ module _ (laws : Laws) (input : Input) (journal : Journal) (legal : Legal input 
           only = publish_only t h.tables h.version number_is;
           comes_to = λ after step. subst (Next line) (sym step.state) next;
         }))
-    line_taken (said.Publish n set) are fits (inr h) = unserved (said.Publish n set) are h
+    line_taken (said.Publish n set) are fits (inr h) = unserved (said.Publish n set) are kinds.Publish None h
 
   all_taken : (lines : List ScriptEntry) (its : List LineDone) (before : List ScriptEntry) (earlier : List LineDone) (past : List Entry) (t : State) →
       input.script.entries ≡ before ++ lines → EntriesFit before lines → AreServed input earlier lines its → legal.served ≡ earlier ++ its → past ≡ map entry_in earlier → Holds t before earlier past →

@@ -1,6 +1,6 @@
 -- The events of the chosen requests are a run.
 use mathlib.Core.List.{map-append}
-use Rattle.std.proofs.Common.{◌≡◌, ◌∙◌, ℕ, ◌<◌, Bool, true, false, cond, List, [], ◌∷◌, ◌++◌, All, Contains, Some, ap, append_assoc, arith, inl, inr, map, refl, slice_get, subst, sym, ◌⊎◌}
+use Rattle.std.proofs.Common.{◌≡◌, ◌∙◌, ℕ, Bool, true, false, cond, List, [], ◌∷◌, ◌++◌, All, Contains, None, Option, Some, ap, append_assoc, arith, inl, inr, map, refl, slice_get, subst, sym}
 use Rattle.std.proofs.Math.Logic.{∥∥₁_map₂}
 use Rattle.std.proofs.lemmas.List.Elements.{All-get_or, All-head, All-tail}
 use Rattle.std.proofs.lemmas.Option.{get_or_from_slice_get, slice_get_within}
@@ -14,13 +14,17 @@ use Rattle.ba_core.specs.declared.event.CoreReply.{CoreReply}
 use Rattle.ba_core.specs.declared.event.Event.{Event}
 use Rattle.ba_kernel.specs.Problems.{StrongAll}
 use Rattle.ba_kernel.specs.Tests.{Proof}
-use Rattle.ba_lanes.specs.Legal.{AreServed, IsServed, Legal, LineDone, pin_of}
+use Rattle.ba_input.specs.Inputs.{effort_of}
+use Rattle.ba_input.specs.declared.input.Input.{Input}
+use Rattle.ba_lanes.proofs.LaneLemmas.{some_on}
+use Rattle.ba_lanes.specs.Legal.{AreServed, IsServed, Legal, LineDone, asked, pin_of}
 use Rattle.ba_lanes.specs.declared.journal.Entry.{Entry}
-use Rattle.ba_lanes.specs.declared.journal.Entry.TheVariants.{Begin, Ask, End, NoMemory}
-use Rattle.ba_lanes.specs.declared.journal.Input.{Input}
+use Rattle.ba_lanes.specs.declared.journal.Entry.TheVariants.{Begin, End, Memory}
+use Rattle.ba_lanes.specs.declared.journal.LineKind.{LineKind}
+use Rattle.ba_lanes.specs.declared.journal.LineKind.TheVariants as kinds
 use Rattle.ba_lanes.specs.declared.journal.Journal.{Journal}
 use Rattle.ba_model.specs.Conform.{Conforms}
-use Rattle.ba_machine_laws.proofs.BetweenLemmas.{Between, quiet_publish, quiet_unbegun, quiet_unserved}
+use Rattle.ba_machine_laws.proofs.BetweenLemmas.{Between, quiet_memory, quiet_publish}
 use Rattle.ba_machine_laws.proofs.HistoryLemmas.{AreVersions, IsLegal, IsMade, all_found, all_legal, all_made, all_sound, are_versions, on_some_shelf}
 use Rattle.ba_machine_laws.proofs.LineLemmas.{AreTables, Comes, Laws, Same, ask_passed, ask_taken, begin_passed, begin_taken, end_passed, end_taken, entry_in, quiet_all, same_itself}
 use Rattle.ba_machine_laws.proofs.ScriptLemmas.{IsOpenAfter}
@@ -30,7 +34,8 @@ use Rattle.ba_script.specs.Scripts.{EntriesFit, EntryFits}
 use Rattle.ba_script.specs.declared.entry.ScriptEntry.{ScriptEntry}
 use Rattle.ba_script.specs.declared.entry.ScriptEntry.TheVariants as said
 use Rattle.ba_session.specs.Asking.{IsChecked}
-use Rattle.ba_session.specs.Passing.{ShelfCalls}
+use Rattle.ba_session.specs.declared.reply.Reply.{Reply}
+use Rattle.ba_session.specs.declared.reply.Reply.TheVariants as reply
 use Rattle.ba_tables.specs.TableSet.{TableSet}
 use Rattle.ba_versions.specs.Calls as versions
 use Rattle.ba_versions.specs.Reads.{calls_of, versions_of}
@@ -42,6 +47,12 @@ at_place P xs n x all e = subst P (get_or_from_slice_get xs n x x e) (All-get_or
 choice : (P : State → Type 0) (t : State) (b : Bool) (es : List Event) (rs : List CoreReply) → (b ≡ true → Takes P t es rs) → (b ≡ false → P t) → Takes P t (cond b es []) (cond b rs [])
 choice P t true es rs if_so if_not = if_so refl
 choice P t false es rs if_so if_not = if_not refl
+
+of_asked : (chosen : ℕ → Bool) (r version : ℕ) (it : Reply) → is_of chosen (asked r version it) ≡ chosen r
+of_asked chosen r version (reply.Answer query rows basis) = refl
+of_asked chosen r version (reply.Blocked query why) = refl
+of_asked chosen r version (reply.Unread fault) = refl
+of_asked chosen r version reply.NoMemory = refl
 
 pub checked_by : (input : Input) (journal : Journal) → Legal input journal → IsChecked input.policy
 checked_by input journal legal = record { fits = legal.input_fits.policy; tables = legal.input_fits.tables_are; rules = legal.input_fits.rules }
@@ -81,9 +92,11 @@ module _ (laws : Laws) (input : Input) (journal : Journal) (chosen : ℕ → Boo
     abbrev TakesEntry : ScriptEntry → Entry → Type 0
     TakesEntry line entry = Takes (After line) t (cond (is_of chosen entry) (event_of number input journal past entry) []) (cond (is_of chosen entry) (reply_of entry) [])
 
-    unserved : (line : ScriptEntry) → input.script.entries ≡ before ++ line ∷ rest → it.entry ≡ NoMemory → TakesEntry line it.entry
-    unserved line are is = subst (TakesEntry line) (sym is)
-        (quiet_all laws number input journal chosen legal.input_fits.script (checked_by input journal legal) before rest earlier it t policy_is b line are t (same_itself t) (λ k. refl) (λ k. quiet_unserved k it is))
+    memory_taken : (line : ScriptEntry) → input.script.entries ≡ before ++ line ∷ rest → (kind : LineKind) (r version : Option ℕ) → it.entry ≡ Memory kind r version → TakesEntry line it.entry
+    memory_taken line are kind r version is =
+        let quiet = quiet_all laws number input journal chosen legal.input_fits.script (checked_by input journal legal) before rest earlier it t policy_is b line are t (same_itself t) (λ k. refl)
+        (λ k. quiet_memory k kind r version it is) in
+        subst (TakesEntry line) (sym is) (choice (After line) t (is_of chosen (Memory kind r version)) [] [] (λ chooses. quiet) (λ passes. quiet))
 
     line_taken : (line : ScriptEntry) → input.script.entries ≡ before ++ line ∷ rest → EntryFits before line → IsServed input earlier line it → TakesEntry line it.entry
     line_taken (said.Begin r name context) are fits (inl h) =
@@ -96,36 +109,34 @@ module _ (laws : Laws) (input : Input) (journal : Journal) (chosen : ℕ → Boo
         (choice (After (said.Begin r name context)) t (chosen r) (event_of number input journal past (Begin r h.version)) (reply_of (Begin r h.version))
         (λ chooses. begin_taken laws number input journal chosen legal.input_fits.script (checked_by input journal legal) before rest earlier it t policy_is b past r h.version name context h.tables are h.is pinned good)
         (λ passes. begin_passed laws number input journal chosen legal.input_fits.script (checked_by input journal legal) before rest earlier it t policy_is b past r h.version name context h.tables are h.is pinned good passes))
-    line_taken (said.Begin r name context) are fits (inr h) =
-        let quiet = quiet_all laws number input journal chosen legal.input_fits.script (checked_by input journal legal) before rest earlier it t policy_is b (said.Begin r name context) are t (same_itself t) (λ k. refl)
-        (λ k. quiet_unbegun k r it h.0) in
-        subst (TakesEntry (said.Begin r name context)) (sym h.0) (choice (After (said.Begin r name context)) t (chosen r) [] [] (λ chooses. quiet) (λ passes. quiet))
+    line_taken (said.Begin r name context) are fits (inr h) = memory_taken (said.Begin r name context) are kinds.Begin (Some r) None h.entry_is
     line_taken (said.Ask r name text) are fits (inl h) =
         let open_before : IsOpenAfter before r = record { name = name; asked = fits.0; is_open = fits.1 } in
-        let calls_are : it.made.shelves ≡ h.calls = ap (λ (z : LineDone). z.made.shelves) h.is in
         let templates : t.templates ≡ s.templates = same.templates_are in
         let sound : AreSound t = subst (λ ts. All (λ (template : Proof). StrongAll template.problem) ts) (sym templates) (all_sound input journal s machine legal.shelves.eight shelves_legal) in
-        let found_at : HasFound number s h.calls = subst (HasFound number s) calls_are (all_found input journal s machine legal.shelves.eight shelves_legal laws.found it made
-        (subst (λ (z : ShelfCalls). (z.calls ≡ []) ⊎ (z.shard < 8)) (sym calls_are) (on_some_shelf input.policy h.asker input.budget text h.calls h.reply h.replies))) in
+        let found_at : HasFound number s h.calls = all_found input journal s machine legal.shelves.eight shelves_legal laws.found it made h.calls
+        (λ k. some_on k it h.calls (ap (λ (z : LineDone). z.made) h.is)) (on_some_shelf input.policy h.asker (effort_of input) text h.calls h.reply h.replies) in
         let found : HasFound number t h.calls = record {
           each = λ query its one look among. ap (λ ts. slice_get ts (number h.calls.shard one.id)) templates ∙ found_at.each query its one look among;
         } in
         subst (TakesEntry (said.Ask r name text)) (sym (ap entry_in h.is))
-        (choice (After (said.Ask r name text)) t (chosen r) (event_of number input journal past (Ask r h.asker.version h.reply)) (reply_of (Ask r h.asker.version h.reply))
+        (subst (λ b. Takes (After (said.Ask r name text)) t (cond b (event_of number input journal past (asked r h.asker.version h.reply)) []) (cond b (reply_of (asked r h.asker.version h.reply)) []))
+        (sym (of_asked chosen r h.asker.version h.reply))
+        (choice (After (said.Ask r name text)) t (chosen r) (event_of number input journal past (asked r h.asker.version h.reply)) (reply_of (asked r h.asker.version h.reply))
         (λ chooses. ask_taken laws number input journal chosen legal.input_fits.script (checked_by input journal legal) before rest earlier it t policy_is b past past_is r name text are open_before h chooses sound found
         (λ n tables there. ap (λ z. slice_get z n) (sym (same.versions_are ∙ machine.versions_are)) ∙ there))
-        (λ passes. ask_passed laws number input journal chosen legal.input_fits.script (checked_by input journal legal) before rest earlier it t policy_is b past past_is r name text are open_before h passes))
-    line_taken (said.Ask r name text) are fits (inr h) = unserved (said.Ask r name text) are (ap entry_in h.1)
+        (λ passes. ask_passed laws number input journal chosen legal.input_fits.script (checked_by input journal legal) before rest earlier it t policy_is b past past_is r name text are open_before h passes)))
+    line_taken (said.Ask r name text) are fits (inr h) = memory_taken (said.Ask r name text) are kinds.Ask (Some r) None (ap entry_in h.unserved)
     line_taken (said.End r name) are fits (inl h) =
         subst (TakesEntry (said.End r name)) (sym (ap entry_in h.is))
-        (choice (After (said.End r name)) t (chosen r) (event_of number input journal past (End r)) (reply_of (End r))
-        (λ chooses. end_taken laws number input journal chosen legal.input_fits.script (checked_by input journal legal) before rest earlier it t policy_is b past r name fits.0 are fits.1 (ap entry_in h.is) h.version h.tables chooses h.begun)
-        (λ passes. end_passed laws number input journal chosen legal.input_fits.script (checked_by input journal legal) before rest earlier it t policy_is b past r name fits.0 are fits.1 (ap entry_in h.is)))
-    line_taken (said.End r name) are fits (inr h) = unserved (said.End r name) are (ap entry_in h.1)
+        (choice (After (said.End r name)) t (chosen r) (event_of number input journal past (End r h.version)) (reply_of (End r h.version))
+        (λ chooses. end_taken laws number input journal chosen legal.input_fits.script (checked_by input journal legal) before rest earlier it t policy_is b past r name fits.0 are fits.1 h.version (ap entry_in h.is) h.tables chooses h.begun)
+        (λ passes. end_passed laws number input journal chosen legal.input_fits.script (checked_by input journal legal) before rest earlier it t policy_is b past r name fits.0 are fits.1 h.version (ap entry_in h.is)))
+    line_taken (said.End r name) are fits (inr h) = memory_taken (said.End r name) are kinds.End (Some r) None (ap entry_in h.unserved)
     line_taken (said.Publish n set) are fits (inl h) =
         subst (TakesEntry (said.Publish n set)) (sym (ap entry_in h.is))
         (quiet_all laws number input journal chosen legal.input_fits.script (checked_by input journal legal) before rest earlier it t policy_is b (said.Publish n set) are t (same_itself t) (λ k. refl) (λ k. quiet_publish k h.version it (ap entry_in h.is)))
-    line_taken (said.Publish n set) are fits (inr h) = unserved (said.Publish n set) are (ap entry_in h)
+    line_taken (said.Publish n set) are fits (inr h) = memory_taken (said.Publish n set) are kinds.Publish None None (ap entry_in h)
 
   all_taken : (lines : List ScriptEntry) (its : List LineDone) (before : List ScriptEntry) (earlier : List LineDone) (past : List Entry) (t : State) →
       input.script.entries ≡ before ++ lines → EntriesFit before lines → AreServed input earlier lines its → All (IsMade journal) its → past ≡ map entry_in earlier → Same s t →

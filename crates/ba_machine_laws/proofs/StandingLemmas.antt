@@ -1,14 +1,16 @@
 -- The requests that stand at a journal's entries are those that began and asked there.
-use Rattle.std.proofs.Common.{◌≡◌, ◌∙◌, ℕ, List, [], ◌∷◌, ◌++◌, All, Contains, Some, ap, append_assoc, arith, get_or, inl, inr, refl, slice_get, subst, sym}
+use Rattle.std.proofs.Common.{◌≡◌, ◌∙◌, ℕ, List, [], ◌∷◌, ◌++◌, All, Contains, None, Some, ap, append_assoc, arith, get_or, inl, inr, refl, slice_get, subst, sym}
 use Rattle.std.proofs.Math.Logic.{∥∥₁_map}
 use Rattle.std.proofs.lemmas.List.Elements.{All-cons, All-contains, All-map, All-nil, Contains-append_right}
 use Rattle.std.proofs.lemmas.Option.{get_or_from_slice_get}
+use Rattle.ba_input.specs.declared.input.Input.{Input}
 use Rattle.ba_lanes.proofs.HeadlineLemmas.{headline}
+use Rattle.ba_lanes.proofs.ServeLemmas.{asked_is_no_begin, memory_is_no_begin}
 use Rattle.ba_lanes.specs.Headline.{IsAskerOf}
 use Rattle.ba_lanes.specs.Legal.{AreServed, HasContext, IsServed, Legal, LineDone, contexts_of}
 use Rattle.ba_lanes.specs.declared.journal.Entry.{Entry}
-use Rattle.ba_lanes.specs.declared.journal.Entry.TheVariants.{Begin, Unbegun, Ask, End, Publish, NoMemory}
-use Rattle.ba_lanes.specs.declared.journal.Input.{Input}
+use Rattle.ba_lanes.specs.declared.journal.Entry.TheVariants.{Begin, End, Publish}
+use Rattle.ba_lanes.specs.declared.journal.LineKind.TheVariants as kinds
 use Rattle.ba_lanes.specs.declared.journal.Journal.{Journal}
 use Rattle.ba_model.specs.declared.policy.Context.{Context}
 use Rattle.ba_machine_laws.proofs.LineLemmas.{entry_in}
@@ -35,13 +37,13 @@ module _ (input : Input) (numbers : NumberedFrom 0 input.script.entries) where
   line_begun before rest earlier it (said.Begin r name context) are (inl h) k version e =
       let same = begun_same r h.version k version (sym (ap entry_in h.is) ∙ e) in
       (context, subst (λ n. HasContext input.script n context) same (next_number input.script.entries before rest r name context numbers are).1)
-  line_begun before rest earlier it (said.Begin r name context) are (inr h) k version e = let other : Unbegun r ≡ Begin k version = sym h.0 ∙ e in absurd (cc)
-  line_begun before rest earlier it (said.Ask r name text) are (inl h) k version e = let other : Ask r h.asker.version h.reply ≡ Begin k version = sym (ap entry_in h.is) ∙ e in absurd (cc)
-  line_begun before rest earlier it (said.Ask r name text) are (inr h) k version e = let other : NoMemory ≡ Begin k version = sym (ap entry_in h.1) ∙ e in absurd (cc)
-  line_begun before rest earlier it (said.End r name) are (inl h) k version e = let other : End r ≡ Begin k version = sym (ap entry_in h.is) ∙ e in absurd (cc)
-  line_begun before rest earlier it (said.End r name) are (inr h) k version e = let other : NoMemory ≡ Begin k version = sym (ap entry_in h.1) ∙ e in absurd (cc)
+  line_begun before rest earlier it (said.Begin r name context) are (inr h) k version e = absurd (memory_is_no_begin kinds.Begin (Some r) None k version (sym h.entry_is ∙ e))
+  line_begun before rest earlier it (said.Ask r name text) are (inl h) k version e = absurd (asked_is_no_begin r h.asker.version h.reply k version (sym (ap entry_in h.is) ∙ e))
+  line_begun before rest earlier it (said.Ask r name text) are (inr h) k version e = absurd (memory_is_no_begin kinds.Ask (Some r) None k version (sym (ap entry_in h.unserved) ∙ e))
+  line_begun before rest earlier it (said.End r name) are (inl h) k version e = let other : End r h.version ≡ Begin k version = sym (ap entry_in h.is) ∙ e in absurd (cc)
+  line_begun before rest earlier it (said.End r name) are (inr h) k version e = absurd (memory_is_no_begin kinds.End (Some r) None k version (sym (ap entry_in h.unserved) ∙ e))
   line_begun before rest earlier it (said.Publish n set) are (inl h) k version e = let other : Publish h.version ≡ Begin k version = sym (ap entry_in h.is) ∙ e in absurd (cc)
-  line_begun before rest earlier it (said.Publish n set) are (inr h) k version e = let other : NoMemory ≡ Begin k version = sym (ap entry_in h) ∙ e in absurd (cc)
+  line_begun before rest earlier it (said.Publish n set) are (inr h) k version e = absurd (memory_is_no_begin kinds.Publish None None k version (sym (ap entry_in h) ∙ e))
 
   all_begun : (lines : List ScriptEntry) (its : List LineDone) (before : List ScriptEntry) (earlier : List LineDone) → input.script.entries ≡ before ++ lines → AreServed input earlier lines its →
       All (λ (it : LineDone). HasBegun input it.entry) its

@@ -25,8 +25,8 @@ use Rattle.ba_core.specs.declared.event.Ground.TheVariants as grounds
 use Rattle.ba_core.specs.declared.opened.Answered.{Answered}
 use Rattle.ba_core.specs.declared.opened.Opened.{Opened}
 use Rattle.ba_direct.specs.Cover.{CoverCovers, CoveredIsStrong}
-use Rattle.ba_instant.specs.Dues.{Searches}
-use Rattle.ba_instant.specs.declared.order.Pick.{Pick}
+use Rattle.ba_settle.specs.Dues.{Searches}
+use Rattle.ba_settle.specs.declared.order.Pick.{Pick}
 use Rattle.ba_kernel.proofs.StepFits.{All-at}
 use Rattle.ba_kernel.specs.Asked.{AnswersAreRecords, QuestionFits, QuestionIsProblem}
 use Rattle.ba_kernel.specs.Courses.{ClosedIsStrong, Slots}
@@ -49,6 +49,7 @@ use Rattle.ba_session.specs.declared.reply.By.TheVariants as by
 use Rattle.ba_session.specs.declared.reply.Reply.{Reply}
 use Rattle.ba_session.specs.declared.reply.Reply.TheVariants.{Answer, Blocked, Unread, NoMemory}
 use Rattle.ba_session.specs.declared.request.Request.{Request}
+use Rattle.ba_settle.specs.Settling.{Effort}
 use Rattle.ba_template.specs.Found.{MatchedIsStrong}
 
 -- the laws of the crates below on which it rests
@@ -81,27 +82,26 @@ module _ (laws : Laws) (number : ℕ → ℕ → ℕ) (policy : Policy) (checked
   asked_query asker query rows basis later =
       of_last (λ (entry : TraceEntry). IsQuery policy.schema (kinds_of policy.params) [] entry.query) asker.trace (record { query = query; rows = rows }) later.queries
 
-  strong_by : (t : State) (asker : Request) (budget : ℕ) (query : Query) (made : ShelfCalls) (basis : By) → AreSound t → HasFound number t made → IsRequestOf policy asker →
-      IsQuery policy.schema (kinds_of policy.params) [] query → IsGround policy asker budget query basis made → Strong policy asker.context asker.trace query
-  strong_by t asker budget query made (by.Cover cover) sound found may asks ground =
+  strong_by : (t : State) (asker : Request) (effort : Effort) (query : Query) (made : ShelfCalls) (basis : By) → AreSound t → HasFound number t made → IsRequestOf policy asker →
+      IsQuery policy.schema (kinds_of policy.params) [] query → IsGround policy asker effort query basis made → Strong policy asker.context asker.trace query
+  strong_by t asker effort query made (by.Cover cover) sound found may asks ground =
       laws.covered policy asker.context asker.trace query checked.fits may.context (laws.covers policy asker.context query cover ground.0)
-  strong_by t asker budget query made (by.Template shard id it) sound found may asks ground =
-      let there = admitted number policy t asker query shard id it made found ground in
-      let template = ground.first.template in
+  strong_by t asker effort query made (by.Template shard id template it) sound found may asks ground =
+      let there = admitted number policy t asker query shard id template it made found ground in
       laws.matched template.problem policy asker.context asker.trace query it
       (All-at (λ (it : Proof). StrongAll it.problem) t.templates (number shard id) template sound there) may.context ground.first.first.is_match
-  strong_by t asker budget query made (by.Proof steps keeping) sound found may asks ground =
+  strong_by t asker effort query made (by.Proof steps keeping) sound found may asks ground =
       let fits : QuestionFits policy asker.context asker.trace query = question_fits laws.records policy asker query checked may asks in
       laws.problem policy asker.context asker.trace query may.context
-      (laws.closed (question policy asker query) steps ground.proof.slots (laws.question policy asker.context asker.trace query fits)
-      (runs_of ground.proof.searches) ground.proof.closed)
+      (laws.closed (question policy asker query) steps ground.proof.1.slots (laws.question policy asker.context asker.trace query fits)
+      (runs_of ground.proof.1.searches) ground.proof.1.closed)
 
   -- its answer is compliant on a machine that has the request
-  compliant : (t : State) (k : ℕ) (asker : Request) (budget : ℕ) (query : Query) (rows : List (List Value)) (made : ShelfCalls) (basis : By) → HasRequest policy t k asker → AreSound t →
-      HasFound number t made → IsRequestOf policy asker → IsRequestOf policy (after asker (Answer query rows basis)) → IsGround policy asker budget query basis made →
+  compliant : (t : State) (k : ℕ) (asker : Request) (effort : Effort) (query : Query) (rows : List (List Value)) (made : ShelfCalls) (basis : By) → HasRequest policy t k asker → AreSound t →
+      HasFound number t made → IsRequestOf policy asker → IsRequestOf policy (after asker (Answer query rows basis)) → IsGround policy asker effort query basis made →
       IsAnswer query asker.context asker.tables.rows rows → IsCompliant t k query rows
-  compliant t k asker budget query rows made basis has sound found may later ground answer =
-      let strong = strong_by t asker budget query made basis sound found may (asked_query asker query rows basis later) ground in
+  compliant t k asker effort query rows made basis has sound found may later ground answer =
+      let strong = strong_by t asker effort query made basis sound found may (asked_query asker query rows basis later) ground in
       record {
         asker = opened_of asker;
         is_open = has.is_open;
@@ -218,9 +218,9 @@ record Reaches (policy : Policy) (s : State) (k : ℕ) (asker : Request) (es : L
   between : Between policy s k asker at
 
 module _ (laws : Laws) (number : ℕ → ℕ → ℕ) (policy : Policy) (checked : IsChecked policy) (s : State) (k : ℕ) (sound : AreSound s) where
-  module _ (asker : Request) (es : List Event) (rs : List CoreReply) (so_far : Reaches policy s k asker es rs) (budget : ℕ) (text : List ℕ) (made : ShelfCalls) (found : HasFound number s made)
+  module _ (asker : Request) (es : List Event) (rs : List CoreReply) (so_far : Reaches policy s k asker es rs) (effort : Effort) (text : List ℕ) (made : ShelfCalls) (found : HasFound number s made)
       (may : IsRequestOf policy asker) where
-    answer_on : (query : Query) (rows : List (List Value)) (basis : By) → Replies policy asker budget text made (Answer query rows basis) → IsRequestOf policy (after asker (Answer query rows basis)) →
+    answer_on : (query : Query) (rows : List (List Value)) (basis : By) → Replies policy asker effort text made (Answer query rows basis) → IsRequestOf policy (after asker (Answer query rows basis)) →
         AgreesOn number policy so_far.at k asker (Answer query rows basis) →
         Reaches policy s k (after asker (Answer query rows basis)) (es ++ event_in number policy k asker (Answer query rows basis)) (rs ++ told_in (Answer query rows basis))
     answer_on query rows basis h later told =
@@ -228,7 +228,7 @@ module _ (laws : Laws) (number : ℕ → ℕ → ℕ) (policy : Policy) (checked
         let why = ground_of number policy asker query basis in
         let step : IsStep t (events.Ask k query why) (replies.Asked (asked.Answer rows)) told.new = record {
           step = told.is_reply.step;
-          compliant = compliant laws number policy checked t k asker budget query rows made basis so_far.between.has (sound_between policy s k asker t so_far.between sound)
+          compliant = compliant laws number policy checked t k asker effort query rows made basis so_far.between.has (sound_between policy s k asker t so_far.between sound)
               (found_between policy s k asker t so_far.between number made found) may later h.ground h.released.answer;
         } in
         record {
@@ -246,7 +246,7 @@ module _ (laws : Laws) (number : ℕ → ℕ → ℕ) (policy : Policy) (checked
       between = between_same policy s k asker so_far.at so_far.between;
     }
 
-    reply_on : (reply : Reply) → Replies policy asker budget text made reply → IsRequestOf policy (after asker reply) → AgreesOn number policy so_far.at k asker reply →
+    reply_on : (reply : Reply) → Replies policy asker effort text made reply → IsRequestOf policy (after asker reply) → AgreesOn number policy so_far.at k asker reply →
         Reaches policy s k (after asker reply) (es ++ event_in number policy k asker reply) (rs ++ told_in reply)
     reply_on (Answer query rows basis) h later agrees = answer_on query rows basis h later agrees
     reply_on (Blocked query why) h later agrees =
@@ -274,9 +274,9 @@ module _ (laws : Laws) (number : ℕ → ℕ → ℕ) (policy : Policy) (checked
   all_on (it ∷ others) asker last es rs so_far told found =
       let found_here = All-head (λ (it : Question). HasFound number s it.made) it others found in
       let found_there = found_between policy s k asker so_far.at so_far.between number it.made found_here in
-      let agrees = ask_agrees laws.unique number policy so_far.at k asker it.budget it.text it.made it.reply so_far.between.has found_there told.1 in
+      let agrees = ask_agrees laws.unique number policy so_far.at k asker it.effort it.text it.made it.reply so_far.between.has found_there told.1 in
       let later = first_may policy (after asker it.reply) last others told.2 in
-      let one = reply_on asker es rs so_far it.budget it.text it.made found_here told.0 it.reply told.1 later agrees in
+      let one = reply_on asker es rs so_far it.effort it.text it.made found_here told.0 it.reply told.1 later agrees in
       let rest = all_on others (after asker it.reply) last (es ++ event_in number policy k asker it.reply) (rs ++ told_in it.reply) one told.2
       (All-tail (λ (it : Question). HasFound number s it.made) it others found) in
       record {
@@ -357,7 +357,7 @@ module _ (unique : AnswerIsUnique) (number : ℕ → ℕ → ℕ) (policy : Poli
   only_asks (it ∷ others) asker end t between told found rs last front =
       let found_here = All-head (λ (it : Question). HasFound number s it.made) it others found in
       let found_there = found_between policy s k asker t between number it.made found_here in
-      let agrees = ask_agrees unique number policy t k asker it.budget it.text it.made it.reply between.has found_there told.1 in
+      let agrees = ask_agrees unique number policy t k asker it.effort it.text it.made it.reply between.has found_there told.1 in
       let found_rest = All-tail (λ (it : Question). HasFound number s it.made) it others found in
       only_reply asker t it.reply others between agrees (λ mid there. only_asks others (after asker it.reply) end mid there told.2 found_rest) rs last front
 

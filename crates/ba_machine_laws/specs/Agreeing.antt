@@ -25,14 +25,20 @@ use Rattle.ba_session.specs.declared.reply.By.TheVariants as by
 use Rattle.ba_session.specs.declared.reply.Reply.{Reply}
 use Rattle.ba_session.specs.declared.reply.Reply.TheVariants.{Answer, Blocked, Unread, NoMemory}
 use Rattle.ba_session.specs.declared.request.Request.{Request}
+use Rattle.ba_settle.specs.Settling.{Effort}
 
 -- ---- the machine's part
 
 -- the request as the machine keeps it
 abbrev pub opened_of : Request → Opened
-opened_of asker = record { context = asker.context; version = asker.version; trace = asker.trace }
+opened_of asker = record {
+  context = asker.context;
+  version = asker.version;
+  trace = asker.trace;
+}
 
--- a machine for the request: it has the policy, and under the number of the request's version its tables
+-- a machine for the request: it has the policy, and under the number of the request's version its
+-- tables
 pub record IsFor (policy : Policy) (s : State) (asker : Request) : Type 0 where
   pub policy_is : s.policy ≡ policy
   pub tables_are : slice_get s.versions asker.version ≡ Some asker.tables
@@ -47,17 +53,23 @@ pub record HasRequest (policy : Policy) (s : State) (k : ℕ) (asker : Request) 
   pub is_for : IsFor policy s asker
   pub is_open : opened_at s k ≡ Some (opened_of asker)
 
--- Each template that these calls found was admitted to the machine, under the number that the one with its id on the shelf of this shard has there.
+-- Each template that these calls found was admitted to the machine, under the number that the one
+-- with its id on the shelf of this shard has there.
 pub record HasFound (number : ℕ → ℕ → ℕ) (s : State) (made : ShelfCalls) : Type 0 where
-  pub each : (query : Query) (found : List Kept) (it : Kept) → Contains made.calls (look_at query found) → Contains found it → slice_get s.templates (number made.shard it.id) ≡ Some it.template
+  pub each : (query : Query) (found : List Kept) (it : Kept) →
+      Contains made.calls (look_at query found) → Contains found it →
+      slice_get s.templates (number made.shard it.id) ≡ Some it.template
 
 -- ---- evidence
 
--- the ground that the evidence of an answer is: the cover, the match of the template of its number, or the proof of the question's problem by the steps
+-- the ground that the evidence of an answer is: the cover, the match of the template of its number,
+-- or the proof of the question's problem by the steps
 abbrev pub ground_of : (ℕ → ℕ → ℕ) → Policy → Request → Query → By → Ground
 ground_of number policy asker query (by.Cover cover) = grounds.Cover cover
-ground_of number policy asker query (by.Template shard id found) = grounds.Template (number shard id) found
-ground_of number policy asker query (by.Proof steps keeping) = grounds.Proof (record { problem = question policy asker query; steps = steps })
+ground_of number policy asker query (by.Template shard id template found) =
+    grounds.Template (number shard id) found
+ground_of number policy asker query (by.Proof steps keeping) =
+    grounds.Proof (record { problem = question policy asker query; steps = steps })
 
 -- ---- replies
 
@@ -74,25 +86,33 @@ pub record IsReplyTo (old : State) (event : Event) (reply : CoreReply) (new : St
   pub step : Steps old event reply new
   pub only : (other : CoreReply) (next : State) → Steps old event other next → other ≡ reply
   pub rising : AreRising old → AreRising new
-  pub alone : (next : State) → Steps old event reply next → AreRising old → AreRising next → next ≡ new
+  pub alone : (next : State) → Steps old event reply next → AreRising old → AreRising next →
+      next ≡ new
 
 -- the machine's reply to the event is this one, and it then has the request as it stands later
-pub record IsToldBy (policy : Policy) (s : State) (k : ℕ) (event : Event) (reply : CoreReply) (later : Request) : Type 0 where
+pub record IsToldBy (policy : Policy) (s : State) (k : ℕ) (event : Event) (reply : CoreReply)
+    (later : Request) : Type 0 where
   pub new : State
   pub is_reply : IsReplyTo s event reply new
   pub has : HasRequest policy new k later
 
--- What a request's reply is to a machine that has the request: an answer is the machine's reply to the ask with the ground that its evidence is, a block its reply to a
--- refusal; a text that is unread, and want of memory, are no event. The machine then has the request as it stands after the reply.
+-- What a request's reply is to a machine that has the request: an answer is the machine's reply to
+-- the ask with the ground that its evidence is, a block its reply to a refusal; a text that is
+-- unread, and want of memory, are no event. The machine then has the request as it stands after the
+-- reply.
 abbrev pub AgreesOn : (ℕ → ℕ → ℕ) → Policy → State → ℕ → Request → Reply → Type 0
 AgreesOn number policy s k asker (Answer query rows basis) =
-    IsToldBy policy s k (events.Ask k query (ground_of number policy asker query basis)) (replies.Asked (asked.Answer rows)) (after asker (Answer query rows basis))
+    IsToldBy policy s k (events.Ask k query (ground_of number policy asker query basis))
+    (replies.Asked (asked.Answer rows)) (after asker (Answer query rows basis))
 AgreesOn number policy s k asker (Blocked query why) =
-    IsToldBy policy s k (events.Ask k query grounds.Refuse) (replies.Asked asked.Blocked) (after asker (Blocked query why))
-AgreesOn number policy s k asker (Unread fault) = HasRequest policy s k (after asker (Unread fault))
+    IsToldBy policy s k (events.Ask k query grounds.Refuse) (replies.Asked asked.Blocked)
+    (after asker (Blocked query why))
+AgreesOn number policy s k asker (Unread fault) =
+    HasRequest policy s k (after asker (Unread fault))
 AgreesOn number policy s k asker NoMemory = HasRequest policy s k (after asker NoMemory)
 
--- this trace is what the machine had of the request, its reply to the end is that the request ended, and no request of the number is open then
+-- this trace is what the machine had of the request, its reply to the end is that the request
+-- ended, and no request of the number is open then
 pub record EndsWith (s : State) (k : ℕ) (trace : List TraceEntry) : Type 0 where
   pub asker : Opened
   pub was_open : opened_at s k ≡ Some asker
@@ -114,19 +134,23 @@ IsOfOthers k (events.End j) = j ≢ k
 -- the new state has the request as the old one has it, and each template under its number
 pub record Keeps (policy : Policy) (k : ℕ) (asker : Request) (old new : State) : Type 0 where
   pub has : HasRequest policy new k asker
-  pub found : (number : ℕ → ℕ → ℕ) (made : ShelfCalls) → HasFound number old made → HasFound number new made
+  pub found : (number : ℕ → ℕ → ℕ) (made : ShelfCalls) →
+      HasFound number old made → HasFound number new made
 
 -- ---- the laws
 
 -- the beginning of a request is the machine's step on the event that begins it, on its version
 abbrev pub BeginAgrees : Type 0
 BeginAgrees = (policy : Policy) (s : State) (k : ℕ) (context : Context) (asker : Request) →
-    CanBegin policy s k asker → IsBegun context asker → IsToldBy policy s k (events.Begin k context asker.version) replies.Begun asker
+    CanBegin policy s k asker → IsBegun context asker →
+    IsToldBy policy s k (events.Begin k context asker.version) replies.Begun asker
 
 -- each reply of a request is the machine's
 abbrev pub AskAgrees : Type 0
-AskAgrees = (number : ℕ → ℕ → ℕ) (policy : Policy) (s : State) (k : ℕ) (asker : Request) (budget : ℕ) (text : List ℕ) (made : ShelfCalls) (reply : Reply) →
-    HasRequest policy s k asker → HasFound number s made → Replies policy asker budget text made reply → AgreesOn number policy s k asker reply
+AskAgrees = (number : ℕ → ℕ → ℕ) (policy : Policy) (s : State) (k : ℕ) (asker : Request)
+    (effort : Effort) (text : List ℕ) (made : ShelfCalls) (reply : Reply) →
+    HasRequest policy s k asker → HasFound number s made →
+    Replies policy asker effort text made reply → AgreesOn number policy s k asker reply
 
 -- the end of a request is the machine's step on the event that ends it
 abbrev pub EndAgrees : Type 0
@@ -135,5 +159,7 @@ EndAgrees = (policy : Policy) (s : State) (k : ℕ) (asker : Request) (trace : L
 
 -- whatever else happens to the machine in between, it keeps the request
 abbrev pub OthersAgree : Type 0
-OthersAgree = (policy : Policy) (s : State) (k : ℕ) (asker : Request) (event : Event) (reply : CoreReply) (new : State) →
-    HasRequest policy s k asker → IsOfOthers k event → Steps s event reply new → Keeps policy k asker s new
+OthersAgree = (policy : Policy) (s : State) (k : ℕ) (asker : Request) (event : Event)
+    (reply : CoreReply) (new : State) →
+    HasRequest policy s k asker → IsOfOthers k event → Steps s event reply new →
+    Keeps policy k asker s new

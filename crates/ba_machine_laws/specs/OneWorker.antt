@@ -1,4 +1,5 @@
--- A journal of one worker beside the machine that decides which questions are answered: all that it tells is one run, from the machine's first state on.
+-- A journal of one worker beside the machine that decides which questions are answered: all that
+-- it tells is one run, from the machine's first state on.
 use Rattle.std.specs.Prelude.{◌≡◌, ◌==◌, ◌&&◌, ℕ, zero, suc, List, [], ◌∷◌, ◌++◌, None, Option, Some, drop, if◌then◌else◌, map, slice_get, slice_index_or, take}
 use Rattle.std.specs.List.{flat_map}
 use Rattle.ba_cache.specs.declared.call.Admit.TheVariants.{Added, Known}
@@ -7,11 +8,11 @@ use Rattle.ba_core.specs.declared.event.CoreReply.{CoreReply}
 use Rattle.ba_core.specs.declared.event.CoreReply.TheVariants as replies
 use Rattle.ba_core.specs.declared.event.Event.{Event}
 use Rattle.ba_core.specs.declared.event.Event.TheVariants as events
+use Rattle.ba_input.specs.declared.input.Input.{Input}
 use Rattle.ba_kernel.specs.Tests as kernel
 use Rattle.ba_lanes.specs.Legal.{Legal, number_in}
 use Rattle.ba_lanes.specs.declared.journal.Entry.{Entry}
-use Rattle.ba_lanes.specs.declared.journal.Entry.TheVariants.{Begin, Unbegun, Ask, End, Publish, NoMemory}
-use Rattle.ba_lanes.specs.declared.journal.Input.{Input}
+use Rattle.ba_lanes.specs.declared.journal.Entry.TheVariants.{Begin, Ask, End, Publish, Memory}
 use Rattle.ba_lanes.specs.declared.journal.Journal.{Journal}
 use Rattle.ba_model.specs.declared.query.Query.{Query}
 use Rattle.ba_script.specs.declared.entry.ScriptEntry.{ScriptEntry}
@@ -30,7 +31,8 @@ use Rattle.ba_machine_laws.specs.Journals.{IsRunFrom, event_of, reply_of, templa
 abbrev pub Addition : Type 0
 Addition = ℕ × ℕ
 
--- the template of a proof, where the shelf of this shard added it: not if it stood there already, or wasn't made or kept
+-- the template of a proof, where the shelf of this shard added it: not if it stood there already,
+-- or wasn't made or kept
 abbrev pub kept_as : ℕ → Keeping → List Addition
 kept_as shard (keeping.Stored (Added id)) = (shard, id) ∷ []
 kept_as shard (keeping.Stored (Known id)) = []
@@ -40,7 +42,7 @@ kept_as shard keeping.NoMemory = []
 -- only a proof has a template, which the shelf of the question's shard is given
 abbrev pub added_by : Query → By → List Addition
 added_by query (Cover cover) = []
-added_by query (Template shard id found) = []
+added_by query (Template shard id template found) = []
 added_by query (Proof steps keeping) = kept_as (shard_of (shape_of [] query)) keeping
 
 -- the template that was added with a reply
@@ -53,11 +55,10 @@ added_with reply.NoMemory = []
 -- and at an entry
 abbrev pub added_at : Entry → List Addition
 added_at (Begin request version) = []
-added_at (Unbegun request) = []
 added_at (Ask request version it) = added_with it
-added_at (End request) = []
+added_at (End request version) = []
 added_at (Publish version) = []
-added_at NoMemory = []
+added_at (Memory kind request version) = []
 
 -- the templates that were added at these entries, in their order
 abbrev pub additions : List Entry → List Addition
@@ -66,7 +67,8 @@ additions entries = flat_map added_at entries
 -- how many of these come before the one with this id on the shelf of this shard
 abbrev pub place_among : List Addition → ℕ → ℕ → ℕ
 place_among [] shard id = zero
-place_among (it ∷ its) shard id = if (it.0 == shard) && (it.1 == id) then zero else suc (place_among its shard id)
+place_among (it ∷ its) shard id =
+    if (it.0 == shard) && (it.1 == id) then zero else suc (place_among its shard id)
 
 -- the number of the template with this id on the shelf of this shard: how many were added before it
 abbrev pub number_by_addition : Journal → ℕ → ℕ → ℕ
@@ -81,40 +83,50 @@ admits (Some template) = events.Admit template ∷ []
 
 -- the admission of a template that was added: the one that the shelf's calls added as this one
 abbrev pub admission_of : Journal → Addition → List Event
-admission_of journal it = admits (slice_get (templates_in (take 1 (drop it.0 journal.histories.shelves.items))) it.1)
+admission_of journal it =
+    admits (slice_get (templates_in (take 1 (drop it.0 journal.histories.shelves.items))) it.1)
 
--- What else happens at the entry of a line: the line's table set becomes a version, or the template of a proof is added.
+-- What else happens at the entry of a line: the line's table set becomes a version, or the template
+-- of a proof is added.
 abbrev pub further : Input → Journal → ScriptEntry → Entry → List Event
 further input journal line (Begin request version) = []
-further input journal line (Unbegun request) = []
-further input journal line (Ask request version it) = flat_map (admission_of journal) (added_with it)
-further input journal line (End request) = []
-further input journal line (Publish version) = events.Publish (slice_index_or input.published (number_in line) input.tables) ∷ []
-further input journal line NoMemory = []
+further input journal line (Ask request version it) =
+    flat_map (admission_of journal) (added_with it)
+further input journal line (End request version) = []
+further input journal line (Publish version) =
+    events.Publish (slice_index_or input.published (number_in line) input.tables) ∷ []
+further input journal line (Memory kind request version) = []
 
 -- and what the machine replies to that: the number of the version, or of the template
 abbrev pub further_replies : Journal → Entry → List CoreReply
 further_replies journal (Begin request version) = []
-further_replies journal (Unbegun request) = []
-further_replies journal (Ask request version it) = map (λ (a : Addition). replies.Number (number_by_addition journal a.0 a.1)) (added_with it)
-further_replies journal (End request) = []
+further_replies journal (Ask request version it) =
+    map (λ (a : Addition). replies.Number (number_by_addition journal a.0 a.1)) (added_with it)
+further_replies journal (End request version) = []
 further_replies journal (Publish version) = replies.Number version ∷ []
-further_replies journal NoMemory = []
+further_replies journal (Memory kind request version) = []
 
--- the events of these lines' entries, line by line, after earlier entries: what the entry is, and then what else happens there
+-- the events of these lines' entries, line by line, after earlier entries: what the entry is, and
+-- then what else happens there
 abbrev pub all_after : Input → Journal → List Entry → List ScriptEntry → List Entry → List Event
 all_after input journal earlier [] entries = []
 all_after input journal earlier (line ∷ lines) [] = []
 all_after input journal earlier (line ∷ lines) (entry ∷ entries) =
-    (event_of (number_by_addition journal) input journal earlier entry ++ further input journal line entry) ++ all_after input journal (earlier ++ entry ∷ []) lines entries
+    (event_of (number_by_addition journal) input journal earlier entry ++
+    further input journal line entry) ++
+    all_after input journal (earlier ++ entry ∷ []) lines entries
 
 -- and the replies that they tell
 abbrev pub all_replies : Journal → List Entry → List CoreReply
-all_replies journal entries = flat_map (λ entry. reply_of entry ++ further_replies journal entry) entries
+all_replies journal entries =
+    flat_map (λ entry. reply_of entry ++ further_replies journal entry) entries
 
 -- ---- the law
 
--- With one worker all entries of the journal, in the order of the script, are one run of the machine from its first state on.
+-- With one worker all entries of the journal, in the order of the script, are one run of the
+-- machine from its first state on.
 abbrev pub JournalIsARun : Type 0
-JournalIsARun = (input : Input) (journal : Journal) (s : State) → Legal input journal → input.workers ≡ 1 → IsFirst input.policy input.tables s →
-    ∥ IsRunFrom s (all_after input journal [] input.script.entries journal.entries) (all_replies journal journal.entries) ∥₁
+JournalIsARun = (input : Input) (journal : Journal) (s : State) →
+    Legal input journal → input.workers ≡ 1 → IsFirst input.policy input.tables s →
+    ∥ IsRunFrom s (all_after input journal [] input.script.entries journal.entries)
+    (all_replies journal journal.entries) ∥₁

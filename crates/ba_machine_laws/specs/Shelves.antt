@@ -21,13 +21,17 @@ added_in calls.Refused = []
 abbrev pub templates_of : List ShelfCall → List Proof
 templates_of made = flat_map added_in made
 
--- The machine was admitted the templates that these calls added, in their order, under numbers from this one on.
+-- The machine was admitted the templates that these calls added, in their order, under numbers
+-- from this one on.
 pub record HasAdmitted (first : ℕ) (s : State) (made : List ShelfCall) : Type 0 where
-  pub each : (n : ℕ) (template : Proof) → slice_get (templates_of made) n ≡ Some template → slice_get s.templates (first + n) ≡ Some template
+  pub each : (n : ℕ) (template : Proof) → slice_get (templates_of made) n ≡ Some template →
+      slice_get s.templates (first + n) ≡ Some template
 
--- Where the calls are some of a shelf's history, of which the machine was admitted what was added, it has what they found: the one with an id has the shelf's first
--- number plus the id.
+-- Where the calls are some of a shelf's history, of which the machine was admitted what was added,
+-- it has what they found: the one with an id has the shelf's first number plus the id.
 abbrev pub FoundIsAdmitted : Type 0
-FoundIsAdmitted = (first : ℕ → ℕ) (s : State) (made : ShelfCalls) (history : List ShelfCall) (rows : List Row) →
-    Legal history rows → HasAdmitted (first made.shard) s history → ((call : ShelfCall) → Contains made.calls call → Contains history call) →
+FoundIsAdmitted = (first : ℕ → ℕ) (s : State) (made : ShelfCalls) (history : List ShelfCall)
+    (rows : List Row) →
+    Legal history rows → HasAdmitted (first made.shard) s history →
+    ((call : ShelfCall) → Contains made.calls call → Contains history call) →
     HasFound (λ shard id. first shard + id) s made

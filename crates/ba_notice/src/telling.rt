@@ -5,44 +5,25 @@ use crate::input::{Part, Reads};
 use crate::proof::check_text;
 use crate::usage::words_text;
 use ba_hints::Hint;
-use ba_lanes::{Entry, Journal};
+use ba_input::Detail;
 use ba_model::Counted;
-use ba_session::Reply;
-use ba_top::{Detail, Outcome};
-use ba_wire::Reason;
+use ba_wire::{Fault, Reason};
 use std::alloc::{AllocError, Global};
 use std::rt::Files;
 
-// How many lines of the script lacked memory.
-fn count_lacking(journal: &Journal) -> u64 {
-    let mut count = 0u64;
-    for entry in journal.entries.as_slice() {
-        let lacks = match entry {
-            Entry::Unbegun { .. } | Entry::NoMemory => true,
-            Entry::Ask { reply, .. } => matches!(reply, Reply::NoMemory),
-            _ => false,
-        };
-        if lacks {
-            count = count.saturating_add(1);
-        }
-    }
-    count
-}
-
-fn memory_text(alloc: Global, outcome: &Outcome) -> Result<String, AllocError> {
-    let count = match &outcome.journal {
-        Some(journal) => count_lacking(journal),
-        None => {
-            return String::from_str(alloc, "blockaid: memory ran out, and nothing was answered");
-        }
-    };
-    if count == 0 {
-        return String::from_str(
+fn memory_text(alloc: Global, lacking: Option<usize>) -> Result<String, AllocError> {
+    match lacking {
+        None => String::from_str(alloc, "blockaid: memory ran out, and nothing was answered"),
+        Some(0) => String::from_str(
             alloc,
             "blockaid: memory ran out while the lines were written",
-        );
+        ),
+        Some(count) => {
+            format!(in alloc;
+                "blockaid: memory ran out for lines of the script, which say so: {count}"
+            )
+        }
     }
-    format!(in alloc; "blockaid: memory ran out for lines of the script, which say so: {count}")
 }
 
 // What is told of a count above its limit.
@@ -99,32 +80,45 @@ fn input_text<R: Files + AllocGlobal>(
     }
 }
 
-/// One line on why a run ended with another status than 0, for whoever gave the words; nothing of one that ended with 0. The names asked
-/// for, behind a prefix, are those of files that may be read once more for it.
+// What is told of a fault of the words or of a file.
+fn fault_text<R: Files + AllocGlobal>(
+    reads: &Reads<'_, R>,
+    words: &[String],
+    fault: &Fault,
+) -> Result<String, AllocError> {
+    match fault {
+        Fault::Words => words_text(reads.rt.alloc(), words),
+        Fault::Input { file, reason } => input_text(reads, file.as_str(), reason),
+        Fault::Read { file } => unread_text(reads, file.as_str()),
+        Fault::Limit { what, limit } => limit_text(reads, *what, *limit),
+    }
+}
+
+/// One line on why a run ended with another status than 0, for whoever gave the words; nothing of one
+/// that ended with 0. The names asked for, behind a prefix, are those of files that may be read once
+/// more for it. Where lines were answered, `lacking` is how many of them found no memory.
 pub fn notice<R: Files + AllocGlobal>(
     rt: &R,
     words: &[String],
     prefix: &str,
     asked: &[String],
-    outcome: &Outcome,
+    detail: &Detail,
+    lacking: Option<usize>,
 ) -> Result<String, AllocError> {
     let alloc = rt.alloc();
     let reads = Reads { rt, prefix, asked };
-    match &outcome.detail {
+    match detail {
         Detail::Done => Ok(String::new(alloc)),
         Detail::NotAccepted(fault) => {
             let text = check_text(alloc, *fault)?;
             let hint = Hint::plain(alloc, text.as_str())?;
             hint.line(alloc, reads.last(), &[])
         }
-        Detail::Words => words_text(alloc, words),
-        Detail::Input { file, reason } => input_text(&reads, file.as_str(), reason),
-        Detail::Read { file } => unread_text(&reads, file.as_str()),
+        Detail::Fault(fault) => fault_text(&reads, words, fault),
         Detail::Write => String::from_str(
             alloc,
             "blockaid: standard output took no more: what was written isn't all",
         ),
-        Detail::Memory => memory_text(alloc, outcome),
-        Detail::Limit { what, limit } => limit_text(&reads, *what, *limit),
+        Detail::Memory => memory_text(alloc, lacking),
     }
 }

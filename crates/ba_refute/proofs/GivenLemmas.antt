@@ -32,7 +32,7 @@ use Rattle.ba_model.specs.declared.query.Part.{Part}
 use Rattle.ba_model.specs.declared.schema.Kind.{Kind}
 use Rattle.ba_model.specs.declared.schema.Schema.{Schema}
 use Rattle.ba_model.specs.declared.value.Value.{Value}
-use Rattle.ba_refute.specs.Images.{FactIsGiven, IsGiven}
+use Rattle.ba_refute.specs.Images.{FactIsValued, IsValued}
 
 -- the term is an unknown, a literal, or a parameter that has a value
 abbrev pub IsFixed : Context → Term → Type 0
@@ -53,23 +53,23 @@ pub record IsFixedOn (c : Context) (b : Branch) : Type 0 where
 
 -- ---- with what is there
 
-given_of : (c : Context) (k : Known) (t : Term) → IsFixed c t → IsThere k t → IsGiven (length k.unknowns) c t
+given_of : (c : Context) (k : Known) (t : Term) → IsFixed c t → IsThere k t → IsValued (length k.unknowns) c t
 given_of c k (terms.Unknown n) fixed there = there
 given_of c k (terms.Val v) fixed there = tt
 given_of c k (terms.Param n) fixed there = fixed
 given_of c k (terms.Var n) fixed there = absurd fixed
 
-pub all_given : (c : Context) (k : Known) (ts : List Term) → AreFixed c ts → All (IsThere k) ts → All (IsGiven (length k.unknowns) c) ts
-all_given c k [] fixed there = All-nil (IsGiven (length k.unknowns) c)
+pub all_given : (c : Context) (k : Known) (ts : List Term) → AreFixed c ts → All (IsThere k) ts → All (IsValued (length k.unknowns) c) ts
+all_given c k [] fixed there = All-nil (IsValued (length k.unknowns) c)
 all_given c k (t ∷ ts) fixed there =
-    All-cons (IsGiven (length k.unknowns) c) t ts (given_of c k t (All-head (IsFixed c) t ts fixed) (All-head (IsThere k) t ts there))
+    All-cons (IsValued (length k.unknowns) c) t ts (given_of c k t (All-head (IsFixed c) t ts fixed) (All-head (IsThere k) t ts there))
     (all_given c k ts (All-tail (IsFixed c) t ts fixed) (All-tail (IsThere k) t ts there))
 
-pub facts_given : (c : Context) (s : Schema) (k : Known) (facts : List Fact) → All (FactIsFixed c) facts → All (FactIsTidy s k) facts → All (FactIsGiven (length k.unknowns) c) facts
-facts_given c s k [] fixed tidy = All-nil (FactIsGiven (length k.unknowns) c)
+pub facts_given : (c : Context) (s : Schema) (k : Known) (facts : List Fact) → All (FactIsFixed c) facts → All (FactIsTidy s k) facts → All (FactIsValued (length k.unknowns) c) facts
+facts_given c s k [] fixed tidy = All-nil (FactIsValued (length k.unknowns) c)
 facts_given c s k (f ∷ facts) fixed tidy =
     let it = All-head (FactIsTidy s k) f facts tidy in
-    All-cons (FactIsGiven (length k.unknowns) c) f facts (all_given c k f.terms (All-head (FactIsFixed c) f facts fixed) it.there)
+    All-cons (FactIsValued (length k.unknowns) c) f facts (all_given c k f.terms (All-head (FactIsFixed c) f facts fixed) it.there)
     (facts_given c s k facts (All-tail (FactIsFixed c) f facts fixed) (All-tail (FactIsTidy s k) f facts tidy))
 
 -- ---- facts and lessons that are added

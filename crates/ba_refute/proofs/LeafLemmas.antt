@@ -3,15 +3,15 @@ use Rattle.std.proofs.Common.{◌≡◌, length, refl, subst, sym}
 use Rattle.std.specs.List.{All}
 use Rattle.ba_facts.specs.Shown.{Absurd}
 use Rattle.ba_facts.specs.declared.branch.Branch.{Branch}
-use Rattle.ba_instant.specs.Dues.{IsLeaf}
-use Rattle.ba_instant.specs.declared.ends.Leaf.{Leaf}
+use Rattle.ba_settle.specs.Dues.{IsLeaf}
+use Rattle.ba_settle.specs.declared.ends.Leaf.{Leaf}
 use Rattle.ba_kernel.specs.Asked.{QuestionIsProblem}
 use Rattle.ba_kernel.specs.Courses.{Runs}
 use Rattle.ba_kernel.specs.Tests.{IsTidy, RunsAreTidy}
 use Rattle.ba_kernel.specs.declared.problem.Problem.{Problem}
 use Rattle.ba_kernel.specs.declared.step.Step.TheVariants as steps
 use Rattle.ba_refute.proofs.GivenLemmas.{IsFixedOn, all_given, facts_given, open_fixed}
-use Rattle.ba_refute.specs.Images.{AreGiven, IsGiven}
+use Rattle.ba_refute.specs.Images.{AreValued, IsValued}
 use Rattle.ba_refute.specs.Refutals.{AskedFits, TellsRefutal, TellsTried, problem_asked}
 use Rattle.ba_refute.specs.declared.clause.Clause.{Clause}
 use Rattle.ba_refute.specs.declared.clause.Counterexample.{Counterexample}
@@ -41,14 +41,14 @@ module _ (asked : Question) (fits : AskedFits asked) (leaf : Leaf) (same : leaf.
         tidy (problem_asked asked) leaf.steps is.slots (law asked.policy.now asked.context.now asked.trace.now asked.query.now fits) runs is.number leaf.branch is.saturated.open_
 
     -- each term of its facts and its goal row has a value
-    pub facts_have : AreGiven (length b.known.unknowns) asked.context.now b.facts
+    pub facts_have : AreValued (length b.known.unknowns) asked.context.now b.facts
     facts_have =
-        subst (λ (z : Branch). AreGiven (length z.known.unknowns) asked.context.now z.facts) (sym branch_is)
+        subst (λ (z : Branch). AreValued (length z.known.unknowns) asked.context.now z.facts) (sym branch_is)
         (facts_given asked.context.now asked.policy.now.schema leaf.branch.known leaf.branch.facts fixed.facts tidy_there.facts)
 
-    pub goal_has : All (IsGiven (length b.known.unknowns) asked.context.now) b.goal
+    pub goal_has : All (IsValued (length b.known.unknowns) asked.context.now) b.goal
     goal_has =
-        subst (λ (z : Branch). All (IsGiven (length z.known.unknowns) asked.context.now) z.goal) (sym branch_is)
+        subst (λ (z : Branch). All (IsValued (length z.known.unknowns) asked.context.now) z.goal) (sym branch_is)
         (all_given asked.context.now leaf.branch.known leaf.branch.goal fixed.goal tidy_there.goal)
 
 -- what a branch shows that is the leaf's, of a problem that is the leaf's

@@ -275,14 +275,14 @@ ImagesAreOne =
 -- ---- what is asked of the branch
 
 -- the term has a value where so many unknowns have
-abbrev pub IsGiven : ℕ → Context → Term → Type 0
-IsGiven unknowns c (Unknown n) = n < unknowns
-IsGiven unknowns c (Val v) = Unit {0}
-IsGiven unknowns c (Param n) = n < length c.values
-IsGiven unknowns c (Var n) = ⊥
+abbrev pub IsValued : ℕ → Context → Term → Type 0
+IsValued unknowns c (Unknown n) = n < unknowns
+IsValued unknowns c (Val v) = Unit {0}
+IsValued unknowns c (Param n) = n < length c.values
+IsValued unknowns c (Var n) = ⊥
 
-abbrev pub FactIsGiven : ℕ → Context → Fact → Type 0
-FactIsGiven unknowns c fact = All (IsGiven unknowns c) fact.terms
+abbrev pub FactIsValued : ℕ → Context → Fact → Type 0
+FactIsValued unknowns c fact = All (IsValued unknowns c) fact.terms
 
-abbrev pub AreGiven : ℕ → Context → List Fact → Type 0
-AreGiven unknowns c facts = All (FactIsGiven unknowns c) facts
+abbrev pub AreValued : ℕ → Context → List Fact → Type 0
+AreValued unknowns c facts = All (FactIsValued unknowns c) facts

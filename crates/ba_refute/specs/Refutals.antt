@@ -2,7 +2,7 @@
 use Rattle.std.specs.Prelude.{◌≡◌, List}
 use Rattle.ba_comply.specs.declared.trace.TraceEntry.{TraceEntry}
 use Rattle.ba_facts.specs.declared.branch.Branch.{Branch}
-use Rattle.ba_instant.specs.declared.ends.Leaf.{Leaf}
+use Rattle.ba_settle.specs.declared.ends.Leaf.{Leaf}
 use Rattle.ba_kernel.specs.Asked.{QuestionFits}
 use Rattle.ba_kernel.specs.Problems.{problem_of}
 use Rattle.ba_kernel.specs.declared.problem.Problem.{Problem}

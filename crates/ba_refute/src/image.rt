@@ -2,7 +2,7 @@
 ghost use Rattle.std.specs.Prelude.{All, IfOk, length};
 ghost use Rattle.ba_facts.specs.Shown.{Absurd};
 ghost use Rattle.ba_refute.specs.Counterexamples.{IsPairStored};
-ghost use Rattle.ba_refute.specs.Images.{AreGiven, IsGiven, IsImage};
+ghost use Rattle.ba_refute.specs.Images.{AreValued, IsValued, IsImage};
 ghost use Rattle.ba_refute.specs.Pairs.{pair_of};
 ghost use Rattle.ba_refute.specs.Wide.{Narrows};
 
@@ -32,8 +32,8 @@ impl Image {
         branch: &Branch,
     ) -> Result<Image, AllocError>
         requires sound { ¬ (Absurd branch.now.known) }
-        requires facts { AreGiven (length branch.now.known.unknowns) ctx.now branch.now.facts }
-        requires goal { All (IsGiven (length branch.now.known.unknowns) ctx.now) branch.now.goal }
+        requires facts { AreValued (length branch.now.known.unknowns) ctx.now branch.now.facts }
+        requires goal { All (IsValued (length branch.now.known.unknowns) ctx.now) branch.now.goal }
         ensures { IfOk result (λ it. IsImage problem.now ctx.now branch.now (pair_of it)) }
     {
         let values = values(alloc, problem, branch)?;

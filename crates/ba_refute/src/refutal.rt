@@ -1,9 +1,9 @@
 //! What a saturated leaf shows of a question.
 ghost use Rattle.std.specs.Prelude.{◌≡◌, All, IfOk, length};
 ghost use Rattle.ba_facts.specs.Shown.{Absurd};
-ghost use Rattle.ba_instant.specs.Dues.{IsLeaf};
+ghost use Rattle.ba_settle.specs.Dues.{IsLeaf};
 ghost use Rattle.ba_refute.specs.Counterexamples.{IsPairStored};
-ghost use Rattle.ba_refute.specs.Images.{AreGiven, IsGiven};
+ghost use Rattle.ba_refute.specs.Images.{AreValued, IsValued};
 ghost use Rattle.ba_refute.specs.Refutals.{AskedFits, IsTested, TellsRefutal, TellsTried, problem_asked};
 
 use crate::clause::{Clause, Counterexample};
@@ -11,9 +11,9 @@ use crate::image::Image;
 use crate::question::Question;
 use crate::unmet::first_unmet;
 use ba_facts::Branch;
-use ba_instant::Leaf;
 use ba_kernel::Problem;
 use ba_kernel::laws::{question_is_problem, runs_are_tidy};
+use ba_settle::Leaf;
 use std::alloc::{AllocError, Global};
 
 /// What a saturated leaf shows of its question.
@@ -30,7 +30,7 @@ pub enum Refutal {
 /// its facts and its goal row then are, its *image*, are a counterexample for the question.
 ///
 /// The question is one of a checked policy, whose context, trace and query fit it, and the leaf is
-/// one of its problem, as [`ba_instant::settle`] gives it. `AllocError` comes also where a number
+/// one of its problem, as [`ba_settle::Settle`] gives it. `AllocError` comes also where a number
 /// would pass 128 bits, and where there are 2^32 unknowns or more.
 pub fn try_pair(alloc: Global, asked: &Question<'_>, leaf: Leaf) -> Result<Refutal, AllocError>
     requires fits { AskedFits asked.now }
@@ -66,8 +66,8 @@ fn try_branch(
     branch: &Branch,
 ) -> Result<Tried, AllocError>
     requires sound { ¬ (Absurd branch.now.known) }
-    requires facts { AreGiven (length branch.now.known.unknowns) asked.now.context.now branch.now.facts }
-    requires goal { All (IsGiven (length branch.now.known.unknowns) asked.now.context.now) branch.now.goal }
+    requires facts { AreValued (length branch.now.known.unknowns) asked.now.context.now branch.now.facts }
+    requires goal { All (IsValued (length branch.now.known.unknowns) asked.now.context.now) branch.now.goal }
     ensures { IfOk result (TellsTried asked.now problem.now branch.now) }
 {
     let image = Image::of(alloc, asked.context, problem, branch)?;

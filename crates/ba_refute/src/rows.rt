@@ -3,7 +3,7 @@ ghost use Rattle.std.specs.Prelude.{◌≡◌, ◌↔◌, All, Contains, IfOk, I
 ghost use Rattle.ba_eval.specs.Search.{IsRisingListOf};
 ghost use Rattle.ba_facts.specs.Fits.{value_of_term};
 ghost use Rattle.ba_model.specs.declared.value.Value.{Value as Plain};
-ghost use Rattle.ba_refute.specs.Images.{AreFactRows, AreSideRows, FactIsGiven, IsFactRow, IsGiven, IsRowAt, given};
+ghost use Rattle.ba_refute.specs.Images.{AreFactRows, AreSideRows, FactIsValued, IsFactRow, IsValued, IsRowAt, given};
 
 use crate::wide::{WideRow, WideValue};
 use ba_facts::{Fact, Side, Term};
@@ -17,7 +17,7 @@ fn value_of(
     values: &[WideValue],
     term: &Term,
 ) -> Result<WideValue, AllocError>
-    requires { IsGiven (length values.now) ctx.now term.now }
+    requires { IsValued (length values.now) ctx.now term.now }
     ensures { IfOk result (λ v. value_of_term (given ctx.now) values.now term.now ≡ Some v) }
 {
     match term {
@@ -35,7 +35,7 @@ pub(crate) fn row_of(
     values: &[WideValue],
     terms: &[Term],
 ) -> Result<WideRow, AllocError>
-    requires { All (IsGiven (length values.now) ctx.now) terms.now }
+    requires { All (IsValued (length values.now) ctx.now) terms.now }
     ensures { IfOk result (IsRowAt ctx.now values.now terms.now) }
 {
     let mut row = Vec::new(alloc);
@@ -65,7 +65,7 @@ fn fact_rows(
     side: Side,
     table: usize,
 ) -> Result<Vec<WideRow>, AllocError>
-    requires { All (FactIsGiven (length values.now) ctx.now) facts.now }
+    requires { All (FactIsValued (length values.now) ctx.now) facts.now }
     ensures { IfOk result (λ it. (r : Sequence Plain) → Contains it.items r
         ↔ IsFactRow ctx.now values.now facts.now side table r) }
 {
@@ -96,7 +96,7 @@ pub(crate) fn side_of(
     tables: usize,
     side: Side,
 ) -> Result<List<List<WideRow>>, AllocError>
-    requires { All (FactIsGiven (length values.now) ctx.now) facts.now }
+    requires { All (FactIsValued (length values.now) ctx.now) facts.now }
     ensures { IfOk result (AreSideRows ctx.now values.now facts.now tables side) }
 {
     let mut all = Vec::new(alloc);

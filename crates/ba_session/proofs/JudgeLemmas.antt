@@ -4,19 +4,22 @@ use Rattle.std.proofs.lemmas.List.{take_all, take_more, take-append-drop}
 use Rattle.std.proofs.lemmas.List.Elements.{All-append, All-cons, All-contains_itself, All-head, All-nil, All-push, All-tail, All-weaker}
 use Rattle.std.specs.List.{All, Contains}
 use Rattle.std.specs.Prelude.{MatchOption}
+use Rattle.std.specs.declared.alloc.AllocError.{AllocError}
 use Rattle.ba_cache.specs.Passes.{CallsOn}
 use Rattle.ba_cache.specs.Rows.{IsSound, kept}
 use Rattle.ba_cache.specs.declared.call.Kept.{Kept}
 use Rattle.ba_cache.specs.declared.call.ShelfCall.{ShelfCall}
+use Rattle.ba_cache.specs.declared.call.ShelfCall.TheVariants.{Refused}
 use Rattle.ba_comply.specs.Comply.{AnswerEverywhere}
 use Rattle.ba_comply.specs.declared.trace.TraceEntry.{TraceEntry}
 use Rattle.ba_direct.specs.Cover.{AlwaysStrong, Covered, IsCover}
 use Rattle.ba_direct.specs.declared.covers.Cover.{Cover}
-use Rattle.ba_instant.specs.Dues.{Ends, EndsAreLeaves, EndsProved, EndsSaturated, IsLeaf, Searches}
-use Rattle.ba_instant.specs.declared.ends.Leaf.{Leaf}
-use Rattle.ba_instant.specs.declared.ends.Settled.{Settled}
-use Rattle.ba_instant.specs.declared.ends.Settled.TheVariants as settled
-use Rattle.ba_instant.specs.declared.order.Pick.TheVariants.{First}
+use Rattle.ba_general.specs.Generals.{IsOfQuestion}
+use Rattle.ba_settle.specs.Dues.{IsLeaf}
+use Rattle.ba_settle.specs.Settling.{Effort, SettledAreLeaves, Settles}
+use Rattle.ba_settle.specs.declared.ends.Leaf.{Leaf}
+use Rattle.ba_settle.specs.declared.ends.Settled.{Settled}
+use Rattle.ba_settle.specs.declared.ends.Settled.TheVariants as settled
 use Rattle.ba_kernel.specs.Asked.{AnswersAreRecords, QuestionFits, RecordFits}
 use Rattle.ba_kernel.specs.Problems.{ProblemIsQuestion, StrongAll}
 use Rattle.ba_kernel.specs.Tests.{Proof}
@@ -39,17 +42,19 @@ use Rattle.ba_refute.specs.declared.clause.Clause.{Clause}
 use Rattle.ba_refute.specs.declared.clause.Counterexample.{Counterexample}
 use Rattle.ba_refute.specs.declared.refutal.Refutal.{Refutal}
 use Rattle.ba_refute.specs.declared.refutal.Refutal.TheVariants as refutal
-use Rattle.ba_session.specs.Asking.{HasFault, IsRequestOf, IsChecked, IsFirstToMatch, IsGround, IsKept, IsNoMatch, IsReason, IsReleased, NoneMatches, Reads, Replies, Uncovered, answer_in, look_at, question}
-use Rattle.ba_session.specs.Judging as judging
-use Rattle.ba_session.specs.Judging.{Answers, AnswersByProof, Decides, IsCompliant, IsServing, IsTold, Judges, Says, refusal_of}
+use Rattle.ba_session.specs.Asking.{HasFault, HasNoVerdict, IsRequestOf, IsChecked, IsCompliant, IsFirstToMatch, IsGround, IsKept, IsNoMatch, IsReason, IsReleased, Judges, NoneMatches, Reads, Replies, Uncovered, answer_in, look_at, question}
+use Rattle.ba_session.specs.Judging.{Answers, AnswersByProof, IsByProof, IsByTemplate, IsFoundBy, IsOtherGround, IsSearched, IsServing, IsShown, Says, Weighs, refusal_of}
 use Rattle.ba_session.proofs.PassLemmas.{makes_more, makes_none, makes_one}
 use Rattle.ba_session.specs.Passing.{LeavesVersions, Makes, ShelfCalls, on_shelf}
 use Rattle.ba_session.specs.declared.service.Passes.{Passes}
-use Rattle.ba_session.specs.declared.judge.Judgement.{Judgement}
-use Rattle.ba_session.specs.declared.judge.Judgement.TheVariants.{Serve, Prove, Deny}
+use Rattle.ba_session.specs.declared.judge.Verdict.{Verdict}
+use Rattle.ba_session.specs.declared.judge.Verdict.TheVariants.{Ground, Prove, Deny}
+use Rattle.ba_session.specs.declared.reply.By.{By}
 use Rattle.ba_session.specs.declared.reply.By.TheVariants as by
+use Rattle.ba_session.specs.declared.reply.Judgement.TheVariants as judged
 use Rattle.ba_session.specs.declared.reply.Reply.{Reply}
 use Rattle.ba_session.specs.declared.reply.Reply.TheVariants.{Answer, Blocked, Unread, NoMemory}
+use Rattle.ba_session.specs.declared.reply.Why.{Why}
 use Rattle.ba_session.specs.declared.reply.Why.TheVariants as why
 use Rattle.ba_session.specs.declared.request.Request.{Request}
 use Rattle.ba_sql_query.specs.Texts.{query_of}
@@ -60,27 +65,28 @@ use Rattle.ba_template.specs.declared.found.Match.{Match}
 
 -- ---- what a saturated leaf shows
 
-module _ (policy : Policy) (asker : Request) (query : Query) (leaf : Leaf) (it : Refutal) (tells : IsRefutal policy asker.context asker.trace query leaf it) where
-  pub refuted : (pair : Counterexample) → it ≡ refutal.Pair pair → (budget : ℕ) → EndsSaturated First (question policy asker query) budget leaf →
-      IsReason policy asker budget query (why.Refuted pair)
-  refuted pair e budget ends =
+module _ (policy : Policy) (asker : Request) (query : Query) (leaf : Leaf) (is : leaf.problem ≡ question policy asker query) (it : Refutal)
+    (tells : IsRefutal policy asker.context asker.trace query leaf it) where
+  pub refuted : (pair : Counterexample) → it ≡ refutal.Pair pair → (effort : Effort) → Settles effort (question policy asker query) (settled.Saturated leaf) →
+      IsReason policy asker effort query (why.Refuted pair)
+  refuted pair e effort ends =
       let h : IsRefutedBy policy asker.context asker.trace query leaf pair = subst (IsRefutal policy asker.context asker.trace query leaf) e tells in
       record {
         leaf = leaf;
         saturated = ends;
-        image_is = subst (λ p. IsImage p asker.context leaf.branch pair) ends.problem_is h.image_is;
+        image_is = subst (λ p. IsImage p asker.context leaf.branch pair) is h.image_is;
         refutes = h.refutes;
       }
 
-  pub stuck : (other : Leaf) (clause : Clause) → it ≡ refutal.Stuck other clause → (budget : ℕ) → EndsSaturated First (question policy asker query) budget leaf →
-      IsReason policy asker budget query (why.Stuck other clause)
-  stuck other clause e budget ends =
+  pub stuck : (other : Leaf) (clause : Clause) → it ≡ refutal.Stuck other clause → (effort : Effort) → Settles effort (question policy asker query) (settled.Saturated leaf) →
+      IsReason policy asker effort query (why.Stuck other clause)
+  stuck other clause e effort ends =
       let h : IsStuckAt policy asker.context asker.trace query leaf other clause = subst (IsRefutal policy asker.context asker.trace query leaf) e tells in
-      subst (λ z. IsReason policy asker budget query (why.Stuck z clause)) (sym h.same)
+      subst (λ z. IsReason policy asker effort query (why.Stuck z clause)) (sym h.same)
       (record {
         saturated = ends;
         image = h.image;
-        image_is = subst (λ p. IsImage p asker.context leaf.branch h.image) ends.problem_is h.image_is;
+        image_is = subst (λ p. IsImage p asker.context leaf.branch h.image) is h.image_is;
         unmet = h.unmet;
       })
 
@@ -102,58 +108,63 @@ refutal_seen policy seen asker query seen_query same same_query leaf it h =
 
 -- ---- how a search ends
 
-module _ (policy : Policy) (asker : Request) (budget : ℕ) (query : Query) (problem : Problem) (is : problem ≡ question policy asker query)
-    (end : Settled) (ends : Ends First problem budget end) where
-  ends_at : Ends First (question policy asker query) budget end
-  ends_at = subst (λ z. Ends First z budget end) is ends
+-- what it was made for
+settled_problem : (effort : Effort) (p : Problem) (leaf : Leaf) → Settles effort p (settled.Saturated leaf) → leaf.problem ≡ p
+settled_problem effort p leaf h = h.1.problem_is
 
-  pub saturated_at : (leaf : Leaf) → end ≡ settled.Saturated leaf → EndsSaturated First (question policy asker query) budget leaf
-  saturated_at leaf e = subst (Ends First (question policy asker query) budget) e ends_at
+proved_problem : (effort : Effort) (p : Problem) (proof : Proof) → Settles effort p (settled.Proved proof) → proof.problem ≡ p
+proved_problem effort p proof h = h.1.problem_is
 
-  pub leaf_at : (leaf : Leaf) → end ≡ settled.Saturated leaf → EndsAreLeaves → IsLeaf leaf
-  leaf_at leaf e law = law First (question policy asker query) budget leaf (saturated_at leaf e)
+module _ (policy : Policy) (asker : Request) (effort : Effort) (query : Query) (problem : Problem) (is : problem ≡ question policy asker query)
+    (end : Settled) (ends : Settles effort problem end) where
+  pub settles_at : (it : Settled) → end ≡ it → Settles effort (question policy asker query) it
+  settles_at it e = subst (λ z. Settles effort (question policy asker query) z) e (subst (λ z. Settles effort z end) is ends)
+
+  pub leaf_at : (leaf : Leaf) → end ≡ settled.Saturated leaf → SettledAreLeaves → IsLeaf leaf
+  leaf_at leaf e law = law effort (question policy asker query) leaf (settles_at (settled.Saturated leaf) e)
 
   pub problem_at : (leaf : Leaf) → end ≡ settled.Saturated leaf → leaf.problem ≡ question policy asker query
-  problem_at leaf e = (saturated_at leaf e).problem_is
+  problem_at leaf e = settled_problem effort (question policy asker query) leaf (settles_at (settled.Saturated leaf) e)
 
   pub proved_at : (proof : Proof) → end ≡ settled.Proved proof → ProblemIsQuestion → QuestionFits policy asker.context asker.trace query → StrongAll proof.problem →
-      judging.IsSearched policy asker budget query (Prove proof)
+      IsSearched policy asker effort query (Prove proof)
   proved_at proof e law fits strong =
-      let it : EndsProved First (question policy asker query) budget proof = subst (Ends First (question policy asker query) budget) e ends_at in
-      (it, law policy asker.context asker.trace query fits.context (subst StrongAll it.problem_is strong))
+      let it = settles_at (settled.Proved proof) e in
+      (it, law policy asker.context asker.trace query fits.context (subst StrongAll (proved_problem effort (question policy asker query) proof it) strong))
 
 -- ---- templates
 
 -- the template that serves is sound
-served_strong : MatchedIsStrong → (policy : Policy) (asker : Request) (query : Query) (found : List Kept) (id : ℕ) (it : Match) → ContextFits (kinds_of policy.params) asker.context → All IsSound found →
-    IsFirstToMatch policy asker query found id it → IsCompliant policy asker query
-served_strong law policy asker query found id it fits sound first =
-    let all : All IsSound (first.before ++ kept id first.template ∷ first.after) = subst (All IsSound) first.found_is sound in
-    law first.template.problem policy asker.context asker.trace query it (sound_at first.before (kept id first.template) first.after all) fits first.first.is_match
+served_strong : MatchedIsStrong → (policy : Policy) (asker : Request) (query : Query) (found : List Kept) (id : ℕ) (template : Proof) (it : Match) → ContextFits (kinds_of policy.params) asker.context →
+    All IsSound found → IsFirstToMatch policy asker query found id template it → IsCompliant policy asker query
+served_strong law policy asker query found id template it fits sound first =
+    let all : All IsSound (first.before ++ kept id template ∷ first.after) = subst (All IsSound) first.found_is sound in
+    law template.problem policy asker.context asker.trace query it (sound_at first.before (kept id template) first.after all) fits first.first.is_match
   where
     sound_at : (before : List Kept) (it : Kept) (after : List Kept) → All IsSound (before ++ it ∷ after) → IsSound it
     sound_at [] it after h = All-head IsSound it after h
     sound_at (b ∷ before) it after h = sound_at before it after (All-tail IsSound b (before ++ it ∷ after) h)
 
-module _ (law : MatchedIsStrong) (policy : Policy) (asker : Request) (budget : ℕ) (query : Query) (fits : QuestionFits policy asker.context asker.trace query) (found : List Kept)
-    (sound : All IsSound found) (served : Option (ℕ × Match)) (serving : IsServing policy asker query found served) where
-  pub judged_served : (id : ℕ) (it : Match) → served ≡ Some (id, it) → Judges policy asker budget query found (Serve id it)
-  judged_served id it e =
-      let first : IsFirstToMatch policy asker query found id it = subst (IsServing policy asker query found) e serving in
-      (first, served_strong law policy asker query found id it fits.context sound first)
+module _ (law : MatchedIsStrong) (policy : Policy) (asker : Request) (effort : Effort) (query : Query) (fits : QuestionFits policy asker.context asker.trace query) (shard : ℕ) (found : List Kept)
+    (sound : All IsSound found) (served : Option By) (serving : IsServing policy asker query shard found served) where
+  by_template_strong : (basis : By) → IsByTemplate policy asker query shard found basis → IsCompliant policy asker query
+  by_template_strong (by.Cover cover) h = absurd h
+  by_template_strong (by.Template its id template it) (same, first) = served_strong law policy asker query found id template it fits.context sound first
+  by_template_strong (by.Proof steps keeping) h = absurd h
 
-  pub judged_search : (judgement : Judgement) → served ≡ None → judging.IsSearched policy asker budget query judgement → Judges policy asker budget query found judgement
-  judged_search (Serve id it) e h = absurd h
-  judged_search (Prove proof) e h = (subst (IsServing policy asker query found) e serving, h)
-  judged_search (Deny reason) e h = (subst (IsServing policy asker query found) e serving, h)
+  pub found_served : (basis : By) → served ≡ Some basis → IsFoundBy policy asker effort query shard found (Ground basis)
+  found_served basis e =
+      let h : IsByTemplate policy asker query shard found basis = subst (IsServing policy asker query shard found) e serving in
+      (h, by_template_strong basis h)
 
-  pub judged_result : {E : Type 0} → served ≡ None → (r : Result Judgement E) → IfOk r (judging.IsSearched policy asker budget query) → IfOk r (Judges policy asker budget query found)
-  judged_result e (Ok judgement) h = judged_search judgement e h
-  judged_result e (Err error) h = tt
+  found_search : (verdict : Verdict) → served ≡ None → IsSearched policy asker effort query verdict → IsFoundBy policy asker effort query shard found verdict
+  found_search (Ground basis) e h = absurd h
+  found_search (Prove proof) e h = (subst (IsServing policy asker query shard found) e serving, h)
+  found_search (Deny reason) e h = (subst (IsServing policy asker query shard found) e serving, h)
 
--- the same of equal templates and judgements
-pub judged_at : (policy : Policy) (asker : Request) (budget : ℕ) (query : Query) (seen found : List Kept) → seen ≡ found → (j it : Judgement) → j ≡ it → Judges policy asker budget query seen j → Judges policy asker budget query found it
-judged_at policy asker budget query seen found same j it is h = subst (Judges policy asker budget query found) is (subst (λ z. Judges policy asker budget query z j) same h)
+  pub found_result : {E : Type 0} → served ≡ None → (r : Result Verdict E) → IfOk r (IsSearched policy asker effort query) → IfOk r (IsFoundBy policy asker effort query shard found)
+  found_result e (Ok verdict) h = found_search verdict e h
+  found_result e (Err error) h = tt
 
 -- ---- a request and its tables
 
@@ -190,164 +201,200 @@ released law policy asker query rows is_asker strong answer = record {
       law policy asker.context asker.trace query asker.tables.rows d rows strong is_asker.conforms alike.conforms alike.agrees is_asker.recorded alike.records answer;
 }
 
--- ---- replies
+-- ---- judgements
 
 -- a covered query is compliant
-pub covered_strong : (policy : Policy) (asker : Request) (query : Query) → QuestionFits policy asker.context asker.trace query → (seen_policy : Policy) (seen_query : Query) → seen_policy ≡ policy → seen_query ≡ query →
+covered_strong : (policy : Policy) (asker : Request) (query : Query) → QuestionFits policy asker.context asker.trace query → (seen_policy : Policy) (seen_query : Query) → seen_policy ≡ policy → seen_query ≡ query →
     (found : Option Cover) (cover : Cover) → found ≡ Some cover → IfSome found (λ it. AlwaysStrong seen_policy asker.context seen_query) → IsCompliant policy asker query
 covered_strong policy asker query fits seen_policy seen_query same_policy same_query found cover e h =
     let always : AlwaysStrong seen_policy asker.context seen_query = subst (λ z. IfSome z (λ it. AlwaysStrong seen_policy asker.context seen_query)) e h in
     let here : AlwaysStrong policy asker.context query = subst (λ z. AlwaysStrong policy asker.context z) same_query (subst (λ z. AlwaysStrong z asker.context seen_query) same_policy always) in
     here.after fits.policy_fits fits.context asker.trace
 
-module _ (policy : Policy) (asker : Request) (budget : ℕ) (query : Query) where
-  module _ (law : AnswerEverywhere) (is_asker : IsRequestOf policy asker) (strong : IsCompliant policy asker query) where
-    -- the rows of what was told
-    told_released : (other : Query) (rows : List (List Value)) → IsTold asker query other rows → IsReleased policy asker query rows
-    told_released other rows told = released law policy asker query rows is_asker strong told.answer
+module _ (policy : Policy) (asker : Request) (effort : Effort) (query : Query) where
+  -- what is said of the calls that take the passes from old to new
+  abbrev pub Weighed : Result Verdict AllocError → Passes → Passes → Type 0
+  Weighed r old new = (made : ShelfCalls) × Weighs policy asker effort query made r × Makes made old new
 
-    -- a covered query's answer
-    pub says_covered : (cover : Cover) → IsCover policy asker.context query cover → (reply : Reply) → Answers asker query (by.Cover cover) reply → (made : ShelfCalls) → made.calls ≡ [] →
-        Says policy asker budget query made reply
-    says_covered cover is (Answer other rows it) (told, same) made none =
-        (told.same, subst (λ z. IsGround policy asker budget query z made) (sym same) (is, none), told_released other rows told)
-    says_covered cover is (Blocked other reason) h made none = absurd h
-    says_covered cover is (Unread fault) h made none = absurd h
-    says_covered cover is NoMemory h made none = inl none
+  -- what is found of a cover, with the policy and the query by other names
+  pub weighs_cover : QuestionFits policy asker.context asker.trace query → (seen_policy : Policy) (seen_query : Query) → seen_policy ≡ policy → seen_query ≡ query →
+      (found : Option Cover) (cover : Cover) → found ≡ Some cover →
+      MatchOption found (Covered seen_policy asker.context seen_query → ⊥) (IsCover seen_policy asker.context seen_query) → IfSome found (λ it. AlwaysStrong seen_policy asker.context seen_query) →
+      (passes : Passes) → Weighed (Ok (Ground (by.Cover cover))) passes passes
+  weighs_cover fits seen_policy seen_query same_policy same_query found cover e h always passes =
+      let is : IsCover seen_policy asker.context seen_query cover =
+      subst (λ z. MatchOption z (Covered seen_policy asker.context seen_query → ⊥) (IsCover seen_policy asker.context seen_query)) e h in
+      let there : IsCover policy asker.context query cover = subst (λ z. IsCover policy asker.context z cover) same_query (subst (λ z. IsCover z asker.context seen_query cover) same_policy is) in
+      let strong = covered_strong policy asker query fits seen_policy seen_query same_policy same_query found cover e always in
+      (on_shelf query [], ((there, refl), strong), makes_none (on_shelf query []) passes passes refl refl)
 
-    -- what is found of a cover, with the policy and the query by other names
-    pub says_cover : (seen_policy : Policy) (seen_query : Query) → seen_policy ≡ policy → seen_query ≡ query → (cover : Cover) (found : Option Cover) → found ≡ Some cover →
-        MatchOption found (Covered seen_policy asker.context seen_query → ⊥) (IsCover seen_policy asker.context seen_query) → (reply : Reply) → Answers asker query (by.Cover cover) reply →
-        (passes : Passes) → (made : ShelfCalls) × Says policy asker budget query made reply × Makes made passes passes
-    says_cover seen_policy seen_query same_policy same_query cover found e h reply answers passes =
-        let is : IsCover seen_policy asker.context seen_query cover =
-        subst (λ z. MatchOption z (Covered seen_policy asker.context seen_query → ⊥) (IsCover seen_policy asker.context seen_query)) e h in
-        let there : IsCover policy asker.context query cover = subst (λ z. IsCover policy asker.context z cover) same_query (subst (λ z. IsCover z asker.context seen_query cover) same_policy is) in
-        (on_shelf query [], says_covered cover there reply answers (on_shelf query []) refl, makes_none (on_shelf query []) passes passes refl refl)
+  -- want of memory, before any call
+  pub weighs_nothing : (r : Result Verdict AllocError) (e : AllocError) → r ≡ Err e → (passes : Passes) → Weighed r passes passes
+  weighs_nothing r e is passes = subst (λ z. Weighed z passes passes) (sym is) (on_shelf query [], inl refl, makes_none (on_shelf query []) passes passes refl refl)
 
-    module _ (found : List Kept) where
-      -- a query's answer by a template
-      pub decides_served : (shard id : ℕ) (it : Match) → IsFirstToMatch policy asker query found id it → shard ≡ shard_of (shape_of [] query) → (reply : Reply) → Answers asker query (by.Template shard id it) reply →
-          Decides policy asker budget query found [] reply
-      decides_served shard id it first shard_is (Answer other rows ground) (told, same) =
-          (told.same, subst (λ z. judging.IsGroundAfter policy asker budget query found z []) (sym same) (first, shard_is, refl), told_released other rows told)
-      decides_served shard id it first shard_is (Blocked other reason) h = absurd h
-      decides_served shard id it first shard_is (Unread fault) h = absurd h
-      decides_served shard id it first shard_is NoMemory h = refl
-
-      -- its answer by a proof
-      pub decides_proved : (proof : Proof) → NoneMatches policy asker query found → EndsProved First (question policy asker query) budget proof → (calls : List ShelfCall) (reply : Reply) →
-          AnswersByProof asker query proof calls reply → Decides policy asker budget query found calls reply
-      decides_proved proof none ends calls (Answer other rows (by.Cover cover)) (told, h) = absurd h
-      decides_proved proof none ends calls (Answer other rows (by.Template shard id it)) (told, h) = absurd h
-      decides_proved proof none ends calls (Answer other rows (by.Proof taken keeping)) (told, (same, kept_is)) = (
-        told.same,
-        (
-          none,
-          record {
-            problem_is = refl;
-            slots = ends.slots;
-            searches = subst (λ z. Searches First (question policy asker query) z ends.slots) (sym same) ends.searches;
-            few = subst (λ z. length z ≤ budget) (sym same) ends.few;
-            closed = ends.closed;
-          },
-          subst (λ (z : Proof). IsKept z keeping calls) (λ i. record { problem = ends.problem_is i; steps = sym same i }) kept_is,
-        ),
-        told_released other rows told,
-      )
-      decides_proved proof none ends calls (Blocked other reason) h = absurd h
-      decides_proved proof none ends calls (Unread fault) h = absurd h
-      decides_proved proof none ends calls NoMemory h = h
-
-  -- an answer by a proof
-  pub decides_answer : AnswerEverywhere → IsRequestOf policy asker → (found : List Kept) (proof : Proof) (reply : Reply) (old new : Passes) → Judges policy asker budget query found (Prove proof) →
-      ((calls : List ShelfCall) × AnswersByProof asker query proof calls reply × Makes (on_shelf query calls) old new) →
-      (calls : List ShelfCall) × Decides policy asker budget query found calls reply × Makes (on_shelf query calls) old new
-  decides_answer law is_asker found proof reply old new (none, (ends, strong)) (calls, answers, made) =
-      (calls, decides_proved law is_asker strong found proof none ends calls reply answers, made)
-
-  -- with the look before it
-  pub says_decided : Uncovered policy asker query → (found : List Kept) (calls : List ShelfCall) (reply : Reply) → Decides policy asker budget query found calls reply →
-      Says policy asker budget query (on_shelf query (look_at query found ∷ calls)) reply
-  says_decided uncovered found calls (Answer other rows (by.Cover cover)) (same, h, is_released) = absurd h
-  says_decided uncovered found calls (Answer other rows (by.Template shard id it)) (same, (first, shard_is, none), is_released) = (
-    same,
-    record {
-      uncovered = uncovered;
-      found = found;
-      first = first;
-      shard_is = shard_is;
-      made_is = ap (λ z. on_shelf query (look_at query found ∷ z)) none;
-    },
-    is_released,
+  -- or where the look was refused
+  pub weighs_refused : Uncovered policy asker query → (r : Result Verdict AllocError) (e : AllocError) → r ≡ Err e → (old new : Passes) → LeavesVersions old new →
+      CallsOn (shard_of (shape_of [] query)) old.cache new.cache Refused → Weighed r old new
+  weighs_refused uncovered r e is old new versions call = subst (λ z. Weighed z old new) (sym is) (
+    on_shelf query (Refused ∷ []),
+    inr (record { uncovered = uncovered; calls = Refused ∷ []; look = inl refl; made_is = refl }),
+    makes_one (shard_of (shape_of [] query)) Refused old new versions call,
   )
-  says_decided uncovered found calls (Answer other rows (by.Proof taken keeping)) (same, (none, proof, kept_is), is_released) = (
-    same,
-    record {
-      uncovered = uncovered;
-      found = found;
-      none = none;
-      proof = proof;
-      rest = calls;
-      kept_is = kept_is;
-      made_is = refl;
-    },
-    is_released,
+
+  -- after a look
+  weighs_found : Uncovered policy asker query → (found : List Kept) (shard : ℕ) → shard ≡ shard_of (shape_of [] query) → (r : Result Verdict AllocError) → IfOk r (IsFoundBy policy asker effort query shard found) →
+      Weighs policy asker effort query (on_shelf query (look_at query found ∷ [])) r
+  weighs_found uncovered found shard shard_is (Ok (Ground (by.Cover cover))) (h, strong) = absurd h
+  weighs_found uncovered found shard shard_is (Ok (Ground (by.Template its id template it))) ((same, first), strong) =
+      (record { uncovered = uncovered; found = found; first = first; shard_is = same ∙ shard_is; made_is = refl }, strong)
+  weighs_found uncovered found shard shard_is (Ok (Ground (by.Proof steps keeping))) (h, strong) = absurd h
+  weighs_found uncovered found shard shard_is (Ok (Prove proof)) (none, (ends, strong)) =
+      record { uncovered = uncovered; found = found; none = none; proved = ends; compliant = strong; made_is = refl }
+  weighs_found uncovered found shard shard_is (Ok (Deny reason)) (none, is_reason) = record { uncovered = uncovered; found = found; none = none; reason = is_reason; made_is = refl }
+  weighs_found uncovered found shard shard_is (Err error) h = inr (record { uncovered = uncovered; calls = look_at query found ∷ []; look = inr (found, refl); made_is = refl })
+
+  pub weighs_looked : Uncovered policy asker query → (found seen : List Kept) → seen ≡ found → (shard : ℕ) → shard ≡ shard_of (shape_of [] query) → (r : Result Verdict AllocError) →
+      IfOk r (IsFoundBy policy asker effort query shard seen) → (old new : Passes) → LeavesVersions old new → CallsOn (shard_of (shape_of [] query)) old.cache new.cache (look_at query found) → Weighed r old new
+  weighs_looked uncovered found seen same shard shard_is r h old new versions call = (
+    on_shelf query (look_at query found ∷ []),
+    weighs_found uncovered found shard shard_is r (subst (λ z. IfOk r (IsFoundBy policy asker effort query shard z)) same h),
+    makes_one (shard_of (shape_of [] query)) (look_at query found) old new versions call,
   )
-  says_decided uncovered found calls (Blocked other reason) (same, none, is_reason, no_calls) = (
-    same,
-    record {
-      uncovered = uncovered;
-      found = found;
-      none = none;
-      reason = is_reason;
-      made_is = ap (λ z. on_shelf query (look_at query found ∷ z)) no_calls;
-    },
+
+  -- of a verdict by another name
+  pub weighed_as : (seen it : Verdict) → seen ≡ it → (old new : Passes) → Weighed (Ok seen) old new → Weighed (Ok it) old new
+  weighed_as seen it is old new h = subst (λ z. Weighed (Ok z) old new) is h
+
+  -- ---- a proof, whose template is then kept
+
+  -- its problem is the question's
+  pub shown_problem : (proof : Proof) (old new : Passes) → Weighed (Ok (Prove proof)) old new → proof.problem ≡ question policy asker query
+  shown_problem proof old new (made, shown, makes) = proved_problem effort (question policy asker query) proof shown.proved
+
+  pub shown_of_question : QuestionFits policy asker.context asker.trace query → (proof : Proof) (old new : Passes) → Weighed (Ok (Prove proof)) old new → IsOfQuestion proof.problem
+  shown_of_question fits proof old new h =
+      subst IsOfQuestion (sym (shown_problem proof old new h)) (record { context = asker.context; trace = asker.trace; fits = fits; is = refl })
+
+  pub shown_goal : (proof : Proof) (old new : Passes) → Weighed (Ok (Prove proof)) old new → proof.problem.goal ≡ query
+  shown_goal proof old new h = ap (λ (p : Problem). p.goal) (shown_problem proof old new h)
+
+  -- the ground that it is
+  ground_shown : (proof : Proof) (made : ShelfCalls) → (shown : IsShown policy asker effort query proof made) → (calls : List ShelfCall) (basis : By) → IsByProof proof calls basis →
+      IsGround policy asker effort query basis (on_shelf query (look_at query shown.found ∷ calls))
+  ground_shown proof made shown calls (by.Cover cover) h = absurd h
+  ground_shown proof made shown calls (by.Template shard id template it) h = absurd h
+  ground_shown proof made shown calls (by.Proof taken keeping) (same, kept_is) =
+      let here : proof ≡ record { problem = question policy asker query; steps = taken } =
+      λ i. record { problem = proved_problem effort (question policy asker query) proof shown.proved i; steps = sym same i } in
+      record {
+        uncovered = shown.uncovered;
+        found = shown.found;
+        none = shown.none;
+        proof = subst (λ (z : Proof). Settles effort (question policy asker query) (settled.Proved z)) here shown.proved;
+        rest = calls;
+        kept_is = subst (λ (z : Proof). IsKept z keeping calls) here kept_is;
+        made_is = refl;
+      }
+
+  -- the look and what the kept template took
+  both_made : (proof : Proof) (made : ShelfCalls) → (shown : IsShown policy asker effort query proof made) → (calls : List ShelfCall) (old between new : Passes) → Makes made old between →
+      Makes (on_shelf query calls) between new → Makes (on_shelf query (look_at query shown.found ∷ calls)) old new
+  both_made proof made shown calls old between new first more =
+      makes_more (shard_of (shape_of [] query)) (look_at query shown.found ∷ []) calls old between new (subst (λ z. Makes z old between) shown.made_is first) more
+
+  pub judges_proved : (proof : Proof) (old between : Passes) → Weighed (Ok (Prove proof)) old between → (basis : By) (new : Passes) →
+      ((calls : List ShelfCall) × IsByProof proof calls basis × Makes (on_shelf proof.problem.goal calls) between new) →
+      (made : ShelfCalls) × Judges policy asker effort query made (judged.Allowed basis) × Makes made old new
+  judges_proved proof old between (made, shown, makes) basis new (calls, told, more) = (
+    on_shelf query (look_at query shown.found ∷ calls),
+    (ground_shown proof made shown calls basis told, shown.compliant),
+    both_made proof made shown calls old between new makes (subst (λ (p : Problem). Makes (on_shelf p.goal calls) between new) (proved_problem effort (question policy asker query) proof shown.proved) more),
   )
-  says_decided uncovered found calls (Unread fault) h = absurd h
-  says_decided uncovered found calls NoMemory no_calls = inr (record {
-    uncovered = uncovered;
-    calls = look_at query found ∷ [];
-    look = inr (found, refl);
-    made_is = ap (λ z. on_shelf query (look_at query found ∷ z)) no_calls;
+
+  -- ---- other grounds
+
+  other_ground : (basis : By) (made : ShelfCalls) → IsOtherGround policy asker query basis made → IsGround policy asker effort query basis made
+  other_ground (by.Cover cover) made h = h
+  other_ground (by.Template shard id template it) made h = h
+  other_ground (by.Proof steps keeping) made h = absurd h
+
+  pub judges_other : (basis : By) (old new : Passes) → Weighed (Ok (Ground basis)) old new → (made : ShelfCalls) × Judges policy asker effort query made (judged.Allowed basis) × Makes made old new
+  judges_other basis old new (made, (ground, strong), makes) = (made, (other_ground basis made ground, strong), makes)
+
+  -- it leaves a look at most
+  other_left : (basis : By) (made : ShelfCalls) → IsOtherGround policy asker query basis made → HasNoVerdict policy asker query made
+  other_left (by.Cover cover) made h = inl h.1
+  other_left (by.Template shard id template it) made h = inr (record { uncovered = h.uncovered; calls = look_at query h.found ∷ []; look = inr (h.found, refl); made_is = h.made_is })
+  other_left (by.Proof steps keeping) made h = absurd h
+
+-- ---- replies
+
+module _ (policy : Policy) (asker : Request) (effort : Effort) (query : Query) where
+  -- a query's answer, by a cover or a template
+  says_other : AnswerEverywhere → IsRequestOf policy asker → (basis : By) (made : ShelfCalls) → IsOtherGround policy asker query basis made → IsCompliant policy asker query → (reply : Reply) →
+      Answers asker query basis reply → Says policy asker effort query made reply
+  says_other law is_asker basis made ground strong (Answer other rows it) (told, same) =
+      (told.same, subst (λ z. IsGround policy asker effort query z made) (sym same) (other_ground policy asker effort query basis made ground), released law policy asker query rows is_asker strong told.answer)
+  says_other law is_asker basis made ground strong (Blocked other reason) h = absurd h
+  says_other law is_asker basis made ground strong (Unread fault) h = absurd h
+  says_other law is_asker basis made ground strong NoMemory h = other_left policy asker effort query basis made ground
+
+  pub says_answer : AnswerEverywhere → IsRequestOf policy asker → (basis : By) (old new : Passes) → Weighed policy asker effort query (Ok (Ground basis)) old new → (reply : Reply) →
+      Answers asker query basis reply → (made : ShelfCalls) × Says policy asker effort query made reply × Makes made old new
+  says_answer law is_asker basis old new (made, (ground, strong), makes) reply answers = (made, says_other law is_asker basis made ground strong reply answers, makes)
+
+  -- by a proof
+  says_proof : AnswerEverywhere → IsRequestOf policy asker → (proof : Proof) (made : ShelfCalls) → (shown : IsShown policy asker effort query proof made) → (calls : List ShelfCall) (reply : Reply) →
+      AnswersByProof asker query proof calls reply → Says policy asker effort query (on_shelf query (look_at query shown.found ∷ calls)) reply
+  says_proof law is_asker proof made shown calls (Answer other rows basis) (told, by_proof) =
+      (told.same, ground_shown policy asker effort query proof made shown calls basis by_proof, released law policy asker query rows is_asker shown.compliant told.answer)
+  says_proof law is_asker proof made shown calls (Blocked other reason) h = absurd h
+  says_proof law is_asker proof made shown calls (Unread fault) h = absurd h
+  says_proof law is_asker proof made shown calls NoMemory none = inr (record {
+    uncovered = shown.uncovered;
+    calls = look_at query shown.found ∷ [];
+    look = inr (shown.found, refl);
+    made_is = ap (λ z. on_shelf query (look_at query shown.found ∷ z)) none;
   })
 
-  -- the same of what was decided, with the calls of the look
-  pub says_looked : Uncovered policy asker query → (found : List Kept) (reply : Reply) (old between new : Passes) → LeavesVersions old between →
-      CallsOn (shard_of (shape_of [] query)) old.cache between.cache (look_at query found) →
-      ((calls : List ShelfCall) × Decides policy asker budget query found calls reply × Makes (on_shelf query calls) between new) →
-      (made : ShelfCalls) × Says policy asker budget query made reply × Makes made old new
-  says_looked uncovered found reply old between new versions call (calls, decided, made) = (
-    on_shelf query (look_at query found ∷ calls),
-    says_decided uncovered found calls reply decided,
-    makes_more (shard_of (shape_of [] query)) (look_at query found ∷ []) calls old between new (makes_one (shard_of (shape_of [] query)) (look_at query found) old between versions call) made,
+  pub says_proved : AnswerEverywhere → IsRequestOf policy asker → (proof : Proof) (old between : Passes) → Weighed policy asker effort query (Ok (Prove proof)) old between → (reply : Reply) (new : Passes) →
+      ((calls : List ShelfCall) × AnswersByProof asker query proof calls reply × Makes (on_shelf query calls) between new) → (made : ShelfCalls) × Says policy asker effort query made reply × Makes made old new
+  says_proved law is_asker proof old between (made, shown, makes) reply new (calls, answers, more) = (
+    on_shelf query (look_at query shown.found ∷ calls),
+    says_proof law is_asker proof made shown calls reply answers,
+    both_made policy asker effort query proof made shown calls old between new makes more,
   )
 
+  -- and its block
+  pub says_denied : (reason : Why) (old new : Passes) → Weighed policy asker effort query (Ok (Deny reason)) old new →
+      (made : ShelfCalls) × Says policy asker effort query made (Blocked query reason) × Makes made old new
+  says_denied reason old new (made, denied, makes) = (made, (refl, denied), makes)
+
   -- of a text that was read
-  replies_said : (text : List ℕ) → Reads policy text query → (made : ShelfCalls) (reply : Reply) → Says policy asker budget query made reply → Replies policy asker budget text made reply
+  replies_said : (text : List ℕ) → Reads policy text query → (made : ShelfCalls) (reply : Reply) → Says policy asker effort query made reply → Replies policy asker effort text made reply
   replies_said text reads made (Answer other rows ground) (same, is_ground, is_released) =
-      subst (λ z. Replies policy asker budget text made (Answer z rows ground)) (sym same) (record { reads = reads; ground = is_ground; released = is_released })
+      subst (λ z. Replies policy asker effort text made (Answer z rows ground)) (sym same) (record { reads = reads; ground = is_ground; released = is_released })
   replies_said text reads made (Blocked other reason) (same, denied) =
-      subst (λ z. Replies policy asker budget text made (Blocked z reason)) (sym same) (record { reads = reads; denied = denied })
+      subst (λ z. Replies policy asker effort text made (Blocked z reason)) (sym same) (record { reads = reads; denied = denied })
   replies_said text reads made (Unread fault) h = absurd h
   replies_said text reads made NoMemory (inl none) = inl none
-  replies_said text reads made NoMemory (inr looked) = inr (query, reads, looked)
+  replies_said text reads made NoMemory (inr left) = inr (query, reads, left)
 
-  pub replies_made : (text : List ℕ) → Reads policy text query → (reply : Reply) (old new : Passes) → ((made : ShelfCalls) × Says policy asker budget query made reply × Makes made old new) →
-      (made : ShelfCalls) × Replies policy asker budget text made reply × Makes made old new
+  pub replies_made : (text : List ℕ) → Reads policy text query → (reply : Reply) (old new : Passes) → ((made : ShelfCalls) × Says policy asker effort query made reply × Makes made old new) →
+      (made : ShelfCalls) × Replies policy asker effort text made reply × Makes made old new
   replies_made text reads reply old new (made, says, makes) = (made, replies_said text reads made reply says, makes)
 
 -- of a text that wasn't read
-pub refused_made : (seen policy : Policy) → seen ≡ policy → (asker : Request) (budget : ℕ) (text : List ℕ) (failure : Failure ReadQueryFault) (reply : Reply) → reply ≡ refusal_of failure →
-    Fails failure (query_of seen.schema seen.params text) → (passes : Passes) → (made : ShelfCalls) × Replies policy asker budget text made reply × Makes made passes passes
-refused_made seen policy same asker budget text failures.NoMemory reply is h passes = (
+pub refused_made : (seen policy : Policy) → seen ≡ policy → (asker : Request) (effort : Effort) (text : List ℕ) (failure : Failure ReadQueryFault) (reply : Reply) → reply ≡ refusal_of failure →
+    Fails failure (query_of seen.schema seen.params text) → (passes : Passes) → (made : ShelfCalls) × Replies policy asker effort text made reply × Makes made passes passes
+refused_made seen policy same asker effort text failures.NoMemory reply is h passes = (
   record { shard = 0; calls = [] },
-  subst (Replies policy asker budget text (record { shard = 0; calls = [] })) (sym is) (inl refl),
+  subst (Replies policy asker effort text (record { shard = 0; calls = [] })) (sym is) (inl refl),
   makes_none (record { shard = 0; calls = [] }) passes passes refl refl,
 )
-refused_made seen policy same asker budget text (failures.Fault fault) reply is h passes = (
+refused_made seen policy same asker effort text (failures.Fault fault) reply is h passes = (
   record { shard = 0; calls = [] },
-  subst (Replies policy asker budget text (record { shard = 0; calls = [] })) (sym is) (subst (λ z. HasFault z text fault) same h, refl),
+  subst (Replies policy asker effort text (record { shard = 0; calls = [] })) (sym is) (subst (λ z. HasFault z text fault) same h, refl),
   makes_none (record { shard = 0; calls = [] }) passes passes refl refl,
 )
 
@@ -377,22 +424,22 @@ module _ (policy : Policy) (old : Request) (is : IsRequestOf policy old) where
   pub asks_same : IsRequestOf policy (record old { trace = old.trace ++ [] })
   asks_same = asks_more [] (All-nil HasQuery) (All-nil (λ entry. IsAnswer entry.query old.context old.tables.rows entry.rows))
 
-  asks_on : (budget : ℕ) (query : Query) (made : ShelfCalls) (reply : Reply) → IsQuery policy.schema (kinds_of policy.params) [] query → Says policy old budget query made reply →
+  asks_on : (effort : Effort) (query : Query) (made : ShelfCalls) (reply : Reply) → IsQuery policy.schema (kinds_of policy.params) [] query → Says policy old effort query made reply →
       IsRequestOf policy (record old { trace = old.trace ++ answer_in reply })
-  asks_on budget query made (Answer other rows ground) asked (same, is_ground, is_released) =
+  asks_on effort query made (Answer other rows ground) asked (same, is_ground, is_released) =
       let entry : TraceEntry = record { query = other; rows = rows } in
       asks_more (entry ∷ [])
       (All-cons HasQuery entry [] (subst (IsQuery policy.schema (kinds_of policy.params) []) (sym same) asked) (All-nil HasQuery))
       (All-cons (λ entry. IsAnswer entry.query old.context old.tables.rows entry.rows) entry []
       (subst (λ z. IsAnswer z old.context old.tables.rows rows) (sym same) is_released.answer)
       (All-nil (λ entry. IsAnswer entry.query old.context old.tables.rows entry.rows)))
-  asks_on budget query made (Blocked other reason) asked h = asks_same
-  asks_on budget query made (Unread fault) asked h = asks_same
-  asks_on budget query made NoMemory asked h = asks_same
+  asks_on effort query made (Blocked other reason) asked h = asks_same
+  asks_on effort query made (Unread fault) asked h = asks_same
+  asks_on effort query made NoMemory asked h = asks_same
 
-  pub asks_after : (budget : ℕ) (query : Query) (reply : Reply) (old_passes new_passes : Passes) (new : Request) → IsQuery policy.schema (kinds_of policy.params) [] query →
-      ((made : ShelfCalls) × Says policy old budget query made reply × Makes made old_passes new_passes) → new ≡ record old { trace = old.trace ++ answer_in reply } → IsRequestOf policy new
-  asks_after budget query reply old_passes new_passes new asked (made, says, makes) same = subst (IsRequestOf policy) (sym same) (asks_on budget query made reply asked says)
+  pub asks_after : (effort : Effort) (query : Query) (reply : Reply) (old_passes new_passes : Passes) (new : Request) → IsQuery policy.schema (kinds_of policy.params) [] query →
+      ((made : ShelfCalls) × Says policy old effort query made reply × Makes made old_passes new_passes) → new ≡ record old { trace = old.trace ++ answer_in reply } → IsRequestOf policy new
+  asks_after effort query reply old_passes new_passes new asked (made, says, makes) same = subst (IsRequestOf policy) (sym same) (asks_on effort query made reply asked says)
 
 -- ---- templates, one by one
 
@@ -414,15 +461,15 @@ split_at found i it below is =
 
 module _ (policy : Policy) (asker : Request) (query : Query) (found : List Kept) (i : ℕ) (it : Kept) (below : i < length found) (is : it ≡ get_or found i it)
     (none : NoneMatches policy asker query (take i found)) where
-  pub first_here : (m : Match) → IsFirstMatch it.template.problem policy asker.context asker.trace query m → IsFirstToMatch policy asker query found it.id m
-  first_here m first = record {
+  pub first_here : (template : Proof) → template ≡ it.template → (m : Match) → IsFirstMatch it.template.problem policy asker.context asker.trace query m →
+      IsFirstToMatch policy asker query found it.id template m
+  first_here template same m first = subst (λ z. IsFirstToMatch policy asker query found it.id z m) (sym same) (record {
     before = take i found;
-    template = it.template;
     after = drop (i + 1) found;
     found_is = split_at found i it below is;
     none_before = none;
     first = first;
-  }
+  })
 
   pub none_here : IsNoMatch policy asker query it → NoneMatches policy asker query (take (i + 1) found)
   none_here fails =

@@ -4,13 +4,13 @@ use Rattle.ba_cache.specs.Rows.{kept}
 use Rattle.ba_cache.specs.declared.call.Kept.{Kept}
 use Rattle.ba_cache.specs.declared.call.ShelfCall.{ShelfCall}
 use Rattle.ba_cache.specs.declared.call.ShelfCall.TheVariants.{Look, Admit, Refused}
-use Rattle.ba_comply.specs.Comply.{Agree, Records}
+use Rattle.ba_comply.specs.Comply.{Agree, Records, Strong}
 use Rattle.ba_comply.specs.declared.trace.TraceEntry.{TraceEntry}
 use Rattle.ba_direct.specs.Cover.{Covered, IsCover}
 use Rattle.ba_general.specs.Generals.{IsGeneralised, IsTooWide}
-use Rattle.ba_instant.specs.Dues.{EndsProved, EndsSaturated, EndsSpent}
-use Rattle.ba_instant.specs.declared.ends.Leaf.{Leaf}
-use Rattle.ba_instant.specs.declared.order.Pick.TheVariants.{First}
+use Rattle.ba_settle.specs.Settling.{Effort, Settles}
+use Rattle.ba_settle.specs.declared.ends.Leaf.{Leaf}
+use Rattle.ba_settle.specs.declared.ends.Settled.TheVariants as settled
 use Rattle.ba_model.specs.RuleFaults.{RuleFits}
 use Rattle.ba_kernel.specs.Problems.{problem_of}
 use Rattle.ba_kernel.specs.Tests as kernel
@@ -33,6 +33,8 @@ use Rattle.ba_refute.specs.declared.clause.Counterexample.{Counterexample}
 use Rattle.ba_session.specs.Passing.{ShelfCalls, on_shelf}
 use Rattle.ba_session.specs.declared.reply.By.{By}
 use Rattle.ba_session.specs.declared.reply.By.TheVariants.{Cover, Template, Proof}
+use Rattle.ba_session.specs.declared.reply.Judgement.{Judgement}
+use Rattle.ba_session.specs.declared.reply.Judgement.TheVariants as judged
 use Rattle.ba_session.specs.declared.reply.Keeping.{Keeping}
 use Rattle.ba_session.specs.declared.reply.Keeping.TheVariants as keeping
 use Rattle.ba_session.specs.declared.reply.Reply.{Reply}
@@ -87,6 +89,10 @@ pub record IsReleased (policy : Policy) (asker : Request) (query : Query) (rows 
 abbrev pub question : Policy → Request → Query → Problem
 question policy asker query = problem_of policy asker.context asker.trace query
 
+-- the question is strongly compliant after the request's trace
+abbrev pub IsCompliant : Policy → Request → Query → Type 0
+IsCompliant policy asker query = Strong policy asker.context asker.trace query
+
 abbrev pub Uncovered : Policy → Request → Query → Type 0
 Uncovered policy asker query = Covered policy asker.context query → ⊥
 
@@ -107,11 +113,11 @@ IsNoMatch policy asker query it =
 abbrev pub NoneMatches : Policy → Request → Query → List Kept → Type 0
 NoneMatches policy asker query found = All (IsNoMatch policy asker query) found
 
--- the template with this number is the first that matches the question, and this is its first match
+-- the template, kept under this number, is the first that matches the question, and this is its
+-- first match
 pub record IsFirstToMatch (policy : Policy) (asker : Request) (query : Query) (found : List Kept)
-    (id : ℕ) (it : Match) : Type 0 where
+    (id : ℕ) (template : kernel.Proof) (it : Match) : Type 0 where
   pub before : List Kept
-  pub template : kernel.Proof
   pub after : List Kept
   pub found_is : found ≡ before ++ kept id template ∷ after
   pub none_before : NoneMatches policy asker query before
@@ -119,11 +125,15 @@ pub record IsFirstToMatch (policy : Policy) (asker : Request) (query : Query) (f
 
 -- ---- proofs
 
--- the steps are due ones, within the budget, and close the question's problem
-abbrev pub IsProof : Policy → Request → ℕ → Query → List Step → Type 0
-IsProof policy asker budget query steps =
-    EndsProved First (question policy asker query) budget
-    (record { problem = question policy asker query; steps = steps })
+-- of a search in so many orders, in each by at most so many steps
+abbrev pub effort_in : ℕ → ℕ → Effort
+effort_in orders budget = record { orders = orders; budget = budget }
+
+-- the search for a proof of the question finds one, of these steps
+abbrev pub IsProof : Policy → Request → Effort → Query → List Step → Type 0
+IsProof policy asker effort query steps =
+    Settles effort (question policy asker query)
+    (settled.Proved (record { problem = question policy asker query; steps = steps }))
 
 -- What becomes of a proof's template, and the calls on the shelf that this takes: it is admitted,
 -- with the shelf's answer; the proof is too wide for one; or there is no memory for it, which the
@@ -138,22 +148,22 @@ IsKept proof keeping.NoMemory calls = (calls ≡ []) ⊎ (calls ≡ Refused ∷ 
 -- ---- grounds
 
 -- It is the first of the templates found for the question's shape that matches it.
-pub record IsServed (policy : Policy) (asker : Request) (query : Query) (shard id : ℕ) (it : Match)
-    (made : ShelfCalls) : Type 0 where
+pub record IsServed (policy : Policy) (asker : Request) (query : Query) (shard id : ℕ)
+    (template : kernel.Proof) (it : Match) (made : ShelfCalls) : Type 0 where
   pub uncovered : Uncovered policy asker query
   pub found : List Kept
-  pub first : IsFirstToMatch policy asker query found id it
+  pub first : IsFirstToMatch policy asker query found id template it
   pub shard_is : shard ≡ shard_of (shape_of [] query)
   pub made_is : made ≡ on_shelf query (look_at query found ∷ [])
 
 -- None of the templates found for the question's shape matches it, the steps prove it, and its
 -- template is kept, or not.
-pub record IsProved (policy : Policy) (asker : Request) (budget : ℕ) (query : Query)
+pub record IsProved (policy : Policy) (asker : Request) (effort : Effort) (query : Query)
     (steps : List Step) (keeping : Keeping) (made : ShelfCalls) : Type 0 where
   pub uncovered : Uncovered policy asker query
   pub found : List Kept
   pub none : NoneMatches policy asker query found
-  pub proof : IsProof policy asker budget query steps
+  pub proof : IsProof policy asker effort query steps
   pub rest : List ShelfCall
   pub kept_is :
       IsKept (record { problem = question policy asker query; steps = steps }) keeping rest
@@ -161,74 +171,51 @@ pub record IsProved (policy : Policy) (asker : Request) (budget : ℕ) (query : 
 
 -- why the question is answered, and the calls on shelves that this takes: a cover, which takes
 -- none, or, where there is none, a template or a proof
-abbrev pub IsGround : Policy → Request → ℕ → Query → By → ShelfCalls → Type 0
-IsGround policy asker budget query (Cover cover) made =
+abbrev pub IsGround : Policy → Request → Effort → Query → By → ShelfCalls → Type 0
+IsGround policy asker effort query (Cover cover) made =
     IsCover policy asker.context query cover × (made.calls ≡ [])
-IsGround policy asker budget query (Template shard id it) made =
-    IsServed policy asker query shard id it made
-IsGround policy asker budget query (Proof steps keeping) made =
-    IsProved policy asker budget query steps keeping made
+IsGround policy asker effort query (Template shard id template it) made =
+    IsServed policy asker query shard id template it made
+IsGround policy asker effort query (Proof steps keeping) made =
+    IsProved policy asker effort query steps keeping made
 
 -- ---- blocks
 
--- the due steps, within the budget, end at a saturated branch, and the pair is its image, which is
--- a counterexample
-pub record IsRefuted (policy : Policy) (asker : Request) (budget : ℕ) (query : Query)
+-- the search ends at a saturated branch, and the pair is its image, which is a counterexample
+pub record IsRefuted (policy : Policy) (asker : Request) (effort : Effort) (query : Query)
     (pair : Counterexample) : Type 0 where
   pub leaf : Leaf
-  pub saturated : EndsSaturated First (question policy asker query) budget leaf
+  pub saturated : Settles effort (question policy asker query) (settled.Saturated leaf)
   pub image_is : IsImage (question policy asker query) asker.context leaf.branch pair
   pub refutes : IsCounterexample policy asker.context asker.trace query pair
 
--- the due steps, within the budget, end at a saturated branch, and this is the first clause that
--- its image doesn't meet
-pub record IsStuck (policy : Policy) (asker : Request) (budget : ℕ) (query : Query) (leaf : Leaf)
-    (clause : Clause) : Type 0 where
-  pub saturated : EndsSaturated First (question policy asker query) budget leaf
+-- the search ends at a saturated branch, and this is the first clause that its image doesn't meet
+pub record IsStuck (policy : Policy) (asker : Request) (effort : Effort) (query : Query)
+    (leaf : Leaf) (clause : Clause) : Type 0 where
+  pub saturated : Settles effort (question policy asker query) (settled.Saturated leaf)
   pub image : Counterexample
   pub image_is : IsImage (question policy asker query) asker.context leaf.branch image
   pub unmet : IsFirstUnmet policy asker.context asker.trace query image clause
 
 -- why the question is blocked
-abbrev pub IsReason : Policy → Request → ℕ → Query → Why → Type 0
-IsReason policy asker budget query (Refuted pair) = IsRefuted policy asker budget query pair
-IsReason policy asker budget query (Spent steps) =
-    EndsSpent First (question policy asker query) budget steps
-IsReason policy asker budget query (Stuck leaf clause) =
-    IsStuck policy asker budget query leaf clause
+abbrev pub IsReason : Policy → Request → Effort → Query → Why → Type 0
+IsReason policy asker effort query (Refuted pair) = IsRefuted policy asker effort query pair
+IsReason policy asker effort query (Spent steps) =
+    Settles effort (question policy asker query) (settled.Spent steps)
+IsReason policy asker effort query (Stuck leaf clause) =
+    IsStuck policy asker effort query leaf clause
 
 -- The question isn't covered, none of the templates found for its shape matches it, and it is
 -- blocked for this reason.
-pub record IsDenied (policy : Policy) (asker : Request) (budget : ℕ) (query : Query) (why : Why)
-    (made : ShelfCalls) : Type 0 where
+pub record IsDenied (policy : Policy) (asker : Request) (effort : Effort) (query : Query)
+    (why : Why) (made : ShelfCalls) : Type 0 where
   pub uncovered : Uncovered policy asker query
   pub found : List Kept
   pub none : NoneMatches policy asker query found
-  pub reason : IsReason policy asker budget query why
+  pub reason : IsReason policy asker effort query why
   pub made_is : made ≡ on_shelf query (look_at query found ∷ [])
 
--- ---- replies
-
--- the text reads as the query, for the policy's schema and parameters
-abbrev pub Reads : Policy → List ℕ → Query → Type 0
-Reads policy text query = ReadsQuery policy.schema policy.params text query
-
--- the text reads as no query, and this is its first fault
-abbrev pub HasFault : Policy → List ℕ → ReadQueryFault → Type 0
-HasFault policy text fault = query_of policy.schema policy.params text ≡ Err fault
-
--- the text's query is answered by these rows, for this reason
-pub record IsAnswered (policy : Policy) (asker : Request) (budget : ℕ) (text : List ℕ)
-    (query : Query) (rows : List (List Value)) (by : By) (made : ShelfCalls) : Type 0 where
-  pub reads : Reads policy text query
-  pub ground : IsGround policy asker budget query by made
-  pub released : IsReleased policy asker query rows
-
--- the text's query is blocked for this reason
-pub record IsBlocked (policy : Policy) (asker : Request) (budget : ℕ) (text : List ℕ)
-    (query : Query) (why : Why) (made : ShelfCalls) : Type 0 where
-  pub reads : Reads policy text query
-  pub denied : IsDenied policy asker budget query why made
+-- ---- judgements
 
 -- a look at the question's shape was refused, or found these
 abbrev pub IsLook : Query → List ShelfCall → Type 0
@@ -243,6 +230,43 @@ pub record HasLooked (policy : Policy) (asker : Request) (query : Query) (made :
   pub look : IsLook query calls
   pub made_is : made ≡ on_shelf query calls
 
+-- memory ran out while the query was judged: before any call, or behind a look
+abbrev pub HasNoVerdict : Policy → Request → Query → ShelfCalls → Type 0
+HasNoVerdict policy asker query made = (made.calls ≡ []) ⊎ HasLooked policy asker query made
+
+-- The judgement of a query, as the request stands, and the calls on shelves that this takes: there
+-- is a ground to answer it, and it is strongly compliant; or it is blocked for this reason. Want of
+-- memory may stand in place of both.
+abbrev pub Judges : Policy → Request → Effort → Query → ShelfCalls → Judgement → Type 0
+Judges policy asker effort query made (judged.Allowed by) =
+    IsGround policy asker effort query by made × IsCompliant policy asker query
+Judges policy asker effort query made (judged.Blocked why) =
+    IsDenied policy asker effort query why made
+Judges policy asker effort query made judged.NoMemory = HasNoVerdict policy asker query made
+
+-- ---- replies
+
+-- the text reads as the query, for the policy's schema and parameters
+abbrev pub Reads : Policy → List ℕ → Query → Type 0
+Reads policy text query = ReadsQuery policy.schema policy.params text query
+
+-- the text reads as no query, and this is its first fault
+abbrev pub HasFault : Policy → List ℕ → ReadQueryFault → Type 0
+HasFault policy text fault = query_of policy.schema policy.params text ≡ Err fault
+
+-- the text's query is answered by these rows, for this reason
+pub record IsAnswered (policy : Policy) (asker : Request) (effort : Effort) (text : List ℕ)
+    (query : Query) (rows : List (List Value)) (by : By) (made : ShelfCalls) : Type 0 where
+  pub reads : Reads policy text query
+  pub ground : IsGround policy asker effort query by made
+  pub released : IsReleased policy asker query rows
+
+-- the text's query is blocked for this reason
+pub record IsBlocked (policy : Policy) (asker : Request) (effort : Effort) (text : List ℕ)
+    (query : Query) (why : Why) (made : ShelfCalls) : Type 0 where
+  pub reads : Reads policy text query
+  pub denied : IsDenied policy asker effort query why made
+
 -- where memory ran out: before any call, or behind a look
 abbrev pub IsInterrupted : Policy → Request → List ℕ → ShelfCalls → Type 0
 IsInterrupted policy asker text made =
@@ -251,14 +275,14 @@ IsInterrupted policy asker text made =
 
 -- A question's reply, as the request stands, and the calls on shelves that this takes. Want of
 -- memory may stand in place of any other reply.
-abbrev pub Replies : Policy → Request → ℕ → List ℕ → ShelfCalls → Reply → Type 0
-Replies policy asker budget text made (Answer query rows by) =
-    IsAnswered policy asker budget text query rows by made
-Replies policy asker budget text made (Blocked query why) =
-    IsBlocked policy asker budget text query why made
-Replies policy asker budget text made (Unread fault) =
+abbrev pub Replies : Policy → Request → Effort → List ℕ → ShelfCalls → Reply → Type 0
+Replies policy asker effort text made (Answer query rows by) =
+    IsAnswered policy asker effort text query rows by made
+Replies policy asker effort text made (Blocked query why) =
+    IsBlocked policy asker effort text query why made
+Replies policy asker effort text made (Unread fault) =
     HasFault policy text fault × (made.calls ≡ [])
-Replies policy asker budget text made NoMemory = IsInterrupted policy asker text made
+Replies policy asker effort text made NoMemory = IsInterrupted policy asker text made
 
 -- what the reply adds to the trace
 abbrev pub answer_in : Reply → List TraceEntry

@@ -1,11 +1,9 @@
--- What a request's judgement of a query rests on, and says.
-use Rattle.std.specs.Prelude.{◌≡◌, ◌⊎◌, ℕ, List, [], ◌∷◌, Option, Some, None, ⊤}
+-- What a request's judgement of a query rests on, and what a reply tells of it.
+use Rattle.std.specs.Prelude.{◌≡◌, ◌⊎◌, ℕ, List, [], ◌∷◌, Option, Some, None, Result, Ok, Err, ⊤}
 use Rattle.ba_cache.specs.declared.call.Kept.{Kept}
 use Rattle.ba_cache.specs.declared.call.ShelfCall.{ShelfCall}
 use Rattle.ba_cache.specs.declared.call.ShelfCall.TheVariants.{Admit, Refused}
-use Rattle.ba_comply.specs.Comply.{Strong}
-use Rattle.ba_instant.specs.Dues.{EndsProved}
-use Rattle.ba_instant.specs.declared.order.Pick.TheVariants.{First}
+use Rattle.ba_direct.specs.Cover.{IsCover}
 use Rattle.ba_kernel.specs.Tests as kernel
 use Rattle.ba_model.specs.Meaning.{IsAnswer}
 use Rattle.ba_model.specs.declared.failure.Failure.{Failure}
@@ -13,10 +11,10 @@ use Rattle.ba_model.specs.declared.failure.Failure.TheVariants as failures
 use Rattle.ba_model.specs.declared.policy.Policy.{Policy}
 use Rattle.ba_model.specs.declared.query.Query.{Query}
 use Rattle.ba_model.specs.declared.value.Value.{Value}
-use Rattle.ba_session.specs.Asking.{HasLooked, IsDenied, IsFirstToMatch, IsGround, IsKept, IsProof, IsReason, IsReleased, NoneMatches, question}
-use Rattle.ba_session.specs.Passing.{ShelfCalls}
-use Rattle.ba_session.specs.declared.judge.Judgement.{Judgement}
-use Rattle.ba_session.specs.declared.judge.Judgement.TheVariants.{Serve, Prove, Deny}
+use Rattle.ba_session.specs.Asking.{HasNoVerdict, IsCompliant, IsDenied, IsFirstToMatch, IsGround, IsKept, IsReason, IsReleased, IsServed, NoneMatches, Uncovered, look_at, question}
+use Rattle.ba_session.specs.Passing.{ShelfCalls, on_shelf}
+use Rattle.ba_session.specs.declared.judge.Verdict.{Verdict}
+use Rattle.ba_session.specs.declared.judge.Verdict.TheVariants.{Ground, Prove, Deny}
 use Rattle.ba_session.specs.declared.reply.By.{By}
 use Rattle.ba_session.specs.declared.reply.By.TheVariants as by
 use Rattle.ba_session.specs.declared.reply.Keeping.{Keeping}
@@ -24,42 +22,77 @@ use Rattle.ba_session.specs.declared.reply.Keeping.TheVariants as keeping
 use Rattle.ba_session.specs.declared.reply.Reply.{Reply}
 use Rattle.ba_session.specs.declared.reply.Reply.TheVariants.{Answer, Blocked, Unread, NoMemory}
 use Rattle.ba_session.specs.declared.request.Request.{Request}
+use Rattle.ba_settle.specs.Settling.{Effort, Settles}
+use Rattle.ba_settle.specs.declared.ends.Settled.TheVariants as settled
 use Rattle.ba_sql_query.specs.declared.fault.ReadQueryFault.{ReadQueryFault}
-use Rattle.ba_template.specs.Shapes.{shape_of, shard_of}
-use Rattle.ba_template.specs.declared.found.Match.{Match}
 
--- ---- judgements
+-- ---- after a look
 
--- the first template that matches, with its first match, or that none does
-abbrev pub IsServing : Policy → Request → Query → List Kept → Option (ℕ × Match) → Type 0
-IsServing policy asker query found None = NoneMatches policy asker query found
-IsServing policy asker query found (Some it) = IsFirstToMatch policy asker query found it.0 it.1
+-- the ground is the first of the templates found on the shelf of this shard that matches the query
+abbrev pub IsByTemplate : Policy → Request → Query → ℕ → List Kept → By → Type 0
+IsByTemplate policy asker query shard found (by.Cover cover) = ⊥
+IsByTemplate policy asker query shard found (by.Template its id template it) =
+    (its ≡ shard) × IsFirstToMatch policy asker query found id template it
+IsByTemplate policy asker query shard found (by.Proof steps keeping) = ⊥
 
-abbrev pub IsCompliant : Policy → Request → Query → Type 0
-IsCompliant policy asker query = Strong policy asker.context asker.trace query
+-- the ground by the first template that matches, or that none does
+abbrev pub IsServing : Policy → Request → Query → ℕ → List Kept → Option By → Type 0
+IsServing policy asker query shard found None = NoneMatches policy asker query found
+IsServing policy asker query shard found (Some basis) =
+    IsByTemplate policy asker query shard found basis
 
 -- what a search finds of the query
-abbrev pub IsSearched : Policy → Request → ℕ → Query → Judgement → Type 0
-IsSearched policy asker budget query (Serve id it) = ⊥
-IsSearched policy asker budget query (Prove proof) =
-    EndsProved First (question policy asker query) budget proof × IsCompliant policy asker query
-IsSearched policy asker budget query (Deny why) = IsReason policy asker budget query why
+abbrev pub IsSearched : Policy → Request → Effort → Query → Verdict → Type 0
+IsSearched policy asker effort query (Ground basis) = ⊥
+IsSearched policy asker effort query (Prove proof) =
+    Settles effort (question policy asker query) (settled.Proved proof) ×
+    IsCompliant policy asker query
+IsSearched policy asker effort query (Deny why) = IsReason policy asker effort query why
 
--- the judgement of the query after these templates were found for its shape
-abbrev pub Judges : Policy → Request → ℕ → Query → List Kept → Judgement → Type 0
-Judges policy asker budget query found (Serve id it) =
-    IsFirstToMatch policy asker query found id it × IsCompliant policy asker query
-Judges policy asker budget query found (Prove proof) =
-    NoneMatches policy asker query found × IsSearched policy asker budget query (Prove proof)
-Judges policy asker budget query found (Deny why) =
-    NoneMatches policy asker query found × IsSearched policy asker budget query (Deny why)
+-- what these templates, found for the query's shape on the shelf of this shard, say of the query,
+-- or else a search
+abbrev pub IsFoundBy : Policy → Request → Effort → Query → ℕ → List Kept → Verdict → Type 0
+IsFoundBy policy asker effort query shard found (Ground basis) =
+    IsByTemplate policy asker query shard found basis × IsCompliant policy asker query
+IsFoundBy policy asker effort query shard found (Prove proof) =
+    NoneMatches policy asker query found × IsSearched policy asker effort query (Prove proof)
+IsFoundBy policy asker effort query shard found (Deny why) =
+    NoneMatches policy asker query found × IsSearched policy asker effort query (Deny why)
 
--- ---- replies, and what was done for them
+-- ---- before a template is kept
 
--- to a text that wasn't read
-abbrev pub refusal_of : Failure ReadQueryFault → Reply
-refusal_of failures.NoMemory = NoMemory
-refusal_of (failures.Fault fault) = Unread fault
+-- The query isn't covered, none of the templates found for its shape matches it, and a search finds
+-- this proof: it is strongly compliant.
+pub record IsShown (policy : Policy) (asker : Request) (effort : Effort) (query : Query)
+    (proof : kernel.Proof) (made : ShelfCalls) : Type 0 where
+  pub uncovered : Uncovered policy asker query
+  pub found : List Kept
+  pub none : NoneMatches policy asker query found
+  pub proved : Settles effort (question policy asker query) (settled.Proved proof)
+  pub compliant : IsCompliant policy asker query
+  pub made_is : made ≡ on_shelf query (look_at query found ∷ [])
+
+-- a ground for which no template is kept, a cover or a template, and the calls that this takes
+abbrev pub IsOtherGround : Policy → Request → Query → By → ShelfCalls → Type 0
+IsOtherGround policy asker query (by.Cover cover) made =
+    IsCover policy asker.context query cover × (made.calls ≡ [])
+IsOtherGround policy asker query (by.Template shard id template it) made =
+    IsServed policy asker query shard id template it made
+IsOtherGround policy asker query (by.Proof steps keeping) made = ⊥
+
+-- what the query's judgement rests on, and the calls on shelves that this takes, before the
+-- template of a proof is kept; or want of memory
+abbrev pub Weighs : {E : Type 0} → Policy → Request → Effort → Query → ShelfCalls
+    → Result Verdict E → Type 0
+Weighs policy asker effort query made (Ok (Ground basis)) =
+    IsOtherGround policy asker query basis made × IsCompliant policy asker query
+Weighs policy asker effort query made (Ok (Prove proof)) =
+    IsShown policy asker effort query proof made
+Weighs policy asker effort query made (Ok (Deny why)) =
+    IsDenied policy asker effort query why made
+Weighs policy asker effort query made (Err error) = HasNoVerdict policy asker query made
+
+-- ---- a template that is kept
 
 -- the template is admitted by this call, with its answer; or there is no memory for it, which the
 -- shelf may have told
@@ -69,7 +102,20 @@ IsAdmitted template (keeping.Stored answer) calls =
 IsAdmitted template keeping.Wide calls = ⊥
 IsAdmitted template keeping.NoMemory calls = (calls ≡ []) ⊎ (calls ≡ Refused ∷ [])
 
--- the rows are the query's answer in the request's tables, and told for this reason
+-- the ground is the proof's steps, and its template is kept by these calls, or not
+abbrev pub IsByProof : kernel.Proof → List ShelfCall → By → Type 0
+IsByProof proof calls (by.Cover cover) = ⊥
+IsByProof proof calls (by.Template shard id template it) = ⊥
+IsByProof proof calls (by.Proof steps keeping) = (steps ≡ proof.steps) × IsKept proof keeping calls
+
+-- ---- replies
+
+-- to a text that wasn't read
+abbrev pub refusal_of : Failure ReadQueryFault → Reply
+refusal_of failures.NoMemory = NoMemory
+refusal_of (failures.Fault fault) = Unread fault
+
+-- the rows are the query's answer in the request's tables
 pub record IsTold (asker : Request) (query other : Query) (rows : List (List Value)) : Type 0 where
   pub same : other ≡ query
   pub answer : IsAnswer query asker.context asker.tables.rows rows
@@ -81,12 +127,6 @@ Answers asker query basis (Blocked other why) = ⊥
 Answers asker query basis (Unread fault) = ⊥
 Answers asker query basis NoMemory = ⊤
 
--- the basis is the proof's steps, and its template is kept by these calls, or not
-abbrev pub IsByProof : kernel.Proof → List ShelfCall → By → Type 0
-IsByProof proof calls (by.Cover cover) = ⊥
-IsByProof proof calls (by.Template shard id it) = ⊥
-IsByProof proof calls (by.Proof steps keeping) = (steps ≡ proof.steps) × IsKept proof keeping calls
-
 -- the query's answer by this proof, whose template is kept by these calls, or not; or want of
 -- memory, without a call
 abbrev pub AnswersByProof : Request → Query → kernel.Proof → List ShelfCall → Reply → Type 0
@@ -96,35 +136,12 @@ AnswersByProof asker query proof calls (Blocked other why) = ⊥
 AnswersByProof asker query proof calls (Unread fault) = ⊥
 AnswersByProof asker query proof calls NoMemory = calls ≡ []
 
--- why the query is answered after these templates were found for its shape, and the further calls
--- that this takes
-abbrev pub IsGroundAfter : Policy → Request → ℕ → Query → List Kept → By → List ShelfCall → Type 0
-IsGroundAfter policy asker budget query found (by.Cover cover) calls = ⊥
-IsGroundAfter policy asker budget query found (by.Template shard id it) calls =
-    IsFirstToMatch policy asker query found id it × (shard ≡ shard_of (shape_of [] query)) ×
-    (calls ≡ [])
-IsGroundAfter policy asker budget query found (by.Proof steps keeping) calls =
-    NoneMatches policy asker query found × IsProof policy asker budget query steps ×
-    IsKept (record { problem = question policy asker query; steps = steps }) keeping calls
-
--- the reply to the query after these templates were found for its shape, and the further calls that
--- this takes
-abbrev pub Decides : Policy → Request → ℕ → Query → List Kept → List ShelfCall → Reply → Type 0
-Decides policy asker budget query found calls (Answer other rows basis) =
-    (other ≡ query) × IsGroundAfter policy asker budget query found basis calls ×
-    IsReleased policy asker query rows
-Decides policy asker budget query found calls (Blocked other why) =
-    (other ≡ query) × NoneMatches policy asker query found ×
-    IsReason policy asker budget query why × (calls ≡ [])
-Decides policy asker budget query found calls (Unread fault) = ⊥
-Decides policy asker budget query found calls NoMemory = calls ≡ []
-
 -- the reply to the query, and the calls on shelves that this takes
-abbrev pub Says : Policy → Request → ℕ → Query → ShelfCalls → Reply → Type 0
-Says policy asker budget query made (Answer other rows basis) =
-    (other ≡ query) × IsGround policy asker budget query basis made ×
+abbrev pub Says : Policy → Request → Effort → Query → ShelfCalls → Reply → Type 0
+Says policy asker effort query made (Answer other rows basis) =
+    (other ≡ query) × IsGround policy asker effort query basis made ×
     IsReleased policy asker query rows
-Says policy asker budget query made (Blocked other why) =
-    (other ≡ query) × IsDenied policy asker budget query why made
-Says policy asker budget query made (Unread fault) = ⊥
-Says policy asker budget query made NoMemory = (made.calls ≡ []) ⊎ HasLooked policy asker query made
+Says policy asker effort query made (Blocked other why) =
+    (other ≡ query) × IsDenied policy asker effort query why made
+Says policy asker effort query made (Unread fault) = ⊥
+Says policy asker effort query made NoMemory = HasNoVerdict policy asker query made

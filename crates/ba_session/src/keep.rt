@@ -4,11 +4,11 @@ ghost use Rattle.ba_cache.specs.Rows.{shape_of_template};
 ghost use Rattle.ba_cache.specs.declared.call.ShelfCall.{ShelfCall};
 ghost use Rattle.ba_general.specs.Generals.{IsOfQuestion};
 ghost use Rattle.ba_session.specs.Asking.{IsKept};
-ghost use Rattle.ba_session.specs.Judging.{IsAdmitted};
+ghost use Rattle.ba_session.specs.Judging.{IsAdmitted, IsByProof};
 ghost use Rattle.ba_session.specs.Passing.{AreOf, HasRoom, Makes, on_shelf};
 ghost use Rattle.ba_template.specs.Shapes.{shard_of};
 
-use crate::reply::Keeping;
+use crate::reply::{By, Keeping};
 use crate::service::{Passes, Service};
 use ba_general::generalise;
 use ba_kernel::Proved;
@@ -18,8 +18,27 @@ use ba_template::laws::instance_has_shape;
 use std::alloc::Global;
 use std::sync::Wait;
 
+/// The proof as evidence: its template is made and admitted.
+pub(crate) fn prove<R: Wait>(
+    rt: &R,
+    alloc: Global,
+    service: &Service,
+    passes: &mut Passes,
+    proved: Proved,
+) -> By
+    requires question { IsOfQuestion proved.problem }
+    requires of { AreOf service.now passes.old }
+    requires room { HasRoom 1 passes.old }
+    ensures of { AreOf service.now passes.new }
+    ensures proves { (calls : List ShelfCall) × IsByProof proved calls result
+        × Makes (on_shelf proved.problem.goal calls) passes.old passes.new }
+{
+    let keeping = keep(rt, alloc, service, passes, &proved);
+    By::Proof(proved.into_steps(), keeping)
+}
+
 /// Makes the proof's template and admits it to the shelf of its question's shard.
-pub(crate) fn keep<R: Wait>(
+fn keep<R: Wait>(
     rt: &R,
     alloc: Global,
     service: &Service,

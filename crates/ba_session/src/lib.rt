@@ -9,6 +9,6 @@ mod request;
 mod service;
 mod sharing;
 
-pub use reply::{By, Keeping, Reply, Why};
+pub use reply::{By, Judgement, Keeping, Reply, Why};
 pub use request::Request;
 pub use service::{Closed, Passes, Service};

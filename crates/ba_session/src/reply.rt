@@ -2,12 +2,12 @@
 
 use ba_cache::Admit;
 use ba_direct::Cover;
-use ba_instant::Leaf;
 use ba_kernel::Step;
 use ba_model::{List, Query, Row, Shared};
 use ba_refute::{Clause, Counterexample};
+use ba_settle::Leaf;
 use ba_sql_query::ReadQueryFault;
-use ba_template::Match;
+use ba_template::{Match, Template};
 
 /// What became of the template of a proof.
 #[derive(Clone, Copy, Debug, Drop, PartialEq, Eq)]
@@ -25,9 +25,15 @@ pub enum Keeping {
 pub enum By {
     /// Views cover the question: one for each part, with a pairing of the tables.
     Cover(Cover),
-    /// No views cover it, and of the templates that the shelf of its shard gave for its shape the
-    /// one with this number is the first that matches: this is its first match.
-    Template { shard: u32, id: u32, found: Match },
+    /// No views cover it, and of the templates that the shelf of its shard gave for its shape this
+    /// one, with its number there, is the first that matches: this is its first match. The template
+    /// is held in common with the shelf, which may drop it later.
+    Template {
+        shard: u32,
+        id: u32,
+        template: Shared<Template>,
+        found: Match,
+    },
     /// No views cover it, none of the templates that were given matches, and these are the due
     /// steps, at most as many as the budget, that leave no branch of its problem open.
     Proof(List<Step>, Keeping),
@@ -46,6 +52,16 @@ pub enum Why {
     /// The due steps that end at a saturated branch, and the first clause that its image doesn't
     /// meet. Whether the question is strongly compliant isn't known.
     Stuck(Leaf, Clause),
+}
+
+/// Whether a query may be answered, with the evidence.
+#[derive(Drop)]
+pub enum Judgement {
+    /// It is strongly compliant after the request's trace.
+    Allowed(By),
+    Blocked(Why),
+    /// Want of memory, before the look at the query's shape or after it.
+    NoMemory,
 }
 
 /// What becomes of a question.

@@ -1,6 +1,5 @@
 //! Requests.
-ghost use Rattle.std.specs.Prelude.{◌≡◌, ◌++◌, ◌∷◌, ◌<◌, ◌≤◌, [], All, IfOk, List, OnErr};
-ghost use Rattle.ba_cache.specs.Rows.{IsSound};
+ghost use Rattle.std.specs.Prelude.{◌≡◌, ◌++◌, ◌∷◌, ◌<◌, ◌≤◌, [], IfOk, List, OnErr};
 ghost use Rattle.ba_cache.specs.declared.call.ShelfCall.{ShelfCall};
 ghost use Rattle.ba_general.specs.Generals.{IsOfQuestion};
 ghost use Rattle.ba_kernel.specs.Asked.{QuestionFits};
@@ -8,28 +7,25 @@ ghost use Rattle.ba_model.specs.Fit.{ContextFits, IsQuery, kinds_of};
 ghost use Rattle.ba_model.specs.Meaning.{IsAnswer};
 ghost use Rattle.ba_model.specs.Readings.{Gives};
 ghost use Rattle.ba_model.specs.Limits.{most_budget};
-ghost use Rattle.ba_session.specs.Asking.{IsRequestOf, IsBegun, IsChecked, Reads, Replies, Uncovered, answer_in, begun};
-ghost use Rattle.ba_session.specs.Judging.{Answers, AnswersByProof, Decides, Says, refusal_of};
+ghost use Rattle.ba_session.specs.Asking.{IsRequestOf, IsBegun, IsChecked, Reads, Replies, answer_in, begun, effort_in};
+ghost use Rattle.ba_session.specs.Judging.{Answers, AnswersByProof, Says, refusal_of};
 ghost use Rattle.ba_session.specs.Passing.{AreOf, HasRoom, LeavesShelves, Makes, ShelfCalls, on_shelf};
 ghost use Rattle.ba_sql_query.specs.Texts.{query_of};
-ghost use Rattle.ba_template.specs.Shapes.{shape_of, shard_of};
 ghost use Rattle.ba_turn.specs.Passes.{MakesCall, known_by};
 
-use crate::judge::Judgement;
-use crate::keep::keep;
+use crate::judge::Verdict;
+use crate::keep::prove;
 use crate::reply::{By, Reply};
 use crate::service::{Passes, Service};
-use ba_cache::Found;
 use ba_comply::laws::answer_everywhere;
 use ba_comply::{Trace, TraceEntry};
-use ba_direct::cover;
 use ba_eval::answer_indexed;
 use ba_kernel::Proved;
 use ba_kernel::laws::answers_are_records;
 use ba_model::{Context, Duplicate, Failure, List, Policy, Query, Row, Shared};
+use ba_settle::Settle;
 use ba_sql_query::{ReadQueryFault, read_query};
 use ba_tables::Tables;
-use ba_template::Shape;
 use ba_versions::pin;
 use std::alloc::{AllocError, Global};
 use std::sync::Wait;
@@ -45,14 +41,6 @@ pub struct Request {
     pub tables: Shared<Tables>,
     /// The answered questions with their rows, in the order in which they were asked.
     pub trace: Trace,
-}
-
-/// A question that no views cover, and what the look at its shape found.
-#[derive(Drop)]
-struct Looked {
-    query: Shared<Query>,
-    shard: u32,
-    found: Found,
 }
 
 impl Request {
@@ -89,24 +77,24 @@ impl Request {
 
     /// What becomes of a question of the request.
     ///
-    /// A question is answered where single views cover it, or else by the first template that
-    /// matches of those that a look at its shape gives, or else where due steps, at most as many as
-    /// the budget, prove that it is strongly compliant after the request's trace: the template of
-    /// such a proof is admitted for others. Its answer joins the trace. Else it is blocked, with a
-    /// reason that can be checked ([`crate::Why`]). A text that is no query is told by its first
-    /// fault. Want of memory is a reply of its own, and of a proof's template it is told beside the
-    /// answer. Only an answer changes the trace, and nothing changes the rest of the request. It
-    /// waits for its turns on the shelf of the question's shard, for at most a look and an admit.
+    /// The text's query is judged, on the same grounds as by [`Request::judge`]. Where they allow it,
+    /// it is answered, and its answer joins the trace; the template of a proof is admitted for others
+    /// once the answer is made. Else it is blocked, with a reason that can be checked
+    /// ([`crate::Why`]). A text that is no query is told by its first fault. Want of memory is a
+    /// reply of its own, and of a proof's template it is told beside the answer. Only an answer
+    /// changes the trace, and nothing changes the rest of the request. It waits for its turns on the
+    /// shelf of the question's shard, for at most a look and an admit.
     ///
     /// The policy and its schema are checked ones, and the budget is at most
     /// [`ba_model::MAX_BUDGET`] steps. The request stands as `begin` and `ask` leave it, for a
     /// service of the same policy.
-    pub fn ask<R: Wait>(
+    pub fn ask<R: Wait, S: Settle>(
         &mut self,
         rt: &R,
         alloc: Global,
         service: &Service,
         passes: &mut Passes,
+        settle: &S,
         budget: u32,
         text: &str,
     ) -> Reply
@@ -116,15 +104,16 @@ impl Request {
         requires of { AreOf service.now passes.old }
         requires room { HasRoom 2 passes.old }
         ensures of { AreOf service.now passes.new }
-        ensures replies { (made : ShelfCalls) × Replies service.now.policy self.old budget text.now
-            made result × Makes made passes.old passes.new }
+        ensures replies { (made : ShelfCalls) × Replies service.now.policy self.old
+            (effort_in (S.orders settle.now) budget) text.now made result
+            × Makes made passes.old passes.new }
         ensures request { self.new
             ≡ record self.old { trace = self.old.trace ++ answer_in result } }
         ensures asker { IsRequestOf service.now.policy self.new }
     {
         answers_are_records();
         match read(alloc, &service.policy, text) {
-            Ok(query) => self.reply_to(rt, alloc, service, passes, budget, query),
+            Ok(query) => self.reply_to(rt, alloc, service, passes, settle, budget, query),
             Err(failure) => refusal(failure),
         }
     }
@@ -136,14 +125,15 @@ impl Request {
         self.trace
     }
 
-    /// The reply to the query: its answer where it is covered, else what a look at its shape leads
-    /// to.
-    fn reply_to<R: Wait>(
+    /// The reply to the query: its answer, or a block. The template of a proof is kept only once the
+    /// answer is made.
+    fn reply_to<R: Wait, S: Settle>(
         &mut self,
         rt: &R,
         alloc: Global,
         service: &Service,
         passes: &mut Passes,
+        settle: &S,
         budget: u32,
         query: Shared<Query>,
     ) -> Reply
@@ -153,104 +143,19 @@ impl Request {
         requires of { AreOf service.now passes.old }
         requires room { HasRoom 2 passes.old }
         ensures of { AreOf service.now passes.new }
-        ensures says { (made : ShelfCalls) × Says service.now.policy self.old budget query made
-            result × Makes made passes.old passes.new }
+        ensures says { (made : ShelfCalls) × Says service.now.policy self.old
+            (effort_in (S.orders settle.now) budget) query made result
+            × Makes made passes.old passes.new }
         ensures request { self.new
             ≡ record self.old { trace = self.old.trace ++ answer_in result } }
     {
         answer_everywhere();
-        match cover(alloc, &service.policy, &self.context, &query) {
-            Ok(Some(cover)) => self.answer(alloc, query, By::Cover(cover)),
-            Ok(None) => self.look(rt, alloc, service, passes, budget, query),
-            Err(_) => Reply::NoMemory,
-        }
-    }
-
-    /// The reply to the query, which isn't covered: a look at its shape goes before it.
-    fn look<R: Wait>(
-        &mut self,
-        rt: &R,
-        alloc: Global,
-        service: &Service,
-        passes: &mut Passes,
-        budget: u32,
-        query: Shared<Query>,
-    ) -> Reply
-        requires fits { QuestionFits service.now.policy self.old.context self.old.trace query }
-        requires asker { IsRequestOf service.now.policy self.old }
-        requires limit { budget ≤ most_budget }
-        requires uncovered { Uncovered service.now.policy self.old query }
-        requires of { AreOf service.now passes.old }
-        requires room { HasRoom 2 passes.old }
-        ensures of { AreOf service.now passes.new }
-        ensures says { (made : ShelfCalls) × Says service.now.policy self.old budget query made
-            result × Makes made passes.old passes.new }
-        ensures request { self.new
-            ≡ record self.old { trace = self.old.trace ++ answer_in result } }
-    {
-        let Ok(shape) = Shape::of(alloc, &[], &query) else {
-            return Reply::NoMemory;
-        };
-        match service.cache.look(rt, &mut passes.cache, &shape) {
-            Ok(found) => {
-                let shard = shape.shard();
-                let looked = Looked {
-                    query,
-                    shard,
-                    found,
-                };
-                self.decide(rt, alloc, service, passes, budget, looked)
-            }
-            Err(_) => Reply::NoMemory,
-        }
-    }
-
-    /// The reply to the query after the look: its answer by the first template that matches, or
-    /// else by a proof, or a block.
-    fn decide<R: Wait>(
-        &mut self,
-        rt: &R,
-        alloc: Global,
-        service: &Service,
-        passes: &mut Passes,
-        budget: u32,
-        looked: Looked,
-    ) -> Reply
-        requires fits { QuestionFits service.now.policy self.old.context self.old.trace
-            looked.query }
-        requires asker { IsRequestOf service.now.policy self.old }
-        requires limit { budget ≤ most_budget }
-        requires shard { looked.shard ≡ shard_of (shape_of [] looked.query) }
-        requires sound { All IsSound looked.found.templates }
-        requires of { AreOf service.now passes.old }
-        requires room { HasRoom 1 passes.old }
-        ensures of { AreOf service.now passes.new }
-        ensures decides { (calls : List ShelfCall) × Decides service.now.policy self.old budget
-            looked.query looked.found.templates calls result
-            × Makes (on_shelf looked.query calls) passes.old passes.new }
-        ensures request { self.new
-            ≡ record self.old { trace = self.old.trace ++ answer_in result } }
-    {
-        answer_everywhere();
-        let Looked {
-            query,
-            shard,
-            found,
-        } = looked;
-        match self.judge(
-            alloc,
-            &service.policy,
-            budget,
-            found.templates.as_slice(),
-            &query,
-        ) {
-            Ok(Judgement::Serve(id, found)) => {
-                self.answer(alloc, query, By::Template { shard, id, found })
-            }
-            Ok(Judgement::Prove(proved)) => {
+        match self.weigh(rt, alloc, service, passes, settle, budget, &query) {
+            Ok(Verdict::Ground(by)) => self.answer(alloc, query, by),
+            Ok(Verdict::Prove(proved)) => {
                 self.answer_by_proof(rt, alloc, service, passes, query, proved)
             }
-            Ok(Judgement::Deny(why)) => Reply::Blocked { query, why },
+            Ok(Verdict::Deny(why)) => Reply::Blocked { query, why },
             Err(_) => Reply::NoMemory,
         }
     }
@@ -277,8 +182,7 @@ impl Request {
     {
         match self.record(alloc, &query) {
             Ok(rows) => {
-                let keeping = keep(rt, alloc, service, passes, &proved);
-                let by = By::Proof(proved.into_steps(), keeping);
+                let by = prove(rt, alloc, service, passes, proved);
                 Reply::Answer { query, rows, by }
             }
             Err(_) => Reply::NoMemory,

@@ -3,8 +3,9 @@ use Rattle.std.proofs.Common.{◌≡◌, ◌∙◌, inl, ap, subst, ℕ, length,
 use Rattle.ba_outside.specs.Seen.{SinkSeen}
 use Rattle.ba_proof.specs.declared.checking.CheckFault.{CheckFault}
 use Rattle.ba_proof.specs.declared.proof.Proof.{Proof}
-use Rattle.ba_top.specs.Checking.{EndsCheck, EndsLine, IsFinding, detail_found, line_found}
-use Rattle.ba_top.specs.declared.report.Detail.{Detail}
+use Rattle.ba_input.specs.declared.detail.Detail.{Detail}
+use Rattle.ba_top.specs.Checking.{EndsCheck, IsFinding, detail_found, line_found}
+use Rattle.ba_top.specs.Ends.{EndsLine}
 use Rattle.ba_wire.specs.Verdicts.{verdict_bytes}
 use Rattle.ba_wire.specs.declared.verdict.Verdict.{Verdict}
 

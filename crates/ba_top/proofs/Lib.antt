@@ -1,6 +1,5 @@
 pub mod SummaryLemmas
 pub mod PrintLemmas
-pub mod InputLemmas
+pub mod LineLemmas
 pub mod CheckLemmas
-pub mod WorkloadLemmas
 pub mod Runs

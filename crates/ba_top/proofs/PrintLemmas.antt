@@ -1,39 +1,69 @@
 -- The lines of a run, one by one.
-use Rattle.std.proofs.Common.{◌≡◌, sym, subst, ℕ, ◌+◌, ◌≤◌, List, [], ◌∷◌, ◌++◌, length, drop, Some, slice_get, ap₂, Result, Err}
-use Rattle.std.proofs.lemmas.List.{drop_all}
+use Rattle.std.proofs.Common.{◌≡◌, ◌∙◌, sym, subst, ap, ap₂, ℕ, ◌+◌, ◌≤◌, List, [], ◌∷◌, ◌++◌, length, drop, take, Some, slice_get, append_assoc, Result, Err, arith}
+use Rattle.std.proofs.lemmas.List.{drop_all, length-take-le}
+use Rattle.std.proofs.lemmas.Option.{slice_get_within}
+use Rattle.std.specs.Prelude.{option_map, unwrap_or}
+use Rattle.ba_input.specs.declared.input.Input.{Input}
+use Rattle.ba_input.specs.declared.task.Told.{Told}
+use Rattle.ba_input.specs.declared.task.Told.TheVariants.{Lines}
+use Rattle.ba_lanes.specs.declared.journal.Entry.{Entry}
 use Rattle.ba_outside.specs.Seen.{SinkSeen}
 use Rattle.ba_outside.specs.declared.sink.WriteFail.{WriteFail}
 use Rattle.ba_plan.proofs.SendingLines.{lines_err, lines_then}
 use Rattle.ba_plan.specs.Sent.{SentLines, WroteLines}
 use Rattle.ba_script.specs.declared.entry.ScriptEntry.{ScriptEntry}
 use Rattle.ba_tables.proofs.FieldLemmas.{drop_element}
-use Rattle.ba_top.specs.Text.{entry_bytes, lines_from}
-use Rattle.ba_lanes.specs.declared.journal.Entry.{Entry}
+use Rattle.ba_tables.proofs.IndexLemmas.{take_one}
+use Rattle.ba_wire.specs.Printed.{line_bytes}
+use Rattle.ba_top.specs.Text.{entry_bytes, entry_line, name_at, name_in, told_after, told_of}
 
--- a line of the script and its entry, and then those behind them
-lines_step : (its : List ScriptEntry) (line : ℕ) (entries : List Entry) (i : ℕ) (it : ScriptEntry) (entry : Entry) → slice_get its i ≡ Some it → slice_get entries i ≡ Some entry
-    → lines_from (drop i its) line (drop i entries) ≡ entry_bytes it line entry ∷ lines_from (drop (i + 1) its) (line + 1) (drop (i + 1) entries)
-lines_step its line entries i it entry said is =
-    ap₂ (λ y z. lines_from y line z) (drop_element its i it said) (drop_element entries i entry is)
+-- the line of an entry was sent, for the script's line at its place
+pub told_one : {X : Type 0} (told : Told) (input : Input) (earlier : List Entry) (entry : Entry) (line : ℕ) (it : ScriptEntry) (bytes : List ℕ) (s t : SinkSeen) (r : Result X WriteFail) → told ≡ Lines → slice_get input.script.entries (length earlier) ≡ Some it → line ≡ length earlier + 1
+    → bytes ≡ line_bytes (entry_line (name_in it) line entry) → SentLines (bytes ∷ []) s t r → SentLines (told_of told input earlier entry) s t r
+unfolding entry_bytes
+told_one told input earlier entry line it bytes s t r lines said is same sent =
+    let at : name_at input.script (length earlier) ≡ name_in it = ap (λ z. unwrap_or (option_map name_in z) []) said in
+    let whole : bytes ≡ entry_bytes input earlier entry = same ∙ ap₂ (λ y z. line_bytes (entry_line y z entry)) (sym at) is in
+    subst (λ z. SentLines (told_of z input earlier entry) s t r) (sym lines) (subst (λ z. SentLines (z ∷ []) s t r) whole sent)
 
--- the next line was written, and the rest became of this
-pub line_then : {X : Type 0} (its : List ScriptEntry) (line : ℕ) (entries : List Entry) (i : ℕ) (it : ScriptEntry) (entry : Entry) (bytes tail : List ℕ) (s m t : SinkSeen) (r : Result X WriteFail) → slice_get its i ≡ Some it → slice_get entries i ≡ Some entry → bytes ≡ entry_bytes it line entry
-    → WroteLines (bytes ∷ []) s m → SentLines (lines_from (drop (i + 1) its) (line + 1) (drop (i + 1) entries) ++ tail ∷ []) m t r → SentLines (lines_from (drop i its) line (drop i entries) ++ tail ∷ []) s t r
-line_then its line entries i it entry bytes tail s m t r said is same wrote rest =
-    subst (λ z. SentLines (z ++ tail ∷ []) s t r) (sym (lines_step its line entries i it entry said is))
-    (lines_then s m t (entry_bytes it line entry ∷ []) (lines_from (drop (i + 1) its) (line + 1) (drop (i + 1) entries) ++ tail ∷ []) r
-    (subst (λ z. WroteLines (z ∷ []) s m) same wrote) rest)
+-- what is told of the next entry, and then of those behind it
+told_step : (told : Told) (input : Input) (entries : List Entry) (i : ℕ) (entry : Entry) → slice_get entries i ≡ Some entry
+    → told_after told input (take i entries) (drop i entries) ≡ told_of told input (take i entries) entry ++ told_after told input (take (i + 1) entries) (drop (i + 1) entries)
+told_step told input entries i entry is =
+    ap (told_after told input (take i entries)) (drop_element entries i entry is)
+    ∙ ap (λ z. told_of told input (take i entries) entry ++ told_after told input z (drop (i + 1) entries)) (sym (take_one entries i entry is))
 
--- the next line wasn't written
-pub line_err : (X Y : Type 0) (its : List ScriptEntry) (line : ℕ) (entries : List Entry) (i : ℕ) (it : ScriptEntry) (entry : Entry) (bytes tail : List ℕ) (s t : SinkSeen) (e : WriteFail) → slice_get its i ≡ Some it → slice_get entries i ≡ Some entry → bytes ≡ entry_bytes it line entry
-    → SentLines {X = X} (bytes ∷ []) s t (Err e) → SentLines {X = Y} (lines_from (drop i its) line (drop i entries) ++ tail ∷ []) s t (Err e)
-line_err X Y its line entries i it entry bytes tail s t e said is same sent =
-    subst (λ z. SentLines {X = Y} (z ++ tail ∷ []) s t (Err e)) (sym (lines_step its line entries i it entry said is))
-    (lines_err X Y s t (entry_bytes it line entry ∷ []) (lines_from (drop (i + 1) its) (line + 1) (drop (i + 1) entries) ++ tail ∷ []) e
-    (subst (λ z. SentLines {X = X} (z ∷ []) s t (Err e)) same sent))
+-- so many entries are taken
+taken : (entries : List Entry) (i : ℕ) (entry : Entry) → slice_get entries i ≡ Some entry → length (take i entries) ≡ i
+taken entries i entry is = let below = slice_get_within entries i entry is in length-take-le i entries (omega arith)
 
--- no line but the last is left
-pub line_last : {X : Type 0} (its : List ScriptEntry) (line : ℕ) (entries : List Entry) (i : ℕ) (bytes tail : List ℕ) (s t : SinkSeen) (r : Result X WriteFail) → length its ≤ i → bytes ≡ tail
-    → SentLines (bytes ∷ []) s t r → SentLines (lines_from (drop i its) line (drop i entries) ++ tail ∷ []) s t r
-line_last its line entries i bytes tail s t r past same sent =
-    subst (λ z. SentLines (lines_from z line (drop i entries) ++ tail ∷ []) s t r) (sym (drop_all i its past)) (subst (λ z. SentLines (z ∷ []) s t r) same sent)
+-- the script's line at the place of the next entry, and its number
+pub said_at : {X : Type 0} (its : List X) (it : X) (entries : List Entry) (i : ℕ) (entry : Entry) → slice_get entries i ≡ Some entry → slice_get its i ≡ Some it → slice_get its (length (take i entries)) ≡ Some it
+said_at its it entries i entry is said = ap (slice_get its) (taken entries i entry is) ∙ said
+
+pub line_at : (entries : List Entry) (i : ℕ) (entry : Entry) → slice_get entries i ≡ Some entry → i + 1 ≡ length (take i entries) + 1
+line_at entries i entry is = ap (λ z. z + 1) (sym (taken entries i entry is))
+
+-- it was told of the next entry, and the rest became of this
+pub told_then : {X : Type 0} (told : Told) (input : Input) (entries : List Entry) (i : ℕ) (entry : Entry) (tail : List ℕ) (s m t : SinkSeen) (r : Result X WriteFail) → slice_get entries i ≡ Some entry
+    → WroteLines (told_of told input (take i entries) entry) s m → SentLines (told_after told input (take (i + 1) entries) (drop (i + 1) entries) ++ tail ∷ []) m t r → SentLines (told_after told input (take i entries) (drop i entries) ++ tail ∷ []) s t r
+told_then told input entries i entry tail s m t r is wrote rest =
+    let one = told_of told input (take i entries) entry in
+    let more = told_after told input (take (i + 1) entries) (drop (i + 1) entries) in
+    subst (λ z. SentLines z s t r) (sym (ap (λ z. z ++ tail ∷ []) (told_step told input entries i entry is) ∙ append_assoc one more (tail ∷ [])))
+    (lines_then s m t one (more ++ tail ∷ []) r wrote rest)
+
+-- it couldn't be told of the next entry
+pub told_err : (X Y : Type 0) (told : Told) (input : Input) (entries : List Entry) (i : ℕ) (entry : Entry) (tail : List ℕ) (s t : SinkSeen) (e : WriteFail) → slice_get entries i ≡ Some entry
+    → SentLines {X = X} (told_of told input (take i entries) entry) s t (Err e) → SentLines {X = Y} (told_after told input (take i entries) (drop i entries) ++ tail ∷ []) s t (Err e)
+told_err X Y told input entries i entry tail s t e is sent =
+    let one = told_of told input (take i entries) entry in
+    let more = told_after told input (take (i + 1) entries) (drop (i + 1) entries) in
+    subst (λ z. SentLines {X = Y} z s t (Err e)) (sym (ap (λ z. z ++ tail ∷ []) (told_step told input entries i entry is) ∙ append_assoc one more (tail ∷ [])))
+    (lines_err X Y s t one (more ++ tail ∷ []) e sent)
+
+-- no entry is left
+pub told_last : {X : Type 0} (told : Told) (input : Input) (entries : List Entry) (i : ℕ) (tail : List ℕ) (s t : SinkSeen) (r : Result X WriteFail) → length entries ≤ i
+    → SentLines (tail ∷ []) s t r → SentLines (told_after told input (take i entries) (drop i entries) ++ tail ∷ []) s t r
+told_last told input entries i tail s t r past sent =
+    subst (λ z. SentLines (told_after told input (take i entries) z ++ tail ∷ []) s t r) (sym (drop_all i entries past)) sent

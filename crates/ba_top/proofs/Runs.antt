@@ -1,5 +1,17 @@
 -- What follows from how a command went.
-use Rattle.std.proofs.Common.{◌≡◌, ◌⊎◌, ◌∙◌, inl, inr, refl, sym, ap, subst, ℕ, List, length, Option, Some, None, Result, Ok, Err, IfSome}
+use Rattle.std.proofs.Common.{◌≡◌, ◌⊎◌, ◌∙◌, inl, inr, refl, sym, ap, subst, ℕ, List, [], ◌∷◌, Bool, true, false, cond, length, Option, Some, None, Result, Ok, Err, IfSome}
+use Rattle.ba_input.proofs.RefusalLemmas.{refused_is}
+use Rattle.ba_input.specs.Causes.{IsLimit}
+use Rattle.ba_input.specs.Reading.{plan_of}
+use Rattle.ba_input.specs.Stops.{fault_of}
+use Rattle.ba_input.specs.declared.detail.Detail.{Detail}
+use Rattle.ba_input.specs.declared.detail.Detail.TheVariants.{Done, NotAccepted, Fault as Faulted, Write, Memory}
+use Rattle.ba_input.specs.declared.input.Input.{Input}
+use Rattle.ba_input.specs.declared.task.Task.{Task}
+use Rattle.ba_input.specs.declared.task.Task.TheVariants as task
+use Rattle.ba_input.specs.declared.task.Told.{Told}
+use Rattle.ba_lanes.specs.Legal.{lacks_memory}
+use Rattle.ba_lanes.specs.declared.journal.Journal.{Journal}
 use Rattle.ba_model.specs.declared.limits.Counted.{Counted}
 use Rattle.ba_model.specs.declared.limits.Counted.TheVariants.{FileBytes}
 use Rattle.ba_outside.specs.Causes.{Rose}
@@ -13,53 +25,43 @@ use Rattle.ba_plan.specs.declared.stop.Stop.{Stop}
 use Rattle.ba_plan.specs.declared.stop.Stop.TheVariants.{Refused, Read as Unreadable, TooLong, NoMemory}
 use Rattle.ba_proof.specs.declared.checking.CheckFault.{CheckFault}
 use Rattle.ba_proof.specs.declared.proof.Proof.{Proof}
-use Rattle.ba_top.specs.Causes.{ComesTo, IsLimit, Tells, stopped}
-use Rattle.ba_top.specs.Checking.{EndsCheck, EndsLine, IsAccepted, IsFinding, IsVerdict, detail_found, line_found}
-use Rattle.ba_top.specs.Ran.{Accepts, EndsFault, EndsPrint, EndsRun, EndsStop, Ran, RanTask, Rejects, Served, detail_of}
-use Rattle.ba_top.specs.Reading.{plan_of}
-use Rattle.ba_top.specs.declared.report.Detail.{Detail}
-use Rattle.ba_top.specs.declared.report.Detail.TheVariants.{Done, NotAccepted, Words, Input as BadInput, Read, Write, Memory, Limit}
-use Rattle.ba_lanes.specs.declared.journal.Input.{Input}
-use Rattle.ba_lanes.specs.declared.journal.Journal.{Journal}
-use Rattle.ba_top.specs.declared.report.Refusal.{Refusal}
-use Rattle.ba_top.specs.declared.report.Refusal.TheVariants as refusal
-use Rattle.ba_top.specs.declared.report.Task.{Task}
-use Rattle.ba_top.specs.declared.report.Task.TheVariants as task
-use Rattle.ba_top.specs.declared.report.Told.{Told}
+use Rattle.ba_top.specs.Causes.{ComesTo, Tells, faulted}
+use Rattle.ba_top.specs.Checking.{EndsCheck, IsAccepted, IsFinding, IsVerdict, detail_found, line_found}
+use Rattle.ba_top.specs.Ends.{EndsLine, EndsLines}
+use Rattle.ba_top.specs.Ran.{Accepts, EndsEarly, EndsRun, Ran, RanTask, Rejects, Served}
+use Rattle.ba_top.specs.Text.{lines_of, told_lines}
+use Rattle.ba_wire.specs.Printed.{fault_bytes}
 use Rattle.ba_wire.specs.Verdicts.{verdict_bytes}
 use Rattle.ba_wire.specs.declared.fault.Fault.{Fault}
 use Rattle.ba_wire.specs.declared.fault.Fault.TheVariants as fault
 
--- ---- faults and their details
+-- ---- how lines end
 
--- the detail that a fault's line ends with is the fault's, or of the writing
-ends_as : (f : Fault) (s t : SinkSeen) (detail : Detail) → EndsFault f s t detail → (detail ≡ detail_of f) ⊎ ((detail ≡ Write) × Rose s.faults t.faults) ⊎ (detail ≡ Memory)
-ends_as f s t detail (inl (is, wrote)) = inl is
-ends_as f s t detail (inr (inl (is, sent))) = inr (inl (is, sent.1))
-ends_as f s t detail (inr (inr (is, sent))) = inr (inr is)
+-- as a whole, or as the writing went
+abbrev Ending : (Detail → Type 0) → SinkSeen → SinkSeen → Detail → Type 0
+Ending IsWhole s t detail = IsWhole detail ⊎ ((detail ≡ Write) × Rose s.faults t.faults) ⊎ (detail ≡ Memory)
 
--- a stopped reading ends with its own detail, or that of the writing
-stops_as : (stop : Stop Refusal) (s t : SinkSeen) (detail : Detail) → EndsStop stop s t detail → (detail ≡ stopped stop) ⊎ ((detail ≡ Write) × Rose s.faults t.faults) ⊎ (detail ≡ Memory)
-stops_as (Refused refusal.Words) s t detail ends = ends_as fault.Words s t detail ends
-stops_as (Refused (refusal.Input file reason)) s t detail ends = ends_as (fault.Input file reason) s t detail ends
-stops_as (Refused (refusal.Limit what limit)) s t detail ends = ends_as (fault.Limit what limit) s t detail ends
-stops_as (Unreadable file) s t detail ends = ends_as (fault.Read file) s t detail ends
-stops_as (TooLong file limit) s t detail ends = ends_as (fault.Limit FileBytes limit) s t detail ends
-stops_as NoMemory s t detail ends = inl ends.0
+ends_as : (lines : List (List ℕ)) (whole : Detail) (s t : SinkSeen) (detail : Detail) → EndsLines lines whole s t detail → Ending (λ z. z ≡ whole) s t detail
+ends_as lines whole s t detail (inl (is, wrote)) = inl is
+ends_as lines whole s t detail (inr (inl (is, sent))) = inr (inl (is, sent.1))
+ends_as lines whole s t detail (inr (inr (is, sent))) = inr (inr is)
+
+-- a fault that is told, or want of memory
+early_as : (it : Option Fault) (s t : SinkSeen) (detail : Detail) → EndsEarly it s t detail → Ending (λ z. z ≡ faulted it) s t detail
+early_as (Some it) s t detail ends = ends_as (fault_bytes it ∷ []) (Faulted it) s t detail ends
+early_as None s t detail ends = inl ends.0
 
 -- a run's text ends with done, a write fault or want of memory
-runs_as : (input : Input) (told : Told) (journal : Journal) (s t : SinkSeen) (detail : Detail) → EndsRun input told journal s t detail → (detail ≡ Done) ⊎ ((detail ≡ Write) × Rose s.faults t.faults) ⊎ (detail ≡ Memory)
-runs_as input told journal s t Done ends = inl refl
-runs_as input told journal s t Write ends = inr (inl (refl, ends.1))
-runs_as input told journal s t Memory ends = inr (inr refl)
-runs_as input told journal s t (NotAccepted why) ends = absurd ends
-runs_as input told journal s t Words ends = absurd ends
-runs_as input told journal s t (BadInput file reason) ends = absurd ends
-runs_as input told journal s t (Read file) ends = absurd ends
-runs_as input told journal s t (Limit what limit) ends = absurd ends
+runs_as : (input : Input) (told : Told) (journal : Journal) (s t : SinkSeen) (detail : Detail) → EndsRun input told journal s t detail → Ending (λ z. z ≡ Done) s t detail
+runs_as input told journal s t detail ends = by (lacks_memory journal) (ends_as (told_lines told input journal) (cond (lacks_memory journal) Memory Done) s t detail ends)
+  where
+    by : (b : Bool) → Ending (λ z. z ≡ cond b Memory Done) s t detail → Ending (λ z. z ≡ Done) s t detail
+    by true (inl is) = inr (inr is)
+    by false (inl is) = inl is
+    by b (inr other) = inr other
 
 -- a finding that is told ends with its own detail, or that of the writing
-told_as : (proof : Proof) (s t : SinkSeen) (detail : Detail) (found : Option CheckFault) → IsFinding proof found → EndsLine (verdict_bytes (line_found (length proof.steps) found)) (detail_found found) s t detail → IsVerdict proof detail ⊎ ((detail ≡ Write) × Rose s.faults t.faults) ⊎ (detail ≡ Memory)
+told_as : (proof : Proof) (s t : SinkSeen) (detail : Detail) (found : Option CheckFault) → IsFinding proof found → EndsLine (verdict_bytes (line_found (length proof.steps) found)) (detail_found found) s t detail → Ending (IsVerdict proof) s t detail
 told_as proof s t detail None accepted (inl (is, wrote)) = inl (subst (IsVerdict proof) (sym is) accepted)
 told_as proof s t detail None accepted (inr (inl (is, sent))) = inr (inl (is, sent.1))
 told_as proof s t detail None accepted (inr (inr (is, sent))) = inr (inr is)
@@ -68,15 +70,9 @@ told_as proof s t detail (Some why) rejected (inr (inl (is, sent))) = inr (inl (
 told_as proof s t detail (Some why) rejected (inr (inr (is, sent))) = inr (inr is)
 
 -- a check ends with what the proof comes to, or that of the writing, or for want of memory
-checks_as : (proof : Proof) (s t : SinkSeen) (detail : Detail) → EndsCheck proof s t detail → IsVerdict proof detail ⊎ ((detail ≡ Write) × Rose s.faults t.faults) ⊎ (detail ≡ Memory)
+checks_as : (proof : Proof) (s t : SinkSeen) (detail : Detail) → EndsCheck proof s t detail → Ending (IsVerdict proof) s t detail
 checks_as proof s t detail (inl told) = told_as proof s t detail told.found told.is told.ends
 checks_as proof s t detail (inr (is, same)) = inr (inr is)
-
--- a printed script ends with done, a write fault or want of memory
-prints_as : (text : List ℕ) (s t : SinkSeen) (detail : Detail) → EndsPrint text s t detail → (detail ≡ Done) ⊎ ((detail ≡ Write) × Rose s.faults t.faults) ⊎ (detail ≡ Memory)
-prints_as text s t detail (inl (is, wrote)) = inl is
-prints_as text s t detail (inr (inl (is, sent))) = inr (inl (is, sent.1))
-prints_as text s t detail (inr (inr (is, sent))) = inr (inr is)
 
 -- what was read, and then what was done with it
 pub ran_task : (words : List (List ℕ)) (f g : FilesSeen) (s t : SinkSeen) (detail : Detail) (journal : Option Journal) (it : Task) → Follows (plan_of words) f g (Ok it) → RanTask it s t detail journal → Ran words f g s t detail journal
@@ -97,58 +93,62 @@ ran_task words f g s t detail None (task.Check proof) follows ends = inr (inr (i
 -- How a command ended: by what the reading came to, or by the writing, or for want of memory.
 Ended : List (List ℕ) → FilesSeen → FilesSeen → SinkSeen → SinkSeen → Detail → Type 0
 Ended words f g s t detail =
-    ((reading : Result Task (Stop Refusal)) × Follows (plan_of words) f g reading × (ComesTo reading detail ⊎ ((detail ≡ Write) × Rose s.faults t.faults) ⊎ (detail ≡ Memory)))
+    ((reading : Result Task (Stop Fault)) × Follows (plan_of words) f g reading × Ending (ComesTo reading) s t detail)
 
 ended : (words : List (List ℕ)) (f g : FilesSeen) (s t : SinkSeen) (detail : Detail) (journal : Option Journal) → Ran words f g s t detail journal → Ended words f g s t detail
 unfolding Ended
 ended words f g s t detail (Some journal) it = (Ok (task.Run it.input it.told), it.read, runs_as it.input it.told journal s t detail it.written)
-ended words f g s t detail None (inl (stop, follows, ends)) = (Err stop, follows, stops_as stop s t detail ends)
+ended words f g s t detail None (inl (stop, follows, ends)) = (Err stop, follows, early_as (fault_of stop) s t detail ends)
 ended words f g s t detail None (inr (inl (input, told, follows, is, same))) = (Ok (task.Run input told), follows, inr (inr is))
 ended words f g s t detail None (inr (inr (inl it))) = (Ok (task.Check it.proof), it.read, checks_as it.proof s t detail it.ends)
-ended words f g s t detail None (inr (inr (inr it))) = (Ok (task.Print it.text), it.read, prints_as it.text s t detail it.ends)
+ended words f g s t detail None (inr (inr (inr it))) = (Ok (task.Print it.text), it.read, ends_as (lines_of it.text) Done s t detail it.ends)
 
 -- ---- read faults and long files
 
-unreadable : (reading : Result Task (Stop Refusal)) (file : List ℕ) → ComesTo reading (Read file) → reading ≡ Err (Unreadable file)
+-- a reading that comes to a file that couldn't be read
+abbrev ComesToRead : Result Task (Stop Fault) → List ℕ → Type 0
+ComesToRead reading file = (reading ≡ Err (Unreadable file)) ⊎ (reading ≡ Err (Refused (fault.Read file)))
+
+unreadable : (reading : Result Task (Stop Fault)) (file : List ℕ) → ComesTo reading (Faulted (fault.Read file)) → ComesToRead reading file
 unreadable (Ok (task.Run input told)) file e = absurd (cc)
 unreadable (Ok (task.Print text)) file e = absurd (cc)
 unreadable (Ok (task.Check proof)) file e = absurd e
-unreadable (Err (Refused refusal.Words)) file e = absurd (cc)
-unreadable (Err (Refused (refusal.Input f reason))) file e = absurd (cc)
-unreadable (Err (Refused (refusal.Limit what limit))) file e = absurd (cc)
-unreadable (Err (Unreadable f)) file e = let h : f ≡ file = cc in ap (λ z. Err (Unreadable z)) h
+unreadable (Err (Refused it)) file e = let h : it ≡ fault.Read file = cc in inr (ap (λ z. Err (Refused z)) h)
+unreadable (Err (Unreadable f)) file e = let h : f ≡ file = cc in inl (ap (λ z. Err (Unreadable z)) h)
 unreadable (Err (TooLong f n)) file e = absurd (cc)
 unreadable (Err NoMemory) file e = absurd (cc)
 
 -- a reading that comes to a limit
-abbrev ComesToLimit : Result Task (Stop Refusal) → Counted → ℕ → Type 0
-ComesToLimit reading what limit = (reading ≡ Err (Refused (refusal.Limit what limit))) ⊎ ((what ≡ FileBytes) × ((file : List ℕ) × (reading ≡ Err (TooLong file limit))))
+abbrev ComesToLimit : Result Task (Stop Fault) → Counted → ℕ → Type 0
+ComesToLimit reading what limit = (reading ≡ Err (Refused (fault.Limit what limit))) ⊎ ((what ≡ FileBytes) × ((file : List ℕ) × (reading ≡ Err (TooLong file limit))))
 
-limit_of : (reading : Result Task (Stop Refusal)) (what : Counted) (limit : ℕ) → ComesTo reading (Limit what limit) → ComesToLimit reading what limit
+limit_of : (reading : Result Task (Stop Fault)) (what : Counted) (limit : ℕ) → ComesTo reading (Faulted (fault.Limit what limit)) → ComesToLimit reading what limit
 limit_of (Ok (task.Run input told)) what limit e = absurd (cc)
 limit_of (Ok (task.Print text)) what limit e = absurd (cc)
 limit_of (Ok (task.Check proof)) what limit e = absurd e
-limit_of (Err (Refused refusal.Words)) what limit e = absurd (cc)
-limit_of (Err (Refused (refusal.Input f reason))) what limit e = absurd (cc)
-limit_of (Err (Refused (refusal.Limit w n))) what limit e = let h : w ≡ what = cc in let k : n ≡ limit = cc in inl (rw (h, k) refl)
+limit_of (Err (Refused it)) what limit e = let h : it ≡ fault.Limit what limit = cc in inl (ap (λ z. Err (Refused z)) h)
 limit_of (Err (Unreadable f)) what limit e = absurd (cc)
 limit_of (Err (TooLong f n)) what limit e = let w : FileBytes ≡ what = cc in let h : n ≡ limit = cc in inr (sym w, (f, ap (λ z. Err (TooLong f z)) h))
 limit_of (Err NoMemory) what limit e = absurd (cc)
 
-pub ran_read : (words : List (List ℕ)) (f g : FilesSeen) (s t : SinkSeen) (detail : Detail) (journal : Option Journal) → Ran words f g s t detail journal → (file : List ℕ) → detail ≡ Read file → FailedAt file f g
+told_read : (words : List (List ℕ)) (f g : FilesSeen) (reading : Result Task (Stop Fault)) (file : List ℕ) → Follows (plan_of words) f g reading → ComesToRead reading file → FailedAt file f g
+told_read words f g reading file follows (inl is) = read_fault (plan_of words) f g file (subst (λ z. Follows (plan_of words) f g z) is follows)
+told_read words f g reading file follows (inr is) = absurd (refused_is words f g (fault.Read file) (subst (λ z. Follows (plan_of words) f g z) is follows))
+
+pub ran_read : (words : List (List ℕ)) (f g : FilesSeen) (s t : SinkSeen) (detail : Detail) (journal : Option Journal) → Ran words f g s t detail journal → (file : List ℕ) → detail ≡ Faulted (fault.Read file) → FailedAt file f g
 unfolding Ended
 ran_read words f g s t detail journal ran file e = by_end (ended words f g s t detail journal ran)
   where
     by_end : Ended words f g s t detail → FailedAt file f g
-    by_end (reading, follows, inl is) = read_fault (plan_of words) f g file (subst (λ z. Follows (plan_of words) f g z) (unreadable reading file (subst (ComesTo reading) e is)) follows)
+    by_end (reading, follows, inl is) = told_read words f g reading file follows (unreadable reading file (subst (ComesTo reading) e is))
     by_end (reading, follows, inr (inl (is, rose))) = absurd (cc)
     by_end (reading, follows, inr (inr is)) = absurd (cc)
 
-told_limit : (words : List (List ℕ)) (f g : FilesSeen) (reading : Result Task (Stop Refusal)) (what : Counted) (limit : ℕ) → Follows (plan_of words) f g reading → ComesToLimit reading what limit → IsLimit words what limit f g
+told_limit : (words : List (List ℕ)) (f g : FilesSeen) (reading : Result Task (Stop Fault)) (what : Counted) (limit : ℕ) → Follows (plan_of words) f g reading → ComesToLimit reading what limit → IsLimit words what limit f g
 told_limit words f g reading what limit follows (inl is) = inl (subst (λ z. Follows (plan_of words) f g z) is follows)
 told_limit words f g reading what limit follows (inr (bytes, (file, is))) = inr (bytes, (file, long_file (plan_of words) f g file limit (subst (λ z. Follows (plan_of words) f g z) is follows)))
 
-pub ran_limit : (words : List (List ℕ)) (f g : FilesSeen) (s t : SinkSeen) (detail : Detail) (journal : Option Journal) → Ran words f g s t detail journal → (what : Counted) (limit : ℕ) → detail ≡ Limit what limit → IsLimit words what limit f g
+pub ran_limit : (words : List (List ℕ)) (f g : FilesSeen) (s t : SinkSeen) (detail : Detail) (journal : Option Journal) → Ran words f g s t detail journal → (what : Counted) (limit : ℕ) → detail ≡ Faulted (fault.Limit what limit) → IsLimit words what limit f g
 unfolding Ended
 ran_limit words f g s t detail journal ran what limit e = by_end (ended words f g s t detail journal ran)
   where
@@ -157,16 +157,15 @@ ran_limit words f g s t detail journal ran what limit e = by_end (ended words f 
     by_end (reading, follows, inr (inl (is, rose))) = absurd (cc)
     by_end (reading, follows, inr (inr is)) = absurd (cc)
 
-not_write : (reading : Result Task (Stop Refusal)) → ¬ (ComesTo reading Write)
+not_write : (reading : Result Task (Stop Fault)) → ¬ (ComesTo reading Write)
 not_write (Ok (task.Run input told)) e = cc
 not_write (Ok (task.Print text)) e = cc
 not_write (Ok (task.Check proof)) e = e
-not_write (Err (Refused refusal.Words)) e = cc
-not_write (Err (Refused (refusal.Input f reason))) e = cc
-not_write (Err (Refused (refusal.Limit what limit))) e = cc
-not_write (Err (Unreadable f)) e = cc
-not_write (Err (TooLong f n)) e = cc
-not_write (Err NoMemory) e = cc
+not_write (Err stop) e = by (fault_of stop) e
+  where
+    by : (it : Option Fault) → ¬ (Write ≡ faulted it)
+    by (Some it) e = cc
+    by None e = cc
 
 pub ran_write : (words : List (List ℕ)) (f g : FilesSeen) (s t : SinkSeen) (detail : Detail) (journal : Option Journal) → Ran words f g s t detail journal → detail ≡ Write → Rose s.faults t.faults
 unfolding Ended
@@ -179,28 +178,24 @@ ran_write words f g s t detail journal ran e = by_end (ended words f g s t detai
 
 -- ---- proofs
 
-not_done : (stop : Stop Refusal) → ¬ (Done ≡ stopped stop)
-not_done (Refused refusal.Words) e = cc
-not_done (Refused (refusal.Input f reason)) e = cc
-not_done (Refused (refusal.Limit what limit)) e = cc
-not_done (Unreadable f) e = cc
-not_done (TooLong f n) e = cc
-not_done NoMemory e = cc
+not_done : (it : Option Fault) → ¬ (Done ≡ faulted it)
+not_done (Some it) e = cc
+not_done None e = cc
 
 -- a stopped reading doesn't end as done
-never_done : (stop : Stop Refusal) (s t : SinkSeen) (detail : Detail) → detail ≡ Done → (detail ≡ stopped stop) ⊎ ((detail ≡ Write) × Rose s.faults t.faults) ⊎ (detail ≡ Memory) → ⊥
-never_done stop s t detail e (inl is) = not_done stop (sym e ∙ is)
-never_done stop s t detail e (inr (inl (is, rose))) = cc
-never_done stop s t detail e (inr (inr is)) = cc
+never_done : (it : Option Fault) (s t : SinkSeen) (detail : Detail) → detail ≡ Done → Ending (λ z. z ≡ faulted it) s t detail → ⊥
+never_done it s t detail e (inl is) = not_done it (sym e ∙ is)
+never_done it s t detail e (inr (inl (is, rose))) = cc
+never_done it s t detail e (inr (inr is)) = cc
 
-accepted : (proof : Proof) (s t : SinkSeen) (detail : Detail) → detail ≡ Done → IsVerdict proof detail ⊎ ((detail ≡ Write) × Rose s.faults t.faults) ⊎ (detail ≡ Memory) → IsAccepted proof
+accepted : (proof : Proof) (s t : SinkSeen) (detail : Detail) → detail ≡ Done → Ending (IsVerdict proof) s t detail → IsAccepted proof
 accepted proof s t detail e (inl is) = subst (IsVerdict proof) e is
 accepted proof s t detail e (inr (inl (is, rose))) = absurd (cc)
 accepted proof s t detail e (inr (inr is)) = absurd (cc)
 
 pub ran_accepted : (words : List (List ℕ)) (f g : FilesSeen) (s t : SinkSeen) (detail : Detail) (journal : Option Journal) → Ran words f g s t detail journal → Accepts words f g detail journal
 ran_accepted words f g s t detail (Some journal) it = tt
-ran_accepted words f g s t detail None (inl (stop, follows, ends)) = λ e. absurd (never_done stop s t detail e (stops_as stop s t detail ends))
+ran_accepted words f g s t detail None (inl (stop, follows, ends)) = λ e. absurd (never_done (fault_of stop) s t detail e (early_as (fault_of stop) s t detail ends))
 ran_accepted words f g s t detail None (inr (inl (input, told, follows, is, same))) = λ e. absurd (cc)
 ran_accepted words f g s t detail None (inr (inr (inl it))) = λ e. inl (record {
   proof = it.proof;
@@ -210,16 +205,15 @@ ran_accepted words f g s t detail None (inr (inr (inl it))) = λ e. inl (record 
 ran_accepted words f g s t detail None (inr (inr (inr it))) = λ e. inr (it.text, it.read)
 
 -- a reading that ends so is of a proof that has the fault
-rejects : (words : List (List ℕ)) (f g : FilesSeen) (reading : Result Task (Stop Refusal)) (why : CheckFault) → Follows (plan_of words) f g reading → ComesTo reading (NotAccepted why) → Rejects words f g why
+rejects : (words : List (List ℕ)) (f g : FilesSeen) (reading : Result Task (Stop Fault)) (why : CheckFault) → Follows (plan_of words) f g reading → ComesTo reading (NotAccepted why) → Rejects words f g why
 rejects words f g (Ok (task.Run input told)) why follows e = absurd (cc)
 rejects words f g (Ok (task.Print text)) why follows e = absurd (cc)
 rejects words f g (Ok (task.Check proof)) why follows is = record { proof = proof; read = follows; holds = is }
-rejects words f g (Err (Refused refusal.Words)) why follows e = absurd (cc)
-rejects words f g (Err (Refused (refusal.Input file reason))) why follows e = absurd (cc)
-rejects words f g (Err (Refused (refusal.Limit what limit))) why follows e = absurd (cc)
-rejects words f g (Err (Unreadable file)) why follows e = absurd (cc)
-rejects words f g (Err (TooLong file n)) why follows e = absurd (cc)
-rejects words f g (Err NoMemory) why follows e = absurd (cc)
+rejects words f g (Err stop) why follows e = absurd (by (fault_of stop) e)
+  where
+    by : (it : Option Fault) → ¬ (NotAccepted why ≡ faulted it)
+    by (Some it) e = cc
+    by None e = cc
 
 pub ran_rejected : (words : List (List ℕ)) (f g : FilesSeen) (s t : SinkSeen) (detail : Detail) (journal : Option Journal) → Ran words f g s t detail journal → (why : CheckFault) → detail ≡ NotAccepted why → Rejects words f g why
 unfolding Ended
@@ -245,18 +239,18 @@ if_told None P h = tt
 if_told (Some contents) P h = h contents refl
 
 -- what the files come to is told
-tells : (whole : Result Task (Stop Refusal)) (detail : Detail) → ComesTo whole detail → Tells detail whole
+tells : (whole : Result Task (Stop Fault)) (detail : Detail) → ComesTo whole detail → Tells detail whole
 tells whole Done is = is
 tells whole (NotAccepted why) is = is
-tells whole Words is = is
-tells whole (BadInput file reason) is = is
-tells whole (Read file) is = tt
+tells whole (Faulted fault.Words) is = is
+tells whole (Faulted (fault.Input file reason)) is = is
+tells whole (Faulted (fault.Read file)) is = tt
+tells whole (Faulted (fault.Limit what limit)) is = is
 tells whole Write is = tt
 tells whole Memory is = tt
-tells whole (Limit what limit) is = is
 
 -- what the reading came to tells of the words and the files
-tells_of : (reading whole : Result Task (Stop Refusal)) (detail : Detail) → Settles reading whole → ComesTo reading detail → Tells detail whole
+tells_of : (reading whole : Result Task (Stop Fault)) (detail : Detail) → Settles reading whole → ComesTo reading detail → Tells detail whole
 tells_of (Ok it) whole detail e is = tells whole detail (subst (λ z. ComesTo z detail) (sym e) is)
 tells_of (Err (Refused r)) whole detail e is = tells whole detail (subst (λ z. ComesTo z detail) (sym e) is)
 tells_of (Err (Unreadable f)) whole detail e is = subst (λ z. Tells z whole) (sym is) tt
@@ -273,7 +267,7 @@ ran_told contents words f g s t detail journal ran told = by_end (ended words f 
     by_end (reading, follows, inr (inr is)) = subst (λ z. Tells z (outcome_of contents (plan_of words))) (sym is) tt
 
 -- without a read fault the command comes to what the files come to, or memory ran out
-whole_of : (words : List (List ℕ)) (f g : FilesSeen) (reading whole : Result Task (Stop Refusal)) (detail : Detail) → Settles reading whole → Follows (plan_of words) f g reading → ¬ Rose f.faults g.faults → ComesTo reading detail → (detail ≡ Memory) ⊎ ComesTo whole detail
+whole_of : (words : List (List ℕ)) (f g : FilesSeen) (reading whole : Result Task (Stop Fault)) (detail : Detail) → Settles reading whole → Follows (plan_of words) f g reading → ¬ Rose f.faults g.faults → ComesTo reading detail → (detail ≡ Memory) ⊎ ComesTo whole detail
 whole_of words f g (Ok it) whole detail e follows calm is = inr (subst (λ z. ComesTo z detail) (sym e) is)
 whole_of words f g (Err (Refused r)) whole detail e follows calm is = inr (subst (λ z. ComesTo z detail) (sym e) is)
 whole_of words f g (Err (Unreadable file)) whole detail e follows calm is = absurd (calm (read_fault (plan_of words) f g file follows).rose)

@@ -1,28 +1,35 @@
 -- What is counted, entry by entry.
-use Rattle.std.proofs.Common.{◌≡◌, ◌∙◌, refl, sym, ap, ℕ, ◌+◌, ◌<◌, Bool, true, false, List, [], ◌∷◌, ◌++◌, length, take, get_or, count_by, sum_by, length-append, add-zero, zero-add, cond, arith}
+use Rattle.std.proofs.Common.{◌≡◌, ◌∙◌, refl, sym, ap, ℕ, ◌+◌, ◌<◌, List, [], ◌∷◌, ◌++◌, length, take, get_or, count_by, sum_by, length-append, zero-add, cond}
+use Rattle.std.proofs.lemmas.Grind.{flat_map-append}
 use Rattle.std.proofs.lemmas.List.Sums.{sum_by-append}
 use Rattle.std.proofs.lemmas.List.{take_more}
+use Rattle.std.specs.List.{flat_map}
 use Rattle.ba_lanes.specs.Legal.{is_memory}
-use Rattle.ba_top.specs.Text.{is_answer, is_begin, is_block, is_unread, more, row_count, summary_of, with_entry}
 use Rattle.ba_lanes.specs.declared.journal.Entry.{Entry}
+use Rattle.ba_session.specs.declared.reply.Reply.{Reply}
+use Rattle.ba_top.specs.Text.{is_answer, is_begin, is_block, is_unread, reply_in, row_count, summary_of}
 
-sum_more : {X : Type 0} (f : X → ℕ) (xs : List X) (x : X) → sum_by f (xs ++ x ∷ []) ≡ sum_by f xs + f x
-sum_more f xs x = sum_by-append f xs (x ∷ []) ∙ ap (λ n. sum_by f xs + n) (zero-add (f x))
+replies : (f : Reply → ℕ) (xs ys : List Entry) → sum_by f (flat_map reply_in (xs ++ ys)) ≡ sum_by f (flat_map reply_in xs) + sum_by f (flat_map reply_in ys)
+replies f xs ys = ap (sum_by f) (flat_map-append reply_in xs ys) ∙ sum_by-append f (flat_map reply_in xs) (flat_map reply_in ys)
 
-one_more : (b : Bool) (n : ℕ) → n + cond b 1 0 ≡ more b n
-one_more true n = refl
-one_more false n = add-zero n
+-- what is counted of entries and of those behind them
+pub summary_both : (xs ys : List Entry) → summary_of (xs ++ ys) ≡ record {
+  answered = (summary_of xs).answered + (summary_of ys).answered;
+  blocked = (summary_of xs).blocked + (summary_of ys).blocked;
+  lines = (summary_of xs).lines + (summary_of ys).lines;
+  memory = (summary_of xs).memory + (summary_of ys).memory;
+  requests = (summary_of xs).requests + (summary_of ys).requests;
+  rows = (summary_of xs).rows + (summary_of ys).rows;
+  unread = (summary_of xs).unread + (summary_of ys).unread;
+}
+summary_both xs ys =
+    rw (replies (λ r. cond (is_answer r) 1 0) xs ys, replies (λ r. cond (is_block r) 1 0) xs ys, length-append xs ys, sum_by-append (λ e. cond (is_memory e) 1 0) xs ys, sum_by-append (λ e. cond (is_begin e) 1 0) xs ys, replies row_count xs ys, replies (λ r. cond (is_unread r) 1 0) xs ys) refl
 
-count_more : {X : Type 0} (p : X → Bool) (xs : List X) (x : X) → count_by p (xs ++ x ∷ []) ≡ more (p x) (count_by p xs)
-count_more p xs x = sum_more (λ y. cond (p y) 1 0) xs x ∙ one_more (p x) (count_by p xs)
-
-length_more : {X : Type 0} (xs : List X) (x : X) → length (xs ++ x ∷ []) ≡ length xs + 1
-length_more xs x = omega (arith, length-append xs (x ∷ []))
-
-pub summary_more : (entries : List Entry) (entry : Entry) → summary_of (entries ++ entry ∷ []) ≡ with_entry (summary_of entries) entry
-summary_more entries entry =
-    rw (count_more is_answer entries entry, count_more is_block entries entry, length_more entries entry, count_more is_memory entries entry, count_more is_begin entries entry, sum_more row_count entries entry, count_more is_unread entries entry) refl
-
-pub summary_step : (entries : List Entry) (i : ℕ) (entry : Entry) → i < length entries → entry ≡ get_or entries i entry → summary_of (take (i + 1) entries) ≡ with_entry (summary_of (take i entries)) entry
+pub summary_step : (entries : List Entry) (i : ℕ) (entry : Entry) → i < length entries → entry ≡ get_or entries i entry → summary_of (take i entries ++ entry ∷ []) ≡ summary_of (take (i + 1) entries)
 summary_step entries i entry below is =
-    ap summary_of (take_more entries i entry below ∙ ap (λ z. take i entries ++ z ∷ []) (sym is)) ∙ summary_more (take i entries) entry
+    ap summary_of (sym (take_more entries i entry below ∙ ap (λ z. take i entries ++ z ∷ []) (sym is)))
+
+-- how many of the entries so far found no memory
+pub memory_step : (entries : List Entry) (i : ℕ) (entry : Entry) → i < length entries → entry ≡ get_or entries i entry → count_by is_memory (take (i + 1) entries) ≡ count_by is_memory (take i entries) + cond (is_memory entry) 1 0
+memory_step entries i entry below is =
+    ap (count_by is_memory) (take_more entries i entry below ∙ ap (λ z. take i entries ++ z ∷ []) (sym is)) ∙ sum_by-append (λ e. cond (is_memory e) 1 0) (take i entries) (entry ∷ []) ∙ ap (λ n. count_by is_memory (take i entries) + n) (zero-add (cond (is_memory entry) 1 0))

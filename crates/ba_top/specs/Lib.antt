@@ -1,7 +1,5 @@
-pub mod Path
-pub mod Refusals
-pub mod Reading
-pub mod Checking
 pub mod Text
+pub mod Ends
+pub mod Checking
 pub mod Ran
 pub mod Causes

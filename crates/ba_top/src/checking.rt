@@ -1,10 +1,13 @@
 //! Checks a proof, and writes what it comes to.
 ghost use Rattle.std.specs.Prelude.{◌≡◌, [], ◌∷◌, IfOk};
 ghost use Rattle.ba_plan.specs.Sent.{SentLines};
-ghost use Rattle.ba_top.specs.Checking.{EndsCheck, EndsLine, IsCheckable, IsFinding, detail_found, fault_line, line_found};
+ghost use Rattle.ba_input.specs.Tasks.{IsCheckable};
+ghost use Rattle.ba_top.specs.Checking.{EndsCheck, IsFinding, detail_found, fault_line, line_found};
+ghost use Rattle.ba_top.specs.Ends.{EndsLine};
 ghost use Rattle.ba_wire.specs.Verdicts.{verdict_bytes};
 
-use crate::report::Detail;
+use crate::ending::ended;
+use ba_input::Detail;
 use ba_model::Failure;
 use ba_outside::{Sink, WriteFail};
 use ba_plan::send;
@@ -35,11 +38,8 @@ fn print_verdict<S: Sink>(alloc: Global, verdict: Verdict, sink: &mut S) -> Resu
 fn tell<S: Sink>(alloc: Global, verdict: Verdict, whole: Detail, sink: &mut S) -> Detail
     ensures { EndsLine (verdict_bytes verdict) whole (S.seen sink.old) (S.seen sink.new) result }
 {
-    match print_verdict(alloc, verdict, sink) {
-        Ok(()) => whole,
-        Err(WriteFail::Failed) => Detail::Write,
-        Err(WriteFail::NoMemory) => Detail::Memory,
-    }
+    let sent = print_verdict(alloc, verdict, sink);
+    ended(sent, whole)
 }
 
 // What the check of a proof finds, if there is memory: its fault, or that it is accepted.

@@ -1,16 +1,18 @@
 //! Writes the lines of a run.
-ghost use Rattle.std.specs.Prelude.{◌≡◌, [], ◌∷◌, IfOk, length, string_bytes};
+ghost use Rattle.std.specs.Prelude.{◌≡◌, ◌==◌, ◌<◌, ◌+◌, [], ◌∷◌, List, IfOk, Some, length, position, slice_get, string_bytes};
+ghost use Rattle.ba_input.specs.declared.input.Input.{Input as Given};
+ghost use Rattle.ba_lanes.specs.declared.journal.Entry.{Entry as EntryOf};
 ghost use Rattle.ba_plan.specs.Sent.{SentLines};
-ghost use Rattle.ba_wire.specs.Printed.{fault_bytes, printed};
-ghost use Rattle.ba_top.specs.Text.{entry_bytes, entry_line, lines_of, name_in, printed_block, printed_by, reply_line, told_lines, total_bytes};
+ghost use Rattle.ba_wire.specs.Printed.{fault_bytes, line_bytes, printed};
+ghost use Rattle.ba_top.specs.Text.{entry_line, lines_of, name_in, printed_block, printed_by, reply_line, told_lines, told_of, total_bytes};
 
-use crate::report::Told;
-use crate::summary::summary;
+use crate::summary::count_all;
+use ba_input::{Input, Told};
 use ba_lanes::{Entry, Journal};
 use ba_model::Str;
 use ba_outside::{Sink, WriteFail};
 use ba_plan::send;
-use ba_script::{Script, ScriptEntry};
+use ba_script::ScriptEntry;
 use ba_session::{By, Reply, Why};
 use ba_wire::{Block, By as PrintedBy, Fault, Line, fault_text, line_text, summary_text};
 use std::alloc::{AllocError, Global};
@@ -80,7 +82,7 @@ fn entry_line<'a>(name: &'a Str, line: u64, entry: &'a Entry) -> Line<'a>
             publish: name,
             version: *version,
         },
-        Entry::Unbegun { .. } | Entry::NoMemory => Line::Memory { line },
+        Entry::Memory { .. } => Line::Memory { line },
     }
 }
 
@@ -95,16 +97,41 @@ fn name_in(said: &ScriptEntry) -> &Str
     }
 }
 
-#[tactic(auto, unfolding(crate::specs::Text::entry_bytes))]
 fn entry_text(
     alloc: Global,
     said: &ScriptEntry,
     line: u64,
     entry: &Entry,
 ) -> Result<String, AllocError>
-    ensures { IfOk result (λ text. string_bytes text ≡ entry_bytes said.now line entry.now) }
+    ensures { IfOk result (λ text. string_bytes text
+        ≡ line_bytes (entry_line (name_in said.now) line entry.now)) }
 {
     line_text(alloc, &entry_line(name_in(said), line, entry))
+}
+
+// Writes what is told of an entry, for a line of the script with its number.
+fn print_entry<S: Sink>(
+    alloc: Global,
+    told: Told,
+    said: &ScriptEntry,
+    line: u64,
+    entry: &Entry,
+    sink: &mut S,
+) -> Result<(), WriteFail>
+    ensures { (input : Given) (earlier : List EntryOf)
+        → slice_get input.script.entries (length earlier) ≡ Some said.now → line ≡ length earlier + 1
+        → SentLines (told_of told input earlier entry.now)
+        (S.seen sink.old) (S.seen sink.new) result }
+{
+    match told {
+        Told::Lines => {
+            let Ok(text) = entry_text(alloc, said, line, entry) else {
+                return Err(WriteFail::NoMemory);
+            };
+            send(sink, text.as_bytes())
+        }
+        Told::Summary => Ok(()),
+    }
 }
 
 // The summary's line, if there is memory for it and each of its numbers is one of 64 bits.
@@ -112,7 +139,7 @@ fn entry_text(
 fn summary_line(alloc: Global, journal: &Journal) -> Result<String, WriteFail>
     ensures { IfOk result (λ text. string_bytes text ≡ total_bytes journal.now.entries) }
 {
-    let Some(summary) = summary(journal.entries.as_slice()) else {
+    let Some(summary) = count_all(journal.entries.as_slice()) else {
         return Err(WriteFail::NoMemory);
     };
     match summary_text(alloc, &summary) {
@@ -121,7 +148,7 @@ fn summary_line(alloc: Global, journal: &Journal) -> Result<String, WriteFail>
     }
 }
 
-// Writes the summary alone.
+// Writes the summary.
 fn print_summary<S: Sink>(alloc: Global, journal: &Journal, sink: &mut S) -> Result<(), WriteFail>
     ensures { SentLines (total_bytes journal.now.entries ∷ [])
         (S.seen sink.old) (S.seen sink.new) result }
@@ -132,50 +159,56 @@ fn print_summary<S: Sink>(alloc: Global, journal: &Journal, sink: &mut S) -> Res
     send(sink, text.as_bytes())
 }
 
-// Writes a line for each line of the script, by its entry, in order, and then the summary.
-fn print<S: Sink>(
-    alloc: Global,
-    script: &Script,
-    journal: &Journal,
-    sink: &mut S,
-) -> Result<(), WriteFail>
-    requires { length journal.now.entries ≡ length script.now.entries }
-    ensures { SentLines (lines_of script.now journal.now)
-        (S.seen sink.old) (S.seen sink.new) result }
-{
-    for i in 0..journal.entries.len() {
-        let Ok(text) = entry_text(
-            alloc,
-            script.entries.get(i),
-            i as u64 + 1,
-            journal.entries.get(i),
-        ) else {
-            return Err(WriteFail::NoMemory);
-        };
-        send(sink, text.as_bytes())?;
-    }
-    let Ok(text) = summary_line(alloc, journal) else {
-        return Err(WriteFail::NoMemory);
-    };
-    send(sink, text.as_bytes())
-}
-
-/// Writes what is told of a run.
+/// Writes what is told of a run: of each line of the script, by its entry, in order, and then the
+/// summary.
 pub(crate) fn print_told<S: Sink>(
     alloc: Global,
-    script: &Script,
+    input: &Input,
     journal: &Journal,
     told: Told,
     sink: &mut S,
 ) -> Result<(), WriteFail>
-    requires { length journal.now.entries ≡ length script.now.entries }
-    ensures { SentLines (told_lines told script.now journal.now)
+    requires { length journal.now.entries ≡ length input.now.script.entries }
+    ensures { SentLines (told_lines told input.now journal.now)
         (S.seen sink.old) (S.seen sink.new) result }
 {
-    match told {
-        Told::Lines => print(alloc, script, journal, sink),
-        Told::Summary => print_summary(alloc, journal, sink),
+    for place in 0..journal.entries.len() {
+        let said = input.script.entries.get(place);
+        let entry = journal.entries.get(place);
+        print_entry(alloc, told, said, place as u64 + 1, entry, sink)?;
     }
+    print_summary(alloc, journal, sink)
+}
+
+fn line_end(bytes: &[u8]) -> Option<usize>
+    ensures { result ≡ position (λ b. b == 10) bytes.now }
+{
+    bytes.iter().position(|b| *b == b'\n')
+}
+
+// The first line, and the bytes behind it.
+fn first_line(bytes: &[u8]) -> (&[u8], &[u8])
+    requires { 0 < length bytes.now }
+    ensures lines { lines_of bytes.now ≡ result.0.now ∷ lines_of result.1.now }
+    ensures shorter { length result.1.now < length bytes.now }
+{
+    match line_end(bytes) {
+        Some(end) => bytes.split_at(end + 1),
+        None => bytes.split_at(bytes.len()),
+    }
+}
+
+/// Writes the lines of a text, one after another.
+pub(crate) fn print_text<S: Sink>(text: &[u8], sink: &mut S) -> Result<(), WriteFail>
+    ensures { SentLines (lines_of text.now) (S.seen sink.old) (S.seen sink.new) result }
+{
+    let mut rest = text;
+    while !rest.is_empty() {
+        let (line, behind) = first_line(rest);
+        send(sink, line)?;
+        rest = behind;
+    }
+    Ok(())
 }
 
 /// Writes the line of a fault.

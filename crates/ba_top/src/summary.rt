@@ -1,72 +1,80 @@
 //! What a run counts over its script.
-ghost use Rattle.std.specs.Prelude.{◌≡◌, IfSome};
+ghost use Rattle.std.specs.Prelude.{◌≡◌, ◌++◌, ◌∷◌, [], List, IfSome, count_by};
 ghost use Rattle.std.specs.List.{list_any};
 ghost use Rattle.ba_lanes.specs.Legal.{is_memory, lacks_memory};
-ghost use Rattle.ba_top.specs.Text.{is_answer, is_begin, is_block, is_unread, more, row_count, summary_of, with_entry};
+ghost use Rattle.ba_lanes.specs.declared.journal.Entry.{Entry as EntryOf};
+ghost use Rattle.ba_top.specs.Text.{summary_of};
 
-use ba_lanes::{Entry, Journal};
+use ba_lanes::{Entry, Journal, LineKind};
 use ba_session::Reply;
 use ba_wire::Summary;
 
-#[tactic(auto, unfolding(crate::specs::Text::is_begin))]
-fn is_begin(entry: &Entry) -> bool
-    ensures { result ≡ is_begin entry.now }
+/// Nothing is counted.
+const NOTHING: Summary = Summary {
+    answered: 0,
+    blocked: 0,
+    lines: 0,
+    memory: 0,
+    requests: 0,
+    rows: 0,
+    unread: 0,
+};
+
+// What is counted of one entry.
+#[tactic(auto, unfolding(crate::specs::Text::is_answer, crate::specs::Text::is_block, crate::specs::Text::is_unread, crate::specs::Text::row_count, crate::specs::Text::is_begin, ba_lanes::specs::Legal::is_memory))]
+fn count_one(entry: &Entry) -> Summary
+    ensures { result ≡ summary_of (entry.now ∷ []) }
 {
+    let mut one = NOTHING;
+    one.lines = 1;
     match entry {
-        Entry::Begin { .. } | Entry::Unbegun { .. } => true,
-        Entry::Ask { .. } | Entry::End { .. } | Entry::Publish { .. } | Entry::NoMemory => false,
+        Entry::Begin { .. } => one.requests = 1,
+        Entry::Ask { reply, .. } => match reply {
+            Reply::Answer { rows, .. } => {
+                one.answered = 1;
+                one.rows = rows.len() as u64;
+            }
+            Reply::Blocked { .. } => one.blocked = 1,
+            Reply::Unread(_) => one.unread = 1,
+            Reply::NoMemory => {}
+        },
+        Entry::End { .. } | Entry::Publish { .. } => {}
+        Entry::Memory { kind, .. } => {
+            one.memory = 1;
+            if let LineKind::Begin = kind {
+                one.requests = 1;
+            }
+        }
     }
+    one
 }
 
-#[tactic(auto, unfolding(crate::specs::Text::is_answer))]
-fn is_answer(entry: &Entry) -> bool
-    ensures { result ≡ is_answer entry.now }
+// What is counted of entries and of those behind them, if each number is one of 64 bits.
+fn both(front: &Summary, behind: &Summary) -> Option<Summary>
+    ensures { (earlier later : List EntryOf) → front.now ≡ summary_of earlier
+        → behind.now ≡ summary_of later
+        → IfSome result (λ it. it ≡ summary_of (earlier ++ later)) }
 {
-    match entry {
-        Entry::Begin { .. }
-        | Entry::Unbegun { .. }
-        | Entry::End { .. }
-        | Entry::Publish { .. }
-        | Entry::NoMemory => false,
-        Entry::Ask { reply, .. } => match reply {
-            Reply::Answer { .. } => true,
-            Reply::Blocked { .. } | Reply::Unread(_) | Reply::NoMemory => false,
-        },
-    }
+    Some(Summary {
+        answered: front.answered.checked_add(behind.answered)?,
+        blocked: front.blocked.checked_add(behind.blocked)?,
+        lines: front.lines.checked_add(behind.lines)?,
+        memory: front.memory.checked_add(behind.memory)?,
+        requests: front.requests.checked_add(behind.requests)?,
+        rows: front.rows.checked_add(behind.rows)?,
+        unread: front.unread.checked_add(behind.unread)?,
+    })
 }
 
-#[tactic(auto, unfolding(crate::specs::Text::is_block))]
-fn is_block(entry: &Entry) -> bool
-    ensures { result ≡ is_block entry.now }
+/// What a run counts, if each number is one of 64 bits.
+pub(crate) fn count_all(entries: &[Entry]) -> Option<Summary>
+    ensures { IfSome result (λ summary. summary ≡ summary_of entries.now) }
 {
-    match entry {
-        Entry::Begin { .. }
-        | Entry::Unbegun { .. }
-        | Entry::End { .. }
-        | Entry::Publish { .. }
-        | Entry::NoMemory => false,
-        Entry::Ask { reply, .. } => match reply {
-            Reply::Blocked { .. } => true,
-            Reply::Answer { .. } | Reply::Unread(_) | Reply::NoMemory => false,
-        },
+    let mut summary = NOTHING;
+    for entry in entries {
+        summary = both(&summary, &count_one(entry))?;
     }
-}
-
-#[tactic(auto, unfolding(crate::specs::Text::is_unread))]
-fn is_unread(entry: &Entry) -> bool
-    ensures { result ≡ is_unread entry.now }
-{
-    match entry {
-        Entry::Begin { .. }
-        | Entry::Unbegun { .. }
-        | Entry::End { .. }
-        | Entry::Publish { .. }
-        | Entry::NoMemory => false,
-        Entry::Ask { reply, .. } => match reply {
-            Reply::Unread(_) => true,
-            Reply::Answer { .. } | Reply::Blocked { .. } | Reply::NoMemory => false,
-        },
-    }
+    Some(summary)
 }
 
 #[tactic(auto, unfolding(ba_lanes::specs::Legal::is_memory))]
@@ -74,78 +82,14 @@ fn is_memory(entry: &Entry) -> bool
     ensures { result ≡ is_memory entry.now }
 {
     match entry {
-        Entry::Begin { .. } | Entry::End { .. } | Entry::Publish { .. } => false,
-        Entry::Unbegun { .. } | Entry::NoMemory => true,
-        Entry::Ask { reply, .. } => match reply {
-            Reply::NoMemory => true,
-            Reply::Answer { .. } | Reply::Blocked { .. } | Reply::Unread(_) => false,
-        },
+        Entry::Begin { .. } | Entry::Ask { .. } | Entry::End { .. } | Entry::Publish { .. } => {
+            false
+        }
+        Entry::Memory { .. } => true,
     }
 }
 
-#[tactic(auto, unfolding(crate::specs::Text::row_count))]
-fn row_count(entry: &Entry) -> usize
-    ensures { result ≡ row_count entry.now }
-{
-    match entry {
-        Entry::Begin { .. }
-        | Entry::Unbegun { .. }
-        | Entry::End { .. }
-        | Entry::Publish { .. }
-        | Entry::NoMemory => 0,
-        Entry::Ask { reply, .. } => match reply {
-            Reply::Answer { rows, .. } => rows.len(),
-            Reply::Blocked { .. } | Reply::Unread(_) | Reply::NoMemory => 0,
-        },
-    }
-}
-
-// One more where it is one, if that is a number of 64 bits.
-fn more(count: u64, is_one: bool) -> Option<u64>
-    ensures { IfSome result (λ n. n ≡ more is_one count) }
-{
-    if is_one {
-        count.checked_add(1)
-    } else {
-        Some(count)
-    }
-}
-
-// Counts one more entry, if each number stays one of 64 bits.
-fn with_entry(summary: &Summary, entry: &Entry) -> Option<Summary>
-    ensures { IfSome result (λ it. it ≡ with_entry summary.now entry.now) }
-{
-    Some(Summary {
-        answered: more(summary.answered, is_answer(entry))?,
-        blocked: more(summary.blocked, is_block(entry))?,
-        lines: more(summary.lines, true)?,
-        memory: more(summary.memory, is_memory(entry))?,
-        requests: more(summary.requests, is_begin(entry))?,
-        rows: summary.rows.checked_add(row_count(entry) as u64)?,
-        unread: more(summary.unread, is_unread(entry))?,
-    })
-}
-
-/// What a run counts, if each number is one of 64 bits.
-pub(crate) fn summary(entries: &[Entry]) -> Option<Summary>
-    ensures { IfSome result (λ summary. summary ≡ summary_of entries.now) }
-{
-    let mut summary = Summary {
-        answered: 0,
-        blocked: 0,
-        lines: 0,
-        memory: 0,
-        requests: 0,
-        rows: 0,
-        unread: 0,
-    };
-    for entry in entries {
-        summary = with_entry(&summary, entry)?;
-    }
-    Some(summary)
-}
-
-/// Whether some line answered want of memory.
+/// Whether some line found no memory.
 pub(crate) fn has_memory_line(journal: &Journal) -> bool
     ensures { result ≡ lacks_memory journal.now }
 {
@@ -154,4 +98,17 @@ pub(crate) fn has_memory_line(journal: &Journal) -> bool
         .as_slice()
         .iter()
         .any(|entry| is_memory(entry))
+}
+
+/// How many lines of the script found no memory, of those that the journal tells.
+pub fn lines_without_memory(journal: &Journal) -> usize
+    ensures { result ≡ count_by is_memory journal.now.entries }
+{
+    let mut count = 0;
+    for entry in journal.entries.as_slice() {
+        if is_memory(entry) {
+            count += 1;
+        }
+    }
+    count
 }

@@ -5,25 +5,39 @@ ghost use Rattle.ba_outside.specs.Causes.{Rose};
 ghost use Rattle.ba_plan.specs.Ends.{AsksFront, FailedAt};
 ghost use Rattle.ba_plan.specs.Plan.{names_of, outcome_of};
 ghost use Rattle.ba_proof.specs.declared.checking.CheckFault.{CheckFault};
-ghost use Rattle.ba_top.specs.Causes.{ComesTo, IsLimit, Tells};
-ghost use Rattle.ba_top.specs.Checking.{IsTask};
-ghost use Rattle.ba_lanes.specs.Legal.{IsInput};
-ghost use Rattle.ba_top.specs.Ran.{Accepts, EndsFault, EndsPrint, EndsRun, EndsStop, Ran, RanInput, RanTask, Rejects, Served, detail_of, status_of};
-ghost use Rattle.ba_top.specs.Reading.{plan_of};
+ghost use Rattle.ba_input.specs.Causes.{IsLimit};
+ghost use Rattle.ba_input.specs.Inputs.{IsInput};
+ghost use Rattle.ba_input.specs.Reading.{plan_of};
+ghost use Rattle.ba_input.specs.Tasks.{IsTask};
+ghost use Rattle.ba_top.specs.Causes.{ComesTo, Tells};
+ghost use Rattle.ba_top.specs.Ran.{Accepts, EndsFault, EndsPrint, EndsRun, EndsStop, Ran, RanInput, RanTask, Rejects, Served, fault_status, status_of, whole_run};
 
 use crate::checking::end_check;
-use crate::input::read_task;
-use crate::print::{print_fault, print_told};
-use crate::report::{Detail, Outcome, Refusal, Task, Told};
+use crate::ending::ended;
+use crate::outcome::Outcome;
+use crate::print::{print_fault, print_text, print_told};
 use crate::summary::has_memory_line;
-use ba_lanes::{Input, Journal, serve};
-use ba_model::{Counted, Str};
-use ba_outside::{Files, Gate, Sink, WriteFail};
-use ba_plan::{Stop, send};
+use ba_input::{Detail, Input, Task, Told, fault_of, read_task};
+use ba_instant::InOrder;
+use ba_lanes::{Journal, serve};
+use ba_model::Str;
+use ba_outside::{Files, Gate, Sink};
+use ba_plan::Stop;
 use ba_wire::Fault;
 use std::alloc::Global;
 use std::sync::Wait;
 use std::thread::Threads;
+
+fn fault_status(fault: &Fault) -> u8
+    ensures { result ≡ fault_status fault.now }
+{
+    match fault {
+        Fault::Words => 2,
+        Fault::Input { .. } => 3,
+        Fault::Read { .. } => 4,
+        Fault::Limit { .. } => 7,
+    }
+}
 
 fn status(detail: &Detail) -> u8
     ensures { result ≡ status_of detail.now }
@@ -31,23 +45,20 @@ fn status(detail: &Detail) -> u8
     match detail {
         Detail::Done => 0,
         Detail::NotAccepted(_) => 1,
-        Detail::Words => 2,
-        Detail::Input { .. } => 3,
-        Detail::Read { .. } => 4,
+        Detail::Fault(fault) => fault_status(fault),
         Detail::Write => 5,
         Detail::Memory => 6,
-        Detail::Limit { .. } => 7,
     }
 }
 
-fn detail(fault: Fault) -> Detail
-    ensures { result ≡ detail_of fault }
+// How a run ends whose lines are all written.
+fn whole_run(journal: &Journal) -> Detail
+    ensures { result ≡ whole_run journal.now }
 {
-    match fault {
-        Fault::Words => Detail::Words,
-        Fault::Input { file, reason } => Detail::Input { file, reason },
-        Fault::Read { file } => Detail::Read { file },
-        Fault::Limit { what, limit } => Detail::Limit { what, limit },
+    if has_memory_line(journal) {
+        Detail::Memory
+    } else {
+        Detail::Done
     }
 }
 
@@ -61,57 +72,31 @@ fn end_run<S: Sink>(
     requires { length journal.now.entries ≡ length input.now.script.entries }
     ensures { EndsRun input.now told journal.now (S.seen sink.old) (S.seen sink.new) result }
 {
-    match print_told(alloc, &input.script, journal, told, sink) {
-        Ok(()) => {
-            if has_memory_line(journal) {
-                Detail::Memory
-            } else {
-                Detail::Done
-            }
-        }
-        Err(WriteFail::Failed) => Detail::Write,
-        Err(WriteFail::NoMemory) => Detail::Memory,
-    }
+    let sent = print_told(alloc, input, journal, told, sink);
+    ended(sent, whole_run(journal))
 }
 
 fn end_fault<S: Sink>(alloc: Global, fault: Fault, sink: &mut S) -> Detail
     ensures { EndsFault fault (S.seen sink.old) (S.seen sink.new) result }
 {
-    match print_fault(alloc, &fault, sink) {
-        Ok(()) => detail(fault),
-        Err(WriteFail::Failed) => Detail::Write,
-        Err(WriteFail::NoMemory) => Detail::Memory,
-    }
+    let sent = print_fault(alloc, &fault, sink);
+    ended(sent, Detail::Fault(fault))
 }
 
-fn end_stop<S: Sink>(alloc: Global, stop: Stop<Refusal>, sink: &mut S) -> Detail
+fn end_stop<S: Sink>(alloc: Global, stop: Stop<Fault>, sink: &mut S) -> Detail
     ensures { EndsStop stop (S.seen sink.old) (S.seen sink.new) result }
 {
-    match stop {
-        Stop::Refused(refusal) => match refusal {
-            Refusal::Words => end_fault(alloc, Fault::Words, sink),
-            Refusal::Input { file, reason } => {
-                end_fault(alloc, Fault::Input { file, reason }, sink)
-            }
-            Refusal::Limit { what, limit } => end_fault(alloc, Fault::Limit { what, limit }, sink),
-        },
-        Stop::Read(file) => end_fault(alloc, Fault::Read { file }, sink),
-        Stop::TooLong(_, limit) => {
-            let what = Counted::FileBytes;
-            end_fault(alloc, Fault::Limit { what, limit }, sink)
-        }
-        Stop::NoMemory => Detail::Memory,
+    match fault_of(stop) {
+        Some(fault) => end_fault(alloc, fault, sink),
+        None => Detail::Memory,
     }
 }
 
 fn end_print<S: Sink>(text: &Str, sink: &mut S) -> Detail
     ensures { EndsPrint text.now (S.seen sink.old) (S.seen sink.new) result }
 {
-    match send(sink, text.as_bytes()) {
-        Ok(()) => Detail::Done,
-        Err(WriteFail::Failed) => Detail::Write,
-        Err(WriteFail::NoMemory) => Detail::Memory,
-    }
+    let sent = print_text(text.as_bytes(), sink);
+    ended(sent, Detail::Done)
 }
 
 // Serves the script, and writes what is told of it.
@@ -126,7 +111,7 @@ fn run_input<R: Threads + Wait + Sync, S: Sink, G: Gate + Sync>(
     requires { IsInput input.now }
     ensures { RanInput input.now told (S.seen sink.old) (S.seen sink.new) result.0 result.1 }
 {
-    match serve(rt, alloc, input, gate) {
+    match serve(rt, alloc, input, &InOrder, gate) {
         Ok(journal) => (end_run(alloc, input, told, &journal, sink), Some(journal)),
         Err(_) => (Detail::Memory, None),
     }
@@ -184,8 +169,9 @@ fn run<R: Threads + Wait + Sync, F: Files, S: Sink, G: Gate + Sync>(
 /// why, or how many branches are open (status 1).
 ///
 /// `gen --seed N --requests R [--workers N] [--print]` makes the schema, the policy, the tables and
-/// the script of a workload (`ba_workload`), and reads no file. With `--print` it writes the script;
-/// else it serves it as `run` does, with the default budget, and writes the summary alone.
+/// the script of a workload (`ba_workload`), and reads no file. With `--print` it writes the script,
+/// line by line; else it serves it as `run` does, with the default budget, and writes the summary
+/// alone.
 ///
 /// The first fault ends a command with one fault line: words of another form (status 2), a file that
 /// has no reading, or rows that break a key or a link (3), a file that can't be read (4), a count
@@ -198,10 +184,12 @@ pub fn blockaid<R: Threads + Wait + Sync, F: Files, S: Sink, G: Gate + Sync>(
     sink: &mut S,
     gate: &G,
 ) -> Outcome
-    // Each answer is that of the query that its line's text reads as, in the request's tables and in every database that meets the
-    // schema, gives every view the same rows and each query that was answered before its printed rows. Each block is of such a query
-    // that isn't covered, and carries a counterexample to strong compliance, a derivation as long as the budget, or a stuck branch.
-    // The input that the words and the files come to is the one for which the journal is legal and whose lines were written.
+    // Each answer is that of the query that its line's text reads as, in the request's tables and in
+    // every database that meets the schema, gives every view the same rows and each query that was
+    // answered before its printed rows. Each block is of such a query that isn't covered, and carries
+    // a counterexample to strong compliance, a derivation as long as the budget, or a stuck branch.
+    // The input that the words and the files come to is the one for which the journal is legal and
+    // whose lines were written.
     ensures headline { IfSome result.journal (λ journal.
         Served (map string_bytes words.now) (F.seen files.old) (F.seen files.new)
         (S.seen sink.old) (S.seen sink.new) result.detail journal) }
@@ -210,8 +198,9 @@ pub fn blockaid<R: Threads + Wait + Sync, F: Files, S: Sink, G: Gate + Sync>(
     ensures run { Ran (map string_bytes words.now) (F.seen files.old) (F.seen files.new)
         (S.seen sink.old) (S.seen sink.new) result.detail result.journal }
 
-    // A check that is done has read a proof whose steps are all accepted and leave no branch open; and so its question is strongly
-    // compliant under its context and after its rows. Without a journal, to be done is that, or that a script was printed.
+    // A check that is done has read a proof whose steps are all accepted and leave no branch open; and
+    // so its question is strongly compliant under its context and after its rows. Without a journal,
+    // to be done is that, or that a script was printed.
     ensures accepted { Accepts (map string_bytes words.now) (F.seen files.old) (F.seen files.new)
         result.detail result.journal }
     // One that isn't accepted has read a proof that has the fault, and so is none.
@@ -219,10 +208,11 @@ pub fn blockaid<R: Threads + Wait + Sync, F: Files, S: Sink, G: Gate + Sync>(
         → Rejects (map string_bytes words.now) (F.seen files.old) (F.seen files.new) fault }
 
     // A read fault names the last name asked for, and the files' count rose.
-    ensures read { (file : List ℕ) → result.detail ≡ Detail.Read file
+    ensures read { (file : List ℕ) → result.detail ≡ Detail.Fault (Fault.Read file)
         → FailedAt file (F.seen files.old) (F.seen files.new) }
     // A count above its limit is one of what was read, or of the bytes of the last name asked for.
-    ensures limit { (what : Counted) (limit : ℕ) → result.detail ≡ Detail.Limit what limit
+    ensures limit { (what : Counted) (limit : ℕ)
+        → result.detail ≡ Detail.Fault (Fault.Limit what limit)
         → IsLimit (map string_bytes words.now) what limit (F.seen files.old) (F.seen files.new) }
     // A write fault comes only where the sink's count rose.
     ensures write { result.detail ≡ Detail.Write

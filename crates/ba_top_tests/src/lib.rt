@@ -2,10 +2,10 @@
 #![tactic(auto)]
 
 ghost use Rattle.std.specs.Prelude.{◌≡◌, ◌⊎◌, map, string_bytes};
+ghost use Rattle.ba_input.specs.Reading.{plan_of};
 ghost use Rattle.ba_outside.specs.MemFiles.{held_or_empty};
 ghost use Rattle.ba_plan.specs.Plan.{outcome_of};
 ghost use Rattle.ba_top.specs.Causes.{ComesTo};
-ghost use Rattle.ba_top.specs.Reading.{plan_of};
 
 use ba_outside::{FreeGate, Held, SureFiles, SureSink};
 use ba_top::{Detail, Outcome, blockaid};

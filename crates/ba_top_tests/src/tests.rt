@@ -2,6 +2,7 @@
 mod checks;
 mod gates;
 mod notices;
+mod prints;
 mod refused;
 mod shard;
 mod workers;

@@ -52,7 +52,10 @@ fn tell_asked(
             tell_head(page, place, name, context.as_str(), verdict(reply), query)?;
             tell_reply(page, given, journal, scene, query.as_str(), reply)?;
         }
-        _ => tell_head(page, place, name, context.as_str(), "no memory", query)?,
+        _ => {
+            tell_head(page, place, name, context.as_str(), "no memory", query)?;
+            page.say(2, "There was no memory for it.")?;
+        }
     }
     Ok(true)
 }
@@ -102,9 +105,12 @@ fn tell_reply(
     match reply {
         Reply::Answer { query, by, .. } => match by {
             By::Cover(cover) => tell_cover(page, given, question, cover),
-            By::Template { shard, id, found } => {
-                tell_template(page, journal, scene, *shard, *id, found)
-            }
+            By::Template {
+                shard,
+                id,
+                found,
+                ..
+            } => { tell_template(page, journal, scene, *shard, *id, found) }
             By::Proof(steps, keeping) => tell_proof(page, given, scene, query, steps, *keeping),
         },
         Reply::Blocked { query, why } => match why {

@@ -4,10 +4,10 @@ use crate::derivation::tell_last_steps;
 use crate::given::Given;
 use crate::page::Page;
 use crate::scene::Scene;
-use ba_instant::Leaf;
 use ba_kernel::Step;
 use ba_model::{List, MAX_BUDGET, Query, Shared};
 use ba_refute::Clause;
+use ba_settle::Leaf;
 use std::alloc::{AllocError, Global};
 
 // How many of the last steps are told.

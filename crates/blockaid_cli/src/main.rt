@@ -6,6 +6,8 @@
 //! standard error tell how far the script is served.
 #![tactic(auto)]
 
+ghost use Rattle.std.specs.Prelude.{◌≡◌};
+
 mod progress;
 mod reasons;
 
@@ -39,7 +41,9 @@ fn asks_progress<R: Env + AllocGlobal>(rt: &R) -> bool {
 }
 
 // Says on standard error what is told of how a run ended, and gives its status.
-fn tell(rt: &impl Eprint, ended: &Ended) -> u8 {
+fn tell(rt: &impl Eprint, ended: &Ended) -> u8
+    ensures { result ≡ ended.now.status }
+{
     let _ = match &ended.told {
         Some(lines) => eprint!(rt; "{lines}"),
         None => eprintln!(rt; "blockaid: there is no memory to tell why"),

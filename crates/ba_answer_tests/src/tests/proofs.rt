@@ -10,10 +10,11 @@ use ba_comply::{Trace, TraceEntry};
 use ba_core::{Asked, Core, Ground};
 use ba_direct::cover;
 use ba_eval::answer;
-use ba_instant::{Settled, settle};
+use ba_instant::settle;
 use ba_kernel::Problem;
 use ba_kernel::laws::{answers_are_records, question_is_problem};
 use ba_model::{Context, Duplicate, Failure, Policy, Query, Shared};
+use ba_settle::Settled;
 use ba_tables::Tables;
 use std::alloc::{AllocError, Global};
 

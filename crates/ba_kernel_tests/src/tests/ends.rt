@@ -3,7 +3,8 @@
 use super::given::problem;
 use super::templates::replayed;
 use super::words::Handle;
-use ba_instant::{Settled, settle};
+use ba_instant::settle;
+use ba_settle::Settled;
 use std::alloc::AllocError;
 
 /// The number of steps of the proof, or the fault.

@@ -1,9 +1,9 @@
 //! The line on why a run ended, where no example of files can show it: a sink that fails, and want of memory.
 use super::{NoRoom, failing_sink, run_files, words};
-use ba_lanes::Entry;
+use ba_lanes::{Entry, LineKind};
 use ba_notice::notice;
 use ba_outside::{Files, FreeGate, MemSink, Sink};
-use ba_top::{Detail, Outcome, blockaid};
+use ba_top::{Detail, Outcome, blockaid, lines_without_memory};
 use std::alloc::{AllocError, AllocGlobal, Global};
 use std::sync::Wait;
 use std::test::Fail;
@@ -27,7 +27,11 @@ fn is_told<R: std::fs::Files + AllocGlobal>(
     wanted: &str,
 ) -> Result<bool, AllocError> {
     let words = words(rt.alloc())?;
-    let told = notice(rt, &words, "", &[], outcome)?;
+    let lacking = match &outcome.journal {
+        Some(journal) => Some(lines_without_memory(journal)),
+        None => None,
+    };
+    let told = notice(rt, &words, "", &[], &outcome.detail, lacking)?;
     Ok(told.as_str() == wanted)
 }
 
@@ -69,8 +73,13 @@ fn notice_of_no_memory_for_writes(rt: HostRuntime) -> Result<(), Fail> {
 fn lack_two(outcome: &mut Outcome) -> Result<(), AllocError> {
     outcome.detail = Detail::Memory;
     if let Some(journal) = &mut outcome.journal {
-        journal.entries.push(Entry::NoMemory)?;
-        journal.entries.push(Entry::NoMemory)?;
+        for kind in [LineKind::Publish, LineKind::Ask] {
+            journal.entries.push(Entry::Memory {
+                kind,
+                request: None,
+                version: None,
+            })?;
+        }
     }
     Ok(())
 }

@@ -3,9 +3,9 @@ use Rattle.std.proofs.lemmas.Cmp.{back_total}
 use Rattle.std.proofs.lemmas.List.Sorted.{answers_always, ranks_by}
 use Rattle.std.specs.Ordering.{flip_args, is_lt}
 use Rattle.ba_instant.proofs.AgendaLemmas.{first_in_turn, last_in_turn}
-use Rattle.ba_instant.proofs.OrderLemmas.{step_total}
+use Rattle.ba_settle.proofs.OrderLemmas.{step_total}
 use Rattle.ba_instant.specs.Agendas.{IsInTurn}
-use Rattle.ba_instant.specs.Order.{step_cmp}
+use Rattle.ba_settle.specs.Order.{step_cmp}
 use Rattle.ba_instant.proofs.agenda.put_in_turn.Goals as goal
 
 pub returns-in-First : goal.returns-in-First

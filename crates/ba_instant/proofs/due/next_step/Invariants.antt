@@ -1,4 +1,4 @@
-use Rattle.ba_instant.specs.Dues.{HaveNewBelow}
+use Rattle.ba_settle.specs.Dues.{HaveNewBelow}
 use Rattle.ba_instant.specs.Nexts.{AreWaiting, IsFirstBelow}
 use Rattle.ba_instant.proofs.due.next_step.Given as goal
 

@@ -1,5 +1,5 @@
 use Rattle.std.proofs.Common.{◌≡◌, length}
-use Rattle.ba_instant.specs.Dues.{Searches}
+use Rattle.ba_settle.specs.Dues.{Searches}
 use Rattle.ba_instant.specs.Nexts.{AreWaiting}
 use Rattle.ba_instant.proofs.ends.settle_in.Given as goal
 

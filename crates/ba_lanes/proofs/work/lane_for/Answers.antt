@@ -1,5 +1,5 @@
 use Rattle.std.proofs.Common.{◌+◌}
-use Rattle.ba_lanes.proofs.HistoryLemmas.{are_unused, can_split, has_left_more, have_split_more, own_can}
+use Rattle.ba_lanes.proofs.HistoryLemmas.{can_split, has_left_more}
 use Rattle.ba_lanes.proofs.MergeLemmas.{lane_low}
 use Rattle.ba_lanes.proofs.WorkLemmas.{on_ok}
 use Rattle.ba_lanes.specs.Serving.{HasLeft}

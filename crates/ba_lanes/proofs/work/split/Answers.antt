@@ -28,14 +28,14 @@ loop-number-preserved g c =
     let so_far = c.loop-number.invariant in
     let pushed = c.push_reserved.ensures.items in
     let lane = c.in_ok-lane.ensures in
-    let work : Work g.row.R.Denot = record { rt = c.args.rt; alloc = c.args.alloc; input = c.args.input; service = c.args.service; lane = c.in_ok-lane.lane } in record {
+    let work : Work g.row.R.Denot g.row.S.Denot = record { rt = c.args.rt; alloc = c.args.alloc; input = c.args.input; service = c.args.service; settle = c.args.settle; lane = c.in_ok-lane.lane } in record {
       of = lane.of;
       split = lane.split;
       left = lane.left;
       many = let many = so_far.many in omega (arith, many, ap length pushed, length-append c.loop-number.works.items (work ∷ []));
       room = let room = so_far.room in let same = c.push_reserved.ensures.capacity in omega (arith, room, same);
-      ready = each_more (λ k it. IsWork c.args.input.now c.args.service.now k it) c.loop-number.works.items c.push_reserved.new.self.items c.loop-number.number work so_far.ready pushed so_far.many
-          (record { input_is = refl; service_is = refl; ready = lane.ready });
+      ready = each_more (λ k it. IsWork g.S.Settle.orders c.args.input.now c.args.service.now k it) c.loop-number.works.items c.push_reserved.new.self.items c.loop-number.number work so_far.ready pushed so_far.many
+          (record { input_is = refl; service_is = refl; orders_are = c.requires.orders; ready = lane.ready });
     }
 
 pub returns : goal.returns

@@ -12,5 +12,5 @@ invariant-loop-number g l = record {
   left : HasLeft l.input l.number l.passes;
   many : length l.works.items ≡ l.number;
   room : l.input.workers ≤ vec_capacity l.works;
-  ready : (k : ℕ) (d : _) → k < l.number → IsWork l.input l.service k (get_or l.works.items k d);
+  ready : (k : ℕ) (d : _) → k < l.number → IsWork g.S.Settle.orders l.input l.service k (get_or l.works.items k d);
 }

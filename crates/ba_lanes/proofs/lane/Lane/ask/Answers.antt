@@ -1,5 +1,5 @@
 use Rattle.std.proofs.Common.{[], arith, refl, subst, sym}
-use Rattle.ba_session.specs.Asking.{IsRequestOf, Replies}
+use Rattle.ba_session.specs.Asking.{IsRequestOf, Replies, effort_in}
 use Rattle.ba_session.specs.Passing.{Makes, ShelfCalls}
 use Rattle.ba_lanes.proofs.LaneLemmas.{ask_room, checked_of, lost_there, set_there, takes_asked, takes_lost, there}
 use Rattle.ba_lanes.proofs.lane.Lane.ask.Goals as goal
@@ -34,10 +34,13 @@ returns-in-Some g c name =
     let next = c.ask-reply.new.self in
     let at = there old.requests.items c.args.number c.index_mut.result.now asker can.comes c.index_mut.ensures.value c.in-Some.is in
     let may = subst (λ p. IsRequestOf p next) c.requires.policy c.ask-reply.ensures.asker in
-    let told = subst (λ t. (calls : ShelfCalls) × Replies c.args.service.now.policy asker input.budget t calls c.ask-reply.result × Makes calls old.passes c.ask-reply.new.passes) c.as_str.ensures
+    let effort = effort_in (g.S.Settle.orders c.args.settle.now) input.budget in
+    let of_text = subst (λ t. (calls : ShelfCalls) × Replies c.args.service.now.policy asker effort t calls c.ask-reply.result × Makes calls old.passes c.ask-reply.new.passes) c.as_str.ensures
     c.ask-reply.ensures.replies in
-    let replies = subst (λ p. (calls : ShelfCalls) × Replies p asker input.budget c.args.text.now calls c.ask-reply.result × Makes calls old.passes c.ask-reply.new.passes) c.requires.policy told in
+    let of_policy = subst (λ p. (calls : ShelfCalls) × Replies p asker effort c.args.text.now calls c.ask-reply.result × Makes calls old.passes c.ask-reply.new.passes) c.requires.policy of_text in
+    let replies = subst (λ n. (calls : ShelfCalls) × Replies input.policy asker (effort_in n input.budget) c.args.text.now calls c.ask-reply.result × Makes calls old.passes c.ask-reply.new.passes) c.requires.orders of_policy in
     takes_asked input c.args.service.now old _ c.ask-reply.ensures.of refl refl c.args.number name c.args.text.now asker next c.ask-reply.result at may c.ask-reply.ensures.request refl replies
+    c.asked.result c.asked.ensures
 
 pub returns-in-None : goal.returns-in-None
 returns-in-None g c name =
@@ -45,4 +48,4 @@ returns-in-None g c name =
     let old = c.args.self.now in
     let place = c.index_mut.result.now in
     takes_lost c.args.input.now c.args.service.now old _ can.of refl refl c.args.number name c.args.text.now (lost_there old.requests.items c.args.number place can.comes c.index_mut.ensures.value c.in-None.is)
-    (set_there old.requests.items c.args.number place can.comes c.index_mut.ensures.value) refl
+    (set_there old.requests.items c.args.number place can.comes c.index_mut.ensures.value) refl c.unserved.result c.unserved.ensures

@@ -36,6 +36,7 @@ begin-requires-clause-left g c = begin_left c.args.number [] c.args.context.now 
 pub returns-in_default : goal.returns-in_default
 returns-in_default g c name =
     takes_unmade c.args.input.now c.args.service.now c.args.self.now _ (c.requires.can []).of refl c.push_reserved.ensures.capacity c.args.number name c.args.context.now c.push_reserved.ensures.items refl
+    c.unserved.result c.unserved.ensures
 
 pub returns-in-Ok-begin : goal.returns-in-Ok-begin
 returns-in-Ok-begin g c name =
@@ -48,4 +49,4 @@ returns-in-Ok-begin g c name =
 pub returns-in-Err : goal.returns-in-Err
 returns-in-Err g c name =
     takes_refused c.args.input.now c.args.service.now c.args.self.now _ c.in-Err.ensures.of refl c.push_reserved-in-Err.ensures.capacity c.args.number name c.args.context.now c.push_reserved-in-Err.ensures.items
-    c.in-Err.ensures.made c.in-Err.ensures.others
+    c.in-Err.ensures.made c.in-Err.ensures.others c.unserved-in-Err.result c.unserved-in-Err.ensures

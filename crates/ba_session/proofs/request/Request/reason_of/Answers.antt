@@ -12,12 +12,12 @@ try_pair-requires-clause-problem c =
 
 pub returns-in-Pair : goal.returns-in-Pair
 returns-in-Pair c =
-    refuted c.args.policy.now c.args.self.now c.args.query.now c.args.leaf c.in_ok-refutal.refutal
+    refuted c.args.policy.now c.args.self.now c.args.query.now c.args.leaf c.requires.problem c.in_ok-refutal.refutal
     (refutal_seen c.args.policy.now c.deref.result.now c.args.self.now c.args.query.now c.deref-2.result.now c.deref.ensures c.deref-2.ensures
     c.args.leaf c.in_ok-refutal.refutal c.in_ok-refutal.ensures) c.in-Pair.pair c.in-Pair.is
 
 pub returns-in-Stuck : goal.returns-in-Stuck
 returns-in-Stuck c =
-    stuck c.args.policy.now c.args.self.now c.args.query.now c.args.leaf c.in_ok-refutal.refutal
+    stuck c.args.policy.now c.args.self.now c.args.query.now c.args.leaf c.requires.problem c.in_ok-refutal.refutal
     (refutal_seen c.args.policy.now c.deref.result.now c.args.self.now c.args.query.now c.deref-2.result.now c.deref.ensures c.deref-2.ensures
     c.args.leaf c.in_ok-refutal.refutal c.in_ok-refutal.ensures) c.in-Stuck.leaf c.in-Stuck.clause c.in-Stuck.is

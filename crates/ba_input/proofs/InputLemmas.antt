@@ -1,0 +1,257 @@
+-- How the input is read, stage by stage.
+use Rattle.std.proofs.Common.{false, ◌≡◌, ◌∙◌, ◌<◌, ◌≤◌, ◌+◌, [], ◌∷◌, ◌++◌, inr, refl, sym, ap, subst, ℕ, suc, List, Result, Ok, Err, length, drop, take, get_or, add-one, drop-cons, Option, Some, None, length-append, arith}
+use Rattle.std.proofs.lemmas.List.{take_more}
+use Rattle.std.proofs.lemmas.List.Elements.{All-append, All-cons, All-nil}
+use Rattle.std.specs.List.{All, AllZip}
+use Rattle.std.specs.Option.{option_to_list}
+use Rattle.std.specs.Prelude.{IfSome}
+use Rattle.ba_model.specs.RuleFaults.{RuleFits}
+use Rattle.ba_proof.specs.Checked.{IsPolicy}
+use Rattle.ba_proof.specs.declared.proof.Proof.{Proof}
+use Rattle.ba_model.specs.SchemaFaults.{AreTables}
+use Rattle.ba_model.specs.declared.schema.Rule.{Rule}
+use Rattle.ba_kernel.specs.Tests as kernel
+use Rattle.ba_model.specs.Conform.{RowFits}
+use Rattle.ba_model.specs.Fit.{PolicyFits}
+use Rattle.ba_model.specs.Readings.{widened}
+use Rattle.ba_model.specs.declared.policy.Policy.{Policy}
+use Rattle.ba_model.specs.declared.schema.Schema.{Schema}
+use Rattle.ba_model.specs.declared.schema.Table.{Table}
+use Rattle.ba_model.specs.declared.value.Value.{Value}
+use Rattle.ba_model.specs.Limits.{most_budget, most_file_bytes, most_workers}
+use Rattle.ba_outside.specs.Seen.{FilesSeen}
+use Rattle.ba_plan.proofs.Plans.{found_ok, memory_now, then_err, then_ok}
+use Rattle.ba_plan.specs.Follows.{Follows, Gives, Got}
+use Rattle.ba_plan.specs.Plan.{done, found}
+use Rattle.ba_plan.specs.declared.stop.Stop.{Stop}
+use Rattle.ba_plan.specs.declared.stop.Stop.TheVariants.{NoMemory}
+use Rattle.ba_policy.specs.Reading.{policy_of}
+use Rattle.ba_script.proofs.TrackingLemmas.{published-push}
+use Rattle.ba_script.specs.Reading.{published, published_by}
+use Rattle.ba_script.specs.Scripts.{IsScript}
+use Rattle.ba_script.specs.declared.entry.Script.{Script}
+use Rattle.ba_script.specs.declared.entry.ScriptEntry.{ScriptEntry}
+use Rattle.ba_script.specs.declared.entry.ScriptEntry.TheVariants as said
+use Rattle.ba_sql_ddl.specs.Reading.{schema_of}
+use Rattle.ba_tables.specs.Broken.{checked}
+use Rattle.ba_tables.specs.TableSet.{TableSet}
+use Rattle.ba_input.specs.Inputs.{IsInput, RowsOfTables}
+use Rattle.ba_input.specs.Published.{IsSetOf}
+use Rattle.ba_input.specs.Reading.{Names, ProofNames, check_plan, policy_and_proof_plan, policy_plan, proof_plan, proof_reading_of, published_plan, reading_of, rest_plan, rows_plan, run_plan, script_plan, set_plan, sets_plan, table_plan, tables_plan, workload_plan, workload_reading}
+use Rattle.ba_input.specs.Refusals.{broken_refusal, ddl_refusal, policy_refusal}
+use Rattle.ba_input.specs.declared.input.Input.{Input}
+use Rattle.ba_wire.specs.declared.fault.Fault.{Fault}
+use Rattle.ba_input.specs.declared.task.Task.TheVariants as task
+use Rattle.ba_input.specs.declared.task.Told.TheVariants.{Lines, Summary}
+
+no_rule : (s : Schema) (rules : List Rule) → rules ≡ [] → All (RuleFits s) rules
+no_rule s rules none = subst (All (RuleFits s)) (sym none) (All-nil (RuleFits s))
+
+-- what was read belongs together
+pub input_fits : (policy : Policy) (tables : TableSet) (script : Script) (sets : List TableSet) (workers budget : ℕ) → PolicyFits policy → IsSetOf policy.schema tables → IsScript policy.params script
+    → All (IsSetOf policy.schema) sets → length sets ≡ published script.entries → (0 < workers) × (workers ≤ most_workers) → budget ≤ most_budget → AreTables policy.schema.tables → policy.schema.rules ≡ []
+    → IsInput (record { policy = policy; tables = tables; script = script; published = sets; workers = workers; budget = budget; loaded = []; orders = 1 })
+input_fits policy tables script sets workers budget fits set is all count many few tables_are none = record {
+  policy = fits;
+  schema = set.schema_is;
+  conform = set.conform;
+  script = is;
+  sets = all;
+  one_each = count;
+  workers = many;
+  budget = few;
+  tables_are = tables_are;
+  rules = no_rule policy.schema policy.schema.rules none;
+  none_loaded = refl;
+  one_order = refl;
+}
+
+zip_end : {A B : Type 0} (R : A → B → Type 0) (xs : List A) (ys : List B) (x : A) (y : B) → AllZip R xs ys → R x y → AllZip R (xs ++ x ∷ []) (ys ++ y ∷ [])
+zip_end R [] [] x y h last = (last, tt)
+zip_end R [] (b ∷ bs) x y h last = absurd h
+zip_end R (a ∷ xs) [] x y h last = absurd h
+zip_end R (a ∷ xs) (b ∷ ys) x y h last = (h.0, zip_end R xs ys x y h.1 last)
+
+-- the rows of one more table
+pub fit_more : (tables : List Table) (lists : List (List (List Value))) (i : ℕ) (table : Table) (list : List (List Value)) → i < length tables → table ≡ get_or tables i table → RowsOfTables (take i tables) lists → All (RowFits table) list → RowsOfTables (take (i + 1) tables) (lists ++ list ∷ [])
+fit_more tables lists i table list below is fit rows =
+    subst (λ z. RowsOfTables z (lists ++ list ∷ [])) (sym (take_more tables i table below ∙ ap (λ z. take i tables ++ z ∷ []) (sym is)))
+    (zip_end (λ t rs. All (RowFits t) rs) (take i tables) lists table list fit rows)
+
+-- the next table, and then those behind it
+pub rows_step : (set : List ℕ) (tables : List Table) (lists : List (List (List Value))) (i : ℕ) (table : Table) (s m t : FilesSeen) (r : Result (List (List (List Value))) (Stop Fault)) (list : List (List Value)) → i < length tables → table ≡ get_or tables i table → Follows (table_plan set table) s m (Ok list)
+    → Follows (rows_plan set (drop (i + 1) tables) (lists ++ list ∷ [])) m t r → Follows (rows_plan set (drop i tables) lists) s t r
+rows_step set tables lists i table s m t r list below is one rest =
+    subst (λ z. Follows (rows_plan set z lists) s t r) (sym (drop-cons tables i table below ∙ ap (λ z. z ∷ drop (suc i) tables) (sym is)))
+    (then_ok (table_plan set table) (λ z. rows_plan set (drop (suc i) tables) (lists ++ z ∷ [])) s m t list r one
+    (subst (λ z. Follows (rows_plan set (drop z tables) (lists ++ list ∷ [])) m t r) (add-one i) rest))
+
+-- a reading of what was read
+found_gives : {X : Type 0} (x : Result X Fault) (s : FilesSeen) (r : Result X (Stop Fault)) → Gives r x → Follows (found x) s s r
+found_gives (Ok x) s r h = (h, refl)
+found_gives (Err e) s r h = (h, refl)
+
+-- the rows of all tables, and then what their keys and links come to
+pub tables_ok : (set : List ℕ) (schema : Schema) (lists : List (List (List Value))) (s t : FilesSeen) (r : Result TableSet (Stop Fault)) → Follows (rows_plan set schema.tables []) s t (Ok lists)
+    → Gives r (widened (broken_refusal set schema) (checked schema (record { tables = lists }))) → Follows (tables_plan set schema) s t r
+tables_ok set schema lists s t r rows is =
+    then_ok (rows_plan set schema.tables []) (λ z. found (widened (broken_refusal set schema) (checked schema (record { tables = z })))) s t t lists r rows
+    (found_gives (widened (broken_refusal set schema) (checked schema (record { tables = lists }))) t r is)
+
+pub tables_err : (set : List ℕ) (schema : Schema) (s t : FilesSeen) (e : Stop Fault) → Follows (rows_plan set schema.tables []) s t (Err e) → Follows (tables_plan set schema) s t (Err e)
+tables_err set schema s t e rows =
+    then_err (rows_plan set schema.tables []) (λ z. found (widened (broken_refusal set schema) (checked schema (record { tables = z })))) s t e rows
+
+-- ---- the table sets that a script publishes
+
+-- the line publishes a set
+pub set_ok : (name set : List ℕ) (number : ℕ) (schema : Schema) (entry : ScriptEntry) (tables : TableSet) (s t : FilesSeen) → entry ≡ said.Publish number set → name ≡ set → Follows (tables_plan name schema) s t (Ok tables)
+    → Follows (set_plan schema entry) s t (Ok (Some tables))
+set_ok name set number schema entry tables s t is same follows =
+    subst (λ z. Follows (set_plan schema z) s t (Ok (Some tables))) (sym is)
+    (then_ok (tables_plan set schema) (λ z. done (Some z)) s t t tables (Ok (Some tables)) (subst (λ z. Follows (tables_plan z schema) s t (Ok tables)) same follows) (refl, refl))
+
+pub set_err : (name set : List ℕ) (number : ℕ) (schema : Schema) (entry : ScriptEntry) (s t : FilesSeen) (e : Stop Fault) → entry ≡ said.Publish number set → name ≡ set → Follows (tables_plan name schema) s t (Err e)
+    → Follows (set_plan schema entry) s t (Err e)
+set_err name set number schema entry s t e is same follows =
+    subst (λ z. Follows (set_plan schema z) s t (Err e)) (sym is)
+    (then_err (tables_plan set schema) (λ z. done (Some z)) s t e (subst (λ z. Follows (tables_plan z schema) s t (Err e)) same follows))
+
+-- the next line's, and then those behind it
+pub sets_step : (schema : Schema) (entries : List ScriptEntry) (sets more : List TableSet) (i : ℕ) (entry : ScriptEntry) (set : Option TableSet) (s m t : FilesSeen) (r : Result (List TableSet) (Stop Fault)) → i < length entries → entry ≡ get_or entries i entry → Follows (set_plan schema entry) s m (Ok set)
+    → more ≡ sets ++ option_to_list set → Follows (sets_plan schema (drop (i + 1) entries) more) m t r → Follows (sets_plan schema (drop i entries) sets) s t r
+sets_step schema entries sets more i entry set s m t r below is one kept rest =
+    subst (λ z. Follows (sets_plan schema z sets) s t r) (sym (drop-cons entries i entry below ∙ ap (λ z. z ∷ drop (suc i) entries) (sym is)))
+    (then_ok (set_plan schema entry) (λ z. sets_plan schema (drop (suc i) entries) (sets ++ option_to_list z)) s m t set r one
+    (subst (λ z. Follows (sets_plan schema (drop z entries) (sets ++ option_to_list set)) m t r) (add-one i) (subst (λ z. Follows (sets_plan schema (drop (i + 1) entries) z) m t r) kept rest)))
+
+-- the next line's set can't be read
+pub sets_err : (schema : Schema) (entries : List ScriptEntry) (sets : List TableSet) (i : ℕ) (entry : ScriptEntry) (s t : FilesSeen) (e : Stop Fault) → i < length entries → entry ≡ get_or entries i entry → Follows (set_plan schema entry) s t (Err e)
+    → Follows (sets_plan schema (drop i entries) sets) s t (Err e)
+sets_err schema entries sets i entry s t e below is one =
+    subst (λ z. Follows (sets_plan schema z sets) s t (Err e)) (sym (drop-cons entries i entry below ∙ ap (λ z. z ∷ drop (suc i) entries) (sym is)))
+    (then_err (set_plan schema entry) (λ z. sets_plan schema (drop (suc i) entries) (sets ++ option_to_list z)) s t e one)
+
+-- there is no memory to keep it
+pub sets_memory : (schema : Schema) (entries : List ScriptEntry) (sets : List TableSet) (i : ℕ) (entry : ScriptEntry) (set : Option TableSet) (s t : FilesSeen) → i < length entries → entry ≡ get_or entries i entry → Follows (set_plan schema entry) s t (Ok set)
+    → Follows (sets_plan schema (drop i entries) sets) s t (Err NoMemory)
+sets_memory schema entries sets i entry set s t below is one =
+    subst (λ z. Follows (sets_plan schema z sets) s t (Err NoMemory)) (sym (drop-cons entries i entry below ∙ ap (λ z. z ∷ drop (suc i) entries) (sym is)))
+    (then_ok (set_plan schema entry) (λ z. sets_plan schema (drop (suc i) entries) (sets ++ option_to_list z)) s t t set (Err NoMemory) one
+    (memory_now (sets_plan schema (drop (suc i) entries) (sets ++ option_to_list set)) t))
+
+found_fits : (schema : Schema) (set : Option TableSet) → IfSome set (IsSetOf schema) → All (IsSetOf schema) (option_to_list set)
+found_fits schema None h = All-nil (IsSetOf schema)
+found_fits schema (Some tables) h = All-cons (IsSetOf schema) tables [] h (All-nil (IsSetOf schema))
+
+pub sets_fit : (schema : Schema) (sets more : List TableSet) (set : Option TableSet) → All (IsSetOf schema) sets → IfSome set (IsSetOf schema) → more ≡ sets ++ option_to_list set → All (IsSetOf schema) more
+sets_fit schema sets more set all h kept = subst (All (IsSetOf schema)) (sym kept) (All-append (IsSetOf schema) sets (option_to_list set) all (found_fits schema set h))
+
+published_more : (n : ℕ) (entry : ScriptEntry) → published_by n entry ≡ n + published_by 0 entry
+published_more n (said.Begin request name context) = omega arith
+published_more n (said.Ask request name text) = omega arith
+published_more n (said.End request name) = omega arith
+published_more n (said.Publish number set) = omega arith
+
+pub sets_count : (entries : List ScriptEntry) (sets more : List TableSet) (i : ℕ) (entry : ScriptEntry) (set : Option TableSet) → i < length entries → entry ≡ get_or entries i entry → length sets ≡ published (take i entries)
+    → length (option_to_list set) ≡ published_by 0 entry → more ≡ sets ++ option_to_list set → length more ≡ published (take (i + 1) entries)
+sets_count entries sets more i entry set below is before one kept =
+    let front : take (i + 1) entries ≡ take i entries ++ entry ∷ [] = take_more entries i entry below ∙ ap (λ z. take i entries ++ z ∷ []) (sym is) in
+    let whole : published (take (i + 1) entries) ≡ published_by (published (take i entries)) entry = ap published front ∙ published-push (take i entries) entry in
+    omega (arith, ap length kept, length-append sets (option_to_list set), before, one, whole, published_more (published (take i entries)) entry)
+
+-- all sets, and then the input
+pub published_ok : (workers budget : ℕ) (policy : Policy) (tables : TableSet) (script : Script) (schema : Schema) (entries : List ScriptEntry) (sets : List TableSet) (loaded : List kernel.Proof) (s t : FilesSeen) → schema ≡ policy.schema → entries ≡ script.entries → loaded ≡ []
+    → Follows (sets_plan schema entries []) s t (Ok sets) → Follows (published_plan workers budget policy tables script) s t (Ok (record { policy = policy; tables = tables; script = script; published = sets; workers = workers; budget = budget; loaded = loaded; orders = 1 }))
+published_ok workers budget policy tables script schema entries sets loaded s t same is none follows =
+    then_ok (sets_plan policy.schema script.entries []) (λ z. done (record { policy = policy; tables = tables; script = script; published = z; workers = workers; budget = budget; loaded = []; orders = 1 })) s t t sets _
+    (subst (λ z. Follows (sets_plan z script.entries []) s t (Ok sets)) same (subst (λ z. Follows (sets_plan schema z []) s t (Ok sets)) is follows))
+    (ap (λ z. Ok (record { policy = policy; tables = tables; script = script; published = sets; workers = workers; budget = budget; loaded = z; orders = 1 })) (sym none), refl)
+
+pub published_err : (workers budget : ℕ) (policy : Policy) (tables : TableSet) (script : Script) (schema : Schema) (entries : List ScriptEntry) (s t : FilesSeen) (e : Stop Fault) → schema ≡ policy.schema → entries ≡ script.entries
+    → Follows (sets_plan schema entries []) s t (Err e) → Follows (published_plan workers budget policy tables script) s t (Err e)
+published_err workers budget policy tables script schema entries s t e same is follows =
+    then_err (sets_plan policy.schema script.entries []) (λ z. done (record { policy = policy; tables = tables; script = script; published = z; workers = workers; budget = budget; loaded = []; orders = 1 })) s t e
+    (subst (λ z. Follows (sets_plan z script.entries []) s t (Err e)) same (subst (λ z. Follows (sets_plan schema z []) s t (Err e)) is follows))
+
+-- the schema, the policy, the tables, and then the rest
+pub named_ok : (names : Names) (bytes text : List ℕ) (schema : Schema) (policy : Policy) (tables : TableSet) (s m n o t : FilesSeen) (r : Result Input (Stop Fault))
+    → Got names.schema most_file_bytes bytes s m → widened (ddl_refusal names.schema) (schema_of bytes) ≡ Ok schema
+    → Got names.policy most_file_bytes text m n → widened (policy_refusal names.policy) (policy_of schema text) ≡ Ok policy
+    → Follows (tables_plan names.tables schema) n o (Ok tables) → Follows (script_plan names.script names.workers names.budget policy tables) o t r → Follows (reading_of names) s t r
+named_ok names bytes text schema policy tables s m n o t r got read given is set rest = inr (
+  bytes,
+  m,
+  got,
+  found_ok (widened (ddl_refusal names.schema) (schema_of bytes)) (policy_plan names) m t r schema read
+      (inr (
+        text,
+        n,
+        given,
+        found_ok (widened (policy_refusal names.policy) (policy_of schema text)) (rest_plan names schema) n t r policy is
+            (then_ok (tables_plan names.tables schema) (script_plan names.script names.workers names.budget policy) n o t tables r set rest),
+      )),
+)
+
+-- the schema, the policy, and tables without a reading
+pub named_err : (names : Names) (bytes text : List ℕ) (schema : Schema) (policy : Policy) (s m n t : FilesSeen) (e : Stop Fault)
+    → Got names.schema most_file_bytes bytes s m → widened (ddl_refusal names.schema) (schema_of bytes) ≡ Ok schema
+    → Got names.policy most_file_bytes text m n → widened (policy_refusal names.policy) (policy_of schema text) ≡ Ok policy
+    → Follows (tables_plan names.tables schema) n t (Err e) → Follows (reading_of names) s t (Err e)
+named_err names bytes text schema policy s m n t e got read given is set = inr (
+  bytes,
+  m,
+  got,
+  found_ok (widened (ddl_refusal names.schema) (schema_of bytes)) (policy_plan names) m t (Err e) schema read
+      (inr (
+        text,
+        n,
+        given,
+        found_ok (widened (policy_refusal names.policy) (policy_of schema text)) (rest_plan names schema) n t (Err e) policy is
+            (then_err (tables_plan names.tables schema) (script_plan names.script names.workers names.budget policy) n t e set),
+      )),
+)
+
+-- the schema, the policy, and then the proof
+pub proof_ok : (names : ProofNames) (bytes text : List ℕ) (schema : Schema) (policy : Policy) (s m n t : FilesSeen) (r : Result Proof (Stop Fault))
+    → Got names.schema most_file_bytes bytes s m → widened (ddl_refusal names.schema) (schema_of bytes) ≡ Ok schema
+    → Got names.policy most_file_bytes text m n → widened (policy_refusal names.policy) (policy_of schema text) ≡ Ok policy
+    → Follows (proof_plan names.proof policy) n t r → Follows (proof_reading_of names) s t r
+proof_ok names bytes text schema policy s m n t r got read given is rest = inr (
+  bytes,
+  m,
+  got,
+  found_ok (widened (ddl_refusal names.schema) (schema_of bytes)) (policy_and_proof_plan names) m t r schema read
+      (inr (text, n, given, found_ok (widened (policy_refusal names.policy) (policy_of schema text)) (proof_plan names.proof) n t r policy is rest)),
+)
+
+-- ---- the commands
+
+-- the input, and then the run of it
+pub run_ok : (names : Names) (input : Input) (s t : FilesSeen) → Follows (reading_of names) s t (Ok input) → Follows (run_plan names) s t (Ok (task.Run input Lines))
+run_ok names input s t follows = then_ok (reading_of names) (λ z. done (task.Run z Lines)) s t t input (Ok (task.Run input Lines)) follows (refl, refl)
+
+pub run_err : (names : Names) (s t : FilesSeen) (e : Stop Fault) → Follows (reading_of names) s t (Err e) → Follows (run_plan names) s t (Err e)
+run_err names s t e follows = then_err (reading_of names) (λ z. done (task.Run z Lines)) s t e follows
+
+-- the proof, and then the check of it
+pub check_ok : (names : ProofNames) (proof : Proof) (s t : FilesSeen) → Follows (proof_reading_of names) s t (Ok proof) → Follows (check_plan names) s t (Ok (task.Check proof))
+check_ok names proof s t follows = then_ok (proof_reading_of names) (λ z. done (task.Check z)) s t t proof (Ok (task.Check proof)) follows (refl, refl)
+
+pub check_err : (names : ProofNames) (s t : FilesSeen) (e : Stop Fault) → Follows (proof_reading_of names) s t (Err e) → Follows (check_plan names) s t (Err e)
+check_err names s t e follows = then_err (proof_reading_of names) (λ z. done (task.Check z)) s t e follows
+
+-- a policy that was read for a schema that was read
+pub policy_is : (policy : Policy) → PolicyFits policy → AreTables policy.schema.tables → policy.schema.rules ≡ [] → IsPolicy policy
+policy_is policy fits tables none = record {
+  tables = tables;
+  rules = no_rule policy.schema policy.schema.rules none;
+  views = fits;
+}
+
+-- the run of a workload
+pub workload_ok : (seed requests workers : ℕ) (input : Input) (s : FilesSeen) → Follows (workload_reading seed requests workers) s s (Ok input) → Follows (workload_plan seed requests workers false) s s (Ok (task.Run input Summary))
+workload_ok seed requests workers input s follows = then_ok (workload_reading seed requests workers) (λ z. done (task.Run z Summary)) s s s input (Ok (task.Run input Summary)) follows (refl, refl)
+
+pub workload_err : (seed requests workers : ℕ) (s : FilesSeen) (e : Stop Fault) → Follows (workload_reading seed requests workers) s s (Err e) → Follows (workload_plan seed requests workers false) s s (Err e)
+workload_err seed requests workers s e follows = then_err (workload_reading seed requests workers) (λ z. done (task.Run z Summary)) s s e follows

@@ -1,0 +1,110 @@
+//! Reads what the words of a command name.
+ghost use Rattle.std.specs.Prelude.{◌<◌, ◌≤◌, IfOk, IfSome, map, string_bytes};
+ghost use Rattle.ba_command.specs.Words.{budget_of, workers_of};
+ghost use Rattle.ba_model.specs.Limits.{most_budget, most_workers};
+ghost use Rattle.ba_plan.specs.Follows.{Follows};
+ghost use Rattle.ba_input.specs.Reading.{command_plan, plan_of, run_plan};
+ghost use Rattle.ba_input.specs.Tasks.{IsTask};
+
+use crate::proof_input::{NamedProof, read_check};
+use crate::run_input::{Named, read_named};
+use crate::task::{Task, Told};
+use crate::workload::read_workload;
+use ba_command::{Command, WordsFault, read_words};
+use ba_model::Failure;
+use ba_outside::Files;
+use ba_plan::Stop;
+use ba_wire::Fault;
+use std::alloc::Global;
+
+fn read_run<F: Files>(alloc: Global, files: &mut F, named: &Named<'_>) -> Result<Task, Stop<Fault>>
+    requires workers { (0 < named.now.workers) × (named.now.workers ≤ most_workers) }
+    requires budget { named.now.budget ≤ most_budget }
+    ensures follows { Follows (run_plan (record {
+      schema = named.now.schema.now;
+      policy = named.now.policy.now;
+      tables = named.now.tables.now;
+      script = named.now.script.now;
+      workers = named.now.workers;
+      budget = named.now.budget;
+    }))
+        (F.seen files.old) (F.seen files.new) result }
+    ensures task { IfOk result IsTask }
+{
+    let input = read_named(alloc, files, named)?;
+    Ok(Task::Run(input, Told::Lines))
+}
+
+fn read_command<F: Files>(
+    alloc: Global,
+    command: &Command,
+    files: &mut F,
+) -> Result<Task, Stop<Fault>>
+    requires workers { IfSome (workers_of command.now) (λ n. (0 < n) × (n ≤ most_workers)) }
+    requires budget { budget_of command.now ≤ most_budget }
+    ensures follows { Follows (command_plan command.now)
+        (F.seen files.old) (F.seen files.new) result }
+    ensures task { IfOk result IsTask }
+{
+    match command {
+        Command::Run {
+            schema,
+            policy,
+            tables,
+            script,
+            workers,
+            budget,
+        } => {
+            let named = Named {
+                schema: schema.as_str(),
+                policy: policy.as_str(),
+                tables: tables.as_str(),
+                script: script.as_str(),
+                workers: *workers,
+                budget: *budget,
+            };
+            read_run(alloc, files, &named)
+        }
+        Command::Gen {
+            seed,
+            requests,
+            workers,
+            print,
+        } => read_workload(alloc, *seed, *requests, *workers, *print),
+        Command::Check {
+            schema,
+            policy,
+            proof,
+        } => {
+            let named = NamedProof {
+                schema: schema.as_str(),
+                policy: policy.as_str(),
+                proof: proof.as_str(),
+            };
+            read_check(alloc, files, &named)
+        }
+    }
+}
+
+/// Reads what the words name, and the table sets that a script publishes: file by file, in order, up
+/// to the first fault. What was read belongs together.
+///
+/// # Errors
+/// `Refused` where the words are no command's form, a file has no reading, rows break a key or a link,
+/// or a count is above its limit: never with [`Fault::Read`]. `Read` and `TooLong` name the file that
+/// was asked for last. `NoMemory` may come at any point.
+pub fn read_task<F: Files>(
+    alloc: Global,
+    words: &[String],
+    files: &mut F,
+) -> Result<Task, Stop<Fault>>
+    ensures follows { Follows (plan_of (map string_bytes words.now))
+        (F.seen files.old) (F.seen files.new) result }
+    ensures task { IfOk result IsTask }
+{
+    match read_words(alloc, words) {
+        Ok(command) => read_command(alloc, &command, files),
+        Err(Failure::Fault(WordsFault::NoForm)) => Err(Stop::Refused(Fault::Words)),
+        Err(Failure::NoMemory) => Err(Stop::NoMemory),
+    }
+}

@@ -1,0 +1,17 @@
+//! What a command is given, and how it is read, file by file, over the readers alone.
+#![tactic(auto)]
+
+mod command;
+mod detail;
+mod input;
+mod proof_input;
+mod refusal;
+mod run_input;
+mod task;
+mod workload;
+
+pub use command::read_task;
+pub use detail::Detail;
+pub use input::Input;
+pub use refusal::fault_of;
+pub use task::{Task, Told};

@@ -1,0 +1,25 @@
+//! What is done, with what was read for it.
+
+use crate::input::Input;
+use ba_model::Str;
+use ba_proof::Proof;
+
+/// What is told of a run. How it is told is no part of what the run is given.
+#[derive(Clone, Copy, Debug, PartialEq, Eq)]
+pub enum Told {
+    /// A line for each line of the script, in order, and then the summary.
+    Lines,
+    /// The summary alone.
+    Summary,
+}
+
+/// What is done, with what was read for it.
+#[derive(Drop)]
+pub enum Task {
+    /// The questions of a script are answered or blocked, and this is told of it.
+    Run(Input, Told),
+    /// A text is printed, line by line.
+    Print(Str),
+    /// A proof is checked.
+    Check(Proof),
+}

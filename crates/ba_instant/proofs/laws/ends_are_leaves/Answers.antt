@@ -1,5 +1,0 @@
-use Rattle.ba_instant.proofs.NextLemmas.{ends_are_leaves as are_leaves}
-use Rattle.ba_instant.proofs.laws.ends_are_leaves.Goals as goal
-
-pub returns : goal.returns
-returns c = are_leaves

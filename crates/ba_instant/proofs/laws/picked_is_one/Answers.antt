@@ -1,5 +1,0 @@
-use Rattle.ba_instant.proofs.PickLemmas.{picked_one}
-use Rattle.ba_instant.proofs.laws.picked_is_one.Goals as goal
-
-pub returns : goal.returns
-returns c = picked_one

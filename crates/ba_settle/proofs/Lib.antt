@@ -1,0 +1,3 @@
+pub mod OrderLemmas
+mod PickLemmas
+pub mod SearchLemmas

@@ -1,7 +1,0 @@
-use Rattle.std.proofs.Common.{rules, append_assoc}
-use Rattle.ba_top.specs.Path.{path_of}
-use Rattle.ba_top.proofs.refusal.path.Goals as goal
-
-pub returns : goal.returns
-unfolding path_of
-returns c = search (rules, append_assoc)
