@@ -20,7 +20,7 @@ use Rattle.ba_general.proofs.MakesLemmas.{zip_wide}
 use Rattle.ba_general.proofs.PatternFitsLemmas.{pattern_fits}
 use Rattle.ba_general.proofs.StandsLemmas.{stands_all}
 use Rattle.ba_general.specs.Conditions.{HasOperands, IsAcceptedFully, IsCondition, PatternFits}
-use Rattle.ba_general.specs.Generals.{HasTooMany, IsGeneralised, IsOfQuestion, IsTold, IsToldBy, IsTooWide}
+use Rattle.ba_general.specs.Generals.{HasTooMany, HasTooManyCases, IsGeneralised, IsOfQuestion, IsTold, IsToldBy, IsTooWide}
 use Rattle.ba_general.specs.Leaving.{AreKept}
 use Rattle.ba_general.specs.Patterns.{IsPattern, assuming}
 use Rattle.ba_general.specs.Retold.{AreNamed, AreRenumbered, AreWithVariables, IsRenumbered, IsStepWith}
@@ -118,6 +118,11 @@ pattern_of : (proof : Proof) (p : Problem) (ns numbers : List ℕ) (it : Pattern
     IsPattern proof.problem numbers it.problem it.values
 pattern_of proof p ns numbers it same same_numbers h =
     subst (λ (q : Problem). IsPattern q numbers it.problem it.values) same (subst (λ ms. IsPattern p ms it.problem it.values) same_numbers h)
+
+pub wide_by_cases : (proof : Proof) (p : Problem) (taken : List Step) → p ≡ proof.problem → taken ≡ proof.steps → HasTooManyCases p taken → IsTooWide proof
+wide_by_cases proof p taken same same_steps many =
+    IsTooWide.by_cases
+    (subst (λ (q : Problem). HasTooManyCases q proof.steps) same (subst (λ (steps : List Step). HasTooManyCases p steps) same_steps many))
 
 pub wide_by_entries : (proof : Proof) (p : Problem) (taken kept : List Step) (numbers : List ℕ) → p ≡ proof.problem → taken ≡ proof.steps → AreKept p taken kept →
     AreNamed kept numbers → most_entries < length numbers → IsTooWide proof

@@ -29,6 +29,7 @@ pub mod PatternFitsLemmas
 pub mod InstanceLemmas
 pub mod GeneralLemmas
 pub mod OnePatternLemmas
+pub mod StayingLemmas
 pub mod TooWideLemmas
 pub mod WholePassLemmas
 pub mod OwnStepsLemmas

@@ -8,6 +8,7 @@ use Rattle.ba_kernel.specs.declared.problem.Problem.{Problem}
 use Rattle.ba_kernel.specs.declared.step.Step.{Step}
 use Rattle.ba_kernel.specs.declared.step.Step.TheVariants as steps
 use Rattle.ba_model.proofs.ElementLemmas.{Contains-cases, Contains-head, Contains-later}
+use Rattle.ba_general.proofs.StayingLemmas.{own_names}
 use Rattle.ba_general.specs.Generals.{IsTooWide, NamesTooMuch, WideByOwnSteps}
 use Rattle.ba_general.specs.Leaving.{AreKept, AreOthers, Gaps, IsMoved, IsMovedBy, IsWithout, Leaves, gap_on, gaps_after, gaps_with, made, middle}
 use Rattle.ba_general.specs.Retold.{AreNamed, Names}
@@ -68,6 +69,9 @@ own_named p taken kept numbers steps h k d below =
     (named.0, among_own named.0 (get_or numbers k d) p taken _ _ kept steps named.1)
 
 pub by_own_steps : WideByOwnSteps
+by_own_steps proof (IsTooWide.by_cases (numbers, of, many)) =
+    NamesTooMuch.by_entries numbers of.rising
+    (λ k d below. own_names proof.problem proof.steps (get_or numbers k d) ((of.exact (get_or numbers k d)).0 (Contains-get_or numbers k d below))) many
 by_own_steps proof (IsTooWide.by_entries {kept = kept} {numbers = numbers} steps named many) =
     NamesTooMuch.by_entries numbers named.rising (own_named proof.problem proof.steps kept numbers steps named) many
 by_own_steps proof (IsTooWide.by_operands {kept = kept} {numbers = numbers} {g = g} {values = values} keeps many) =

@@ -7,6 +7,7 @@ use Rattle.ba_kernel.specs.declared.problem.Problem.{Problem}
 use Rattle.ba_kernel.specs.declared.step.Step.{Step}
 use Rattle.ba_general.proofs.OnePatternLemmas.{pattern_one}
 use Rattle.ba_general.proofs.OneRestLemmas.{kept_one}
+use Rattle.ba_general.proofs.StayingLemmas.{kept_names, no_longer}
 use Rattle.ba_general.specs.Generals.{IsTooWide, TooWideIsNone}
 use Rattle.ba_general.specs.Patterns.{IsPattern}
 use Rattle.ba_general.specs.Retold.{AreNamed}
@@ -18,6 +19,11 @@ numbers_one taken xs ys h k =
     same_sorted nat_cmp_total exact_unsigned xs ys h.rising k.rising (λ q there. (k.exact q).1 ((h.exact q).0 there)) (λ q there. (h.exact q).1 ((k.exact q).0 there))
 
 pub too_wide_none : TooWideIsNone
+too_wide_none proof template (IsTooWide.by_cases (numbers, of, many)) it =
+    let few : length numbers ≤ length it.numbers =
+    no_longer numbers it.numbers of.rising it.keeps.named.rising
+    (λ n there. (it.keeps.named.exact n).1 (kept_names proof.problem proof.steps it.kept n it.keeps.steps ((of.exact n).0 there))) in
+    absurd (omega (arith, many, few, it.few_entries))
 too_wide_none proof template (IsTooWide.by_entries {kept = kept} {numbers = numbers} steps named many) it =
     let kept_same : kept ≡ it.kept = kept_one proof.problem proof.steps kept it.kept steps it.keeps.steps in
     let numbers_same : numbers ≡ it.numbers = numbers_one it.kept numbers it.numbers (subst (λ taken. AreNamed taken numbers) kept_same named) it.keeps.named in

@@ -16,7 +16,7 @@ use Rattle.ba_template.specs.Found.{Matches, with_values}
 use Rattle.ba_template.specs.Templates.{EachVarStands}
 use Rattle.ba_general.specs.Conditions.{HasParams, IsAcceptedFully, IsCondition, operands_with}
 use Rattle.ba_general.specs.Dropping.{IsAccepted, NoneCanBeDropped}
-use Rattle.ba_general.specs.Leaving.{AreKept}
+use Rattle.ba_general.specs.Leaving.{AreKept, AreOfCases}
 use Rattle.ba_general.specs.Patterns.{IsPattern, assuming, entry_at}
 use Rattle.ba_general.specs.Retold.{AreNamed, AreRenumbered, AreWithVariables, Names}
 use Rattle.ba_general.specs.declared.pattern.Pattern.{Pattern}
@@ -42,8 +42,15 @@ pub record Keeps (proof : Proof) (kept : List Step) (numbers : List ℕ) (g : Pr
 abbrev pub HasTooMany : Problem → Type 0
 HasTooMany g = most_operands < length g.vars + length g.policy.params
 
--- the kept steps name too many entries, or the pattern has too many variables and parameters
+-- the steps name more entries of several cases or none than a template may have
+abbrev pub HasTooManyCases : Problem → List Step → Type 0
+HasTooManyCases p taken = (numbers : List ℕ) × AreOfCases p taken numbers × (most_entries < length numbers)
+
+-- The kept steps name too many entries, or the pattern has too many variables and parameters; or
+-- the proof's own steps name too many entries of several cases or none, of which no step is left
+-- out.
 pub data IsTooWide (proof : Proof) : Type 0 where
+  by_cases : HasTooManyCases proof.problem proof.steps → IsTooWide proof
   by_entries : {kept : List Step} {numbers : List ℕ} → AreKept proof.problem proof.steps kept → AreNamed kept numbers → most_entries < length numbers → IsTooWide proof
   by_operands : {kept : List Step} {numbers : List ℕ} {g : Problem} {values : List Value} → Keeps proof kept numbers g values → HasTooMany g → IsTooWide proof
 

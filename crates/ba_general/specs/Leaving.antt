@@ -1,7 +1,9 @@
 -- Steps of a proof that it doesn't need: what the others are without some that follow one another, and which stay.
-use Rattle.std.specs.Prelude.{◌≡◌, ℕ, zero, suc, ◌+◌, ◌-◌, ◌/◌, ◌<◌, ◌≤◌, ◌⊎◌, Bool, true, false, List, [], ◌∷◌, ◌++◌, length, replicate, take, drop, Option, Some, None}
+use Rattle.std.specs.Prelude.{◌≡◌, ◌↔◌, ℕ, zero, suc, ◌+◌, ◌-◌, ◌/◌, ◌<◌, ◌≤◌, ◌⊎◌, Bool, true, false, not, nat_eq, List, [], ◌∷◌, ◌++◌, Contains, length, replicate, take, drop, Option, Some, None}
 use Rattle.std.specs.Prelude.{slice_get, slice_set, unwrap_or}
-use Rattle.std.specs.List.{AllZip}
+use Rattle.std.specs.List.{AllZip, flat_map}
+use Rattle.std.specs.List.Sorted.{IsStrictlySortedBy}
+use Rattle.std.specs.Ordering.{nat_cmp}
 use Rattle.ba_facts.specs.declared.branch.Branch.{Branch}
 use Rattle.ba_facts.specs.declared.term.Term.{Term}
 use Rattle.ba_facts.specs.declared.term.Term.TheVariants as terms
@@ -12,7 +14,7 @@ use Rattle.ba_kernel.specs.declared.problem.Problem.{Problem}
 use Rattle.ba_kernel.specs.declared.step.Step.{Step}
 use Rattle.ba_kernel.specs.declared.step.Step.TheVariants as steps
 use Rattle.ba_model.specs.declared.schema.Schema.{Schema}
-use Rattle.ba_general.specs.Layouts.{Layout, adds, layout_after, start_layout, tables_on, wide}
+use Rattle.ba_general.specs.Layouts.{Layout, adds, entry_adds, layout_after, start_layout, tables_on, wide}
 use Rattle.ba_general.specs.declared.gap.Gap.{Gap}
 use Rattle.ba_general.specs.declared.gap.Span.{Span}
 use Rattle.ba_general.specs.declared.making.Made.{Made}
@@ -163,6 +165,25 @@ AreKept p taken kept = Leaves p taken 0 (length taken) kept
 -- what a proof keeps is determined
 abbrev pub KeptAreOne : Type 0
 KeptAreOne = (p : Problem) (taken kept other : List Step) → AreKept p taken kept → AreKept p taken other → kept ≡ other
+
+-- ---- which steps stay in any case
+
+-- a step by the entry makes several cases of its branch, or none, so it is never left out
+abbrev pub makes_cases : Problem → ℕ → Bool
+makes_cases p n = not (nat_eq (length (entry_adds p n)) 1)
+
+abbrev pub if_cases : Bool → ℕ → List ℕ
+if_cases true n = n ∷ []
+if_cases false n = []
+
+abbrev pub named_of_cases : Problem → Step → List ℕ
+named_of_cases p (steps.Entry branch n) = if_cases (makes_cases p n) n
+named_of_cases p step = []
+
+-- numbers of such entries that the steps name, rising
+pub record AreOfCases (p : Problem) (taken : List Step) (numbers : List ℕ) : Type 0 where
+  pub rising : IsStrictlySortedBy nat_cmp numbers
+  pub exact : (n : ℕ) → Contains numbers n ↔ Contains (flat_map (named_of_cases p) taken) n
 
 -- ---- answers that may be none
 

@@ -7,13 +7,14 @@ ghost use Rattle.ba_kernel.specs.Replays.{Closes};
 ghost use Rattle.ba_template.specs.Templates.{EachVarStands};
 ghost use Rattle.ba_general.specs.Conditions.{IsAcceptedFully, IsCondition, PatternFits};
 ghost use Rattle.ba_general.specs.Dropping.{IsAccepted};
-ghost use Rattle.ba_general.specs.Generals.{HasTooMany, IsGeneralised, IsMinimal, IsOfQuestion, IsToldBy, IsTooWide, OwnInstance};
+ghost use Rattle.ba_general.specs.Generals.{HasTooMany, HasTooManyCases, IsGeneralised, IsMinimal, IsOfQuestion, IsToldBy, IsTooWide, OwnInstance};
 ghost use Rattle.ba_general.specs.Patterns.{assuming};
 
 use crate::dropping::{condition, is_accepted};
 use crate::leaving::kept_steps;
 use crate::pattern::Pattern;
 use crate::retold::{named_entries, renumbered, with_variables};
+use crate::staying::entries_of_cases;
 use ba_kernel::{Problem, Proved, Step, replay};
 use ba_model::{Atom, Duplicate, Failure, List, MAX_KEPT_ENTRIES, MAX_OPERANDS};
 use ba_template::Template;
@@ -36,8 +37,9 @@ pub enum GeneralFault {
 /// and the parameters' values tell: the proof's own question, after the rows of the kept entries,
 /// meets it in its context, and no atom of it can be dropped with the same steps accepted.
 ///
-/// `Wide` comes exactly where what is kept is too wide for a template. `NoMemory` leaves nothing
-/// behind.
+/// `Wide` comes exactly where what is kept is too wide for a template. It is told at once where the
+/// proof's steps name more than [`MAX_KEPT_ENTRIES`] entries that make several cases or none: no
+/// step by such an entry can be left out. `NoMemory` leaves nothing behind.
 pub fn generalise(alloc: Global, proved: &Proved) -> Result<Template, Failure<GeneralFault>>
     requires { IsOfQuestion proved.now.problem }
     ensures template { IfOk result (IsGeneralised proved.now) }
@@ -46,7 +48,12 @@ pub fn generalise(alloc: Global, proved: &Proved) -> Result<Template, Failure<Ge
     ensures wide { IfErr result (λ e. OfFault e (λ _. IsTooWide proved.now)) }
 {
     let problem = proved.problem();
-    let kept = kept_steps(alloc, problem, proved.steps())?;
+    let steps = proved.steps();
+    let told = has_too_many_cases(alloc, problem, steps)?;
+    if told {
+        return Err(Failure::Fault(GeneralFault::Wide));
+    }
+    let kept = kept_steps(alloc, problem, steps)?;
     let numbers = named_entries(alloc, &kept)?;
     if numbers.len() > MAX_KEPT_ENTRIES {
         return Err(Failure::Fault(GeneralFault::Wide));
@@ -57,6 +64,18 @@ pub fn generalise(alloc: Global, proved: &Proved) -> Result<Template, Failure<Ge
     }
     let kept = renumbered(alloc, &kept, numbers.as_slice())?;
     Ok(made_general(alloc, &pattern, &kept)?)
+}
+
+/// Whether the steps name too many entries that make several cases or none.
+fn has_too_many_cases(
+    alloc: Global,
+    problem: &Problem,
+    steps: &List<Step>,
+) -> Result<bool, AllocError>
+    ensures { IfOk result (λ told. IsTrue told → HasTooManyCases problem.now steps.now) }
+{
+    let numbers = entries_of_cases(alloc, problem, steps)?;
+    Ok(numbers.len() > MAX_KEPT_ENTRIES)
 }
 
 /// Whether there are too many variables and parameters.

@@ -14,5 +14,6 @@ mod naming;
 mod others;
 mod pattern;
 mod retold;
+mod staying;
 
 pub use general::{GeneralFault, generalise};
