@@ -173,6 +173,10 @@ fn run<R: Threads + Wait + Sync, F: Files, S: Sink, G: Gate + Sync>(
 /// line by line; else it serves it as `run` does, with the default budget, and writes the summary
 /// alone.
 ///
+/// The outcome has the journal of what was served. Laws of their own, in `ba_machine_laws`, say that
+/// the entries of a legal journal are runs of a machine that decides by its events alone
+/// (`requests_are_a_run`; with one worker the whole journal is one run, `journal_is_a_run`).
+///
 /// The first fault ends a command with one fault line: words of another form (status 2), a file that
 /// has no reading, or rows that break a key or a link (3), a file that can't be read (4), a count
 /// above its limit (7). A write that fails ends it with status 5, want of memory with 6.

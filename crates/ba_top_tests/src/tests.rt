@@ -1,6 +1,7 @@
 // Runs that no case of files can show: reads and writes that fail, want of memory, huge files, the sure forms.
 mod checks;
 mod gates;
+mod memory;
 mod notices;
 mod prints;
 mod refused;
