@@ -2,23 +2,29 @@
 """Counts the instructions that a question costs two programs: bench/instructions.py --before FILE --program FILE [--asks N] [--parts PART,..]
 
 Both are `blockaid`, such as out/blockaid of two clones, built in the same way. The parts are `kinds`, `entries`, `compared`, `views` and `hard`,
-whose questions are those of bench/search.py. A script of so many requests is run with the question and without it, under
-valgrind's callgrind; the difference, by the number of requests, is what one question costs. That doesn't depend on what else
-the machine does, as seconds do. Prints a table in Markdown, a line for each question.
+whose questions are those of bench/search.py; `answers`, those of bench/bench.py over tables of a thousand rows; `requests`, the lines of
+bench/sessions.py; and `workload`, `gen` with one worker. A script is run with the questions and without them, under valgrind's callgrind;
+the difference, by their number, is what one costs. That doesn't depend on what else the machine does, as seconds do. Prints a table in
+Markdown, a line for each question.
 """
 import argparse
+import json
 import os
 import re
 import subprocess
 import sys
 import tempfile
 
+import bench
 import questions
+import sessions
 from asks import write_files, write_scripts
 from bench import expect
 
 # The most instructions of one question that is asked more than once.
 FEW = 10_000_000
+# How many rows a table of `answers` has, and how many requests there are of `requests` and `workload`.
+ROWS, REQUESTS = 1_000, 256
 
 
 def entries():
@@ -43,29 +49,84 @@ PARTS = {
 }
 
 
-def counted(program, folder, ask, script):
+def counted(name, folder, words):
     """The instructions of one run."""
-    words = ["valgrind", "--tool=callgrind", "--callgrind-out-file=/dev/null", program, "run", "--schema", "schema.sql"]
-    words += ["--policy", "policy.sql", "--tables", "t0", "--script", script, "--budget", str(ask.budget)]
+    words = ["valgrind", "--tool=callgrind", "--callgrind-out-file=/dev/null", *words]
     ran = subprocess.run(words, cwd=folder, stdin=subprocess.DEVNULL, stdout=subprocess.DEVNULL, stderr=subprocess.PIPE, text=True)
-    expect(ran.returncode, 0, f"the status of {ask.name}")
+    expect(ran.returncode, 0, f"the status of {name}")
     return int(re.search(r"Collected : (\d+)", ran.stderr)[1])
+
+
+def run_words(program, script, *more):
+    return [program, "run", "--schema", "schema.sql", "--policy", "policy.sql", "--tables", "t0", "--script", script, *more]
 
 
 def cost(program, folder, ask, count):
     """The instructions that the question adds to a request."""
-    asked, without = (counted(program, folder, ask, write_scripts(folder, ask, count, it)[0]) for it in (True, False))
+    asked, without = (
+        counted(ask.name, folder, run_words(program, write_scripts(folder, ask, count, it)[0], "--budget", str(ask.budget)))
+        for it in (True, False)
+    )
     return (asked - without) / count
 
 
-def line(name, ask, programs, asks):
+def tell(name, before, now):
+    print(f"| {name} | {before:,.0f} | {now:,.0f} | {now / before:.3f} |", flush=True)
+
+
+def tell_ask(name, ask, programs, asks):
     with tempfile.TemporaryDirectory() as folder:
         write_files(folder, ask)
         found = [cost(it, folder, ask, 1) for it in programs]
         if max(found) < FEW:
             found = [cost(it, folder, ask, asks) for it in programs]
-    before, now = found
-    print(f"| {name} | {before:,.0f} | {now:,.0f} | {now / before:.3f} |", flush=True)
+    tell(name, *found)
+
+
+def tell_answers(programs, asks):
+    """A line for each kind of answer: the instructions of one ask."""
+    for name, kind in bench.KINDS.items():
+        with tempfile.TemporaryDirectory() as folder:
+            bench.make_tables(folder, ROWS)
+            bench.write_text(f"{folder}/policy.sql", bench.POLICY + kind.view)
+            questions_asked = [kind.question(n, ROWS) for n in range(asks)]
+            bench.write_lines(f"{folder}/none", bench.lines_of(questions_asked[:1]))
+            bench.write_lines(f"{folder}/all", bench.lines_of(questions_asked))
+            found = [counted(name, folder, run_words(it, "all")) - counted(name, folder, run_words(it, "none")) for it in programs]
+        tell(f"{name}, {ROWS:,} rows", *(it / (asks - 1) for it in found))
+
+
+def tell_requests(programs):
+    """A line for each kind of line of requests that share templates."""
+    with tempfile.TemporaryDirectory() as folder:
+        bench.write_text(f"{folder}/schema.sql", sessions.SCHEMA)
+        bench.write_text(f"{folder}/policy.sql", sessions.POLICY)
+        sessions.write_tables(folder)
+        before = None
+        for asks, what in enumerate(("no question", "a covered question", "one by a template", "one that is refuted")):
+            lines = (json.dumps(line, separators=(",", ":")) for number in range(REQUESTS) for line in sessions.lines_of(number, asks))
+            bench.write_lines(f"{folder}/F{asks}", lines)
+            found = [counted(what, folder, run_words(it, f"F{asks}")) for it in programs]
+            if before:
+                tell(what, *((now - old) / REQUESTS for now, old in zip(found, before)))
+            before = found
+
+
+def tell_workload(programs):
+    """The instructions of a request of `gen`, and the whole of a run of one request."""
+    with tempfile.TemporaryDirectory() as folder:
+        few, many = (
+            [counted("gen", folder, [it, "gen", "--seed", "7", "--requests", str(count)]) for it in programs] for count in (1, REQUESTS + 1)
+        )
+    tell("a request of `gen`", *((all_of - one) / REQUESTS for all_of, one in zip(many, few)))
+    tell("`gen` of one request, whole", *few)
+
+
+OTHERS = {
+    "answers": tell_answers,
+    "requests": lambda programs, asks: tell_requests(programs),
+    "workload": lambda programs, asks: tell_workload(programs),
+}
 
 
 def main():
@@ -73,14 +134,18 @@ def main():
     reader.add_argument("--before", required=True, type=os.path.abspath, help="the program of an earlier commit")
     reader.add_argument("--program", required=True, type=os.path.abspath)
     reader.add_argument("--asks", type=int, default=50, help="how often a question is asked")
-    reader.add_argument("--parts", type=lambda text: text.split(","), default=list(PARTS))
+    reader.add_argument("--parts", type=lambda text: text.split(","), default=[*PARTS, *OTHERS])
     given = reader.parse_args()
-    if not set(given.parts) <= set(PARTS):
-        sys.exit(f"instructions: the parts are {', '.join(PARTS)}")
+    if not set(given.parts) <= {*PARTS, *OTHERS}:
+        sys.exit(f"instructions: the parts are {', '.join([*PARTS, *OTHERS])}")
+    programs = [given.before, given.program]
     print("| question | instructions before | now | of those before |\n|---|---|---|---|", flush=True)
     for part in given.parts:
+        if part in OTHERS:
+            OTHERS[part](programs, given.asks)
+            continue
         for name, ask in PARTS[part]():
-            line(name, ask, [given.before, given.program], given.asks)
+            tell_ask(name, ask, programs, given.asks)
 
 
 if __name__ == "__main__":
