@@ -3,12 +3,14 @@ use Rattle.std.proofs.Common.{◌^◌, ◌≡◌, ◌≢◌, ℕ, zero, suc, ◌
 use Rattle.std.specs.List.{All, AllZip, flat_map, slice_get}
 use Rattle.std.proofs.lemmas.Grind.{flat_map-append}
 use Rattle.std.proofs.lemmas.Option.{slice_get_within}
-use Rattle.ba_model.specs.Fit.{IsQuery, PartFits, PartWithin, kind_of, kinds_of}
+use Rattle.ba_model.specs.Fit.{IsQuery, OpFits, PartFits, PartWithin, kind_of, kinds_of}
 use Rattle.ba_model.specs.QueryFaults as faults
 use Rattle.ba_model.specs.SchemaFaults.{AreDistinct, column_names, columns_of, columns_or}
 use Rattle.ba_model.specs.declared.check_query.QueryFault.TheVariants as drafts
 use Rattle.ba_model.specs.declared.policy.Parameter.{Parameter}
 use Rattle.ba_model.specs.declared.query.Atom.{Atom}
+use Rattle.ba_model.specs.declared.query.Op.{Op}
+use Rattle.ba_model.specs.declared.query.Op.TheVariants.{Eq, Ne, Lt, Le, IsNull, NotNull}
 use Rattle.ba_model.specs.declared.query.Operand.{Operand}
 use Rattle.ba_model.specs.declared.query.Operand.TheVariants.{Col, Val, Param, Var}
 use Rattle.ba_model.specs.declared.query.Part.{Part}
@@ -20,7 +22,7 @@ use Rattle.ba_model.specs.declared.schema.Table.{Table}
 use Rattle.ba_model.proofs.QueryLemmas.{no_fault_from_query}
 use Rattle.ba_sql_query.specs.Meaning.{kind_in}
 use Rattle.ba_sql_query.specs.Parts.{node_atoms, written_part}
-use Rattle.ba_sql_query.specs.Reads.{HasForm, HasParts, HasTable, IsFirst, IsItem, IsNode, IsOperand, IsQueryOf, IsSelectOf, Tree, both, dnf, nodes_of, test}
+use Rattle.ba_sql_query.specs.Reads.{HasForm, HasParts, HasTable, IsFirst, IsItem, IsNode, IsOperand, IsQueryOf, IsSelectOf, IsTest, Tree, both, dnf, nodes_of, test}
 use Rattle.ba_sql_query.specs.Reads.HasForm.{none as no_form, some as some_form}
 use Rattle.ba_sql_query.specs.declared.resolved.ResolvedNode.{ResolvedNode}
 use Rattle.ba_sql_query.specs.declared.resolved.ResolvedNode.TheVariants as steps
@@ -35,7 +37,7 @@ use Rattle.ba_sql_print.specs.Printed.{column_name, param_name, table_name}
 use Rattle.ba_sql_print.specs.Spelling.{IsInRange, PartInRange}
 use Rattle.ba_sql_print.proofs.PlaceLemmas.{first_so, has_table, is_called}
 use Rattle.ba_sql_print.proofs.WritableLemmas.{at_place, column_called, column_there, head_kind, param_called, param_there, table_called}
-use Rattle.ba_sql_print.proofs.WrittenLemmas.{and_tree, tree_of, written_query, written_select, written_side, written_sources, written_test}
+use Rattle.ba_sql_print.proofs.WrittenLemmas.{and_tree, tree_of, written_query, written_by, written_select, written_side, written_sources, written_test}
 
 -- ---- the parts of a printed query as selects with numbers
 
@@ -89,10 +91,22 @@ zip_append R (x ∷ xs) us (y ∷ ys) vs h k = (h.0, zip_append R xs us ys vs h.
 pub record AtomMeans (s : Schema) (p : List Parameter) (from : List ℕ) (a : Atom) : Type 0 where
   pub left : IsOperand s p (written_sources s 0 from) from (written_side s p from a.left) a.left
   pub right : IsOperand s p (written_sources s 0 from) from (written_side s p from a.right) a.right
+  pub kind : Kind
+  pub op : OpFits a.op kind a.left a.right
+
+test_means : (s : Schema) (p : List Parameter) (sources : List Source) (from : List ℕ) (op : Op) (x y : Operand) (k : Kind)
+    → IsOperand s p sources from (written_side s p from x) x → IsOperand s p sources from (written_side s p from y) y → OpFits op k x y
+    → IsTest s p sources from (written_by op (written_side s p from x) (written_side s p from y)) (resolved.One (record { op = op; left = x; right = y }))
+test_means s p sources from Eq x y k h g f = (x, y, h, g, refl)
+test_means s p sources from Ne x y k h g f = (x, y, h, g, refl)
+test_means s p sources from Lt x y k h g f = (x, y, h, g, refl)
+test_means s p sources from Le x y k h g f = (x, y, h, g, refl)
+test_means s p sources from IsNull x y k h g f = (x, h, ap (λ (z : Operand). resolved.One (record { op = IsNull; left = x; right = z })) f)
+test_means s p sources from NotNull x y k h g f = (x, h, ap (λ (z : Operand). resolved.One (record { op = NotNull; left = x; right = z })) f)
 
 test_node : (s : Schema) (p : List Parameter) (from : List ℕ) (a : Atom) → AtomMeans s p from a
     → IsNode s p (written_sources s 0 from) from (nodes.Test (written_test s p from a)) (steps.Test (resolved.One a))
-test_node s p from a h = (resolved.One a, (a.left, a.right, h.left, h.right, refl), refl)
+test_node s p from a h = (resolved.One a, test_means s p (written_sources s 0 from) from a.op a.left a.right h.kind h.left h.right h.op, refl)
 
 nodes_mean : (s : Schema) (p : List Parameter) (from : List ℕ) (c : Cond) (d : Tree) (atoms : List Atom)
     → AllZip (IsNode s p (written_sources s 0 from) from) (postfix c) (nodes_of d) → All (AtomMeans s p from) atoms
@@ -186,6 +200,8 @@ part_means s p kinds part tables named h =
       condition = condition_means s p part.from part.conds (λ k d lt. record {
         left = operand_means s p part.from (h.fits.conds k d lt).kind _ tables named h.within.tables (h.range.conds k d lt).left (h.fits.conds k d lt).left_is;
         right = operand_means s p part.from (h.fits.conds k d lt).kind _ tables named h.within.tables (h.range.conds k d lt).right (h.fits.conds k d lt).right_is;
+        kind = (h.fits.conds k d lt).kind;
+        op = (h.fits.conds k d lt).op;
       });
     }
   where

@@ -25,7 +25,6 @@ parts_read s p q h k d lt =
       kinds = checked.fits.kinds;
       some_kind = checked.fits.some_kind;
       fits = checked.fits.parts k d lt;
-      comparisons = h.comparisons k d lt;
     }
 
 words_read : (s : Schema) (p : List Parameter) (q : Query) → IsPrintable s p q → ReadsWords s p (query_words s p q) q

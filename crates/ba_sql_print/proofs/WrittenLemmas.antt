@@ -39,7 +39,7 @@ use Rattle.ba_sql_syntax.specs.Grammar.IsQuery.{plain as plain_query}
 use Rattle.ba_sql_syntax.specs.Grammar.IsSelect.{select}
 use Rattle.ba_sql_syntax.specs.Grammar.IsSide.{qualified, literal}
 use Rattle.ba_sql_syntax.specs.Grammar.IsSource.{source}
-use Rattle.ba_sql_syntax.specs.Grammar.IsTest.{compare}
+use Rattle.ba_sql_syntax.specs.Grammar.IsTest.{compare, null, not_null}
 use Rattle.ba_sql_syntax.specs.Grammar.IsWhere.{none as no_where, where_}
 use Rattle.ba_sql_syntax.specs.Terminals.{terminal, terminals, word_terminal, is_unsupported}
 use Rattle.ba_sql_syntax.specs.declared.word.Terminal.{Terminal}
@@ -54,10 +54,9 @@ use Rattle.ba_sql_syntax.specs.declared.written.Side.{Side}
 use Rattle.ba_sql_syntax.specs.declared.written.Side.TheVariants as sides
 use Rattle.ba_sql_syntax.specs.declared.written.Source.{Source}
 use Rattle.ba_sql_syntax.specs.declared.written.Test.{Test}
-use Rattle.ba_sql_syntax.specs.declared.written.Test.TheVariants.{Compare}
+use Rattle.ba_sql_syntax.specs.declared.written.Test.TheVariants.{Compare, Null as NullTest}
 use Rattle.ba_sql_print.specs.Printed.{column_name, param_name, source_name, table_name}
 use Rattle.ba_sql_print.specs.Words.{atom_words, compared_words, from_words, heads_words, joined_words, keyword, operand_words, part_words, query_words, source_words, source_words_from, value_words, where_words}
-use Rattle.ba_sql_print.specs.ReadBack.{IsComparison}
 use Rattle.ba_sql_print.proofs.PrintedLemmas.{CanWrite, CanWriteAtom, CanWritePart}
 use Rattle.ba_sql_print.proofs.WritableLemmas.{head_kind}
 use Rattle.ba_sql_print.proofs.StandsLemmas.{decimal_digits}
@@ -70,8 +69,16 @@ written_side s p f (Val v) = sides.Constant (constants.Value v)
 written_side s p f (Param n) = sides.Constant (constants.Param (param_name p n))
 written_side s p f (Var n) = sides.Constant (constants.Value Null)
 
+abbrev pub written_by : Op → Side → Side → Test
+written_by Eq left right = Compare Eq left right
+written_by Ne left right = Compare Ne left right
+written_by Lt left right = Compare Lt left right
+written_by Le left right = Compare Le left right
+written_by IsNull left right = NullTest IsNull left
+written_by NotNull left right = NullTest NotNull left
+
 abbrev pub written_test : Schema → List Parameter → List ℕ → Atom → Test
-written_test s p f atom = Compare atom.op (written_side s p f atom.left) (written_side s p f atom.right)
+written_test s p f atom = written_by atom.op (written_side s p f atom.left) (written_side s p f atom.right)
 
 abbrev pub written_source : Schema → ℕ → ℕ → Source
 written_source s place table = record { table = table_name s table; alias = Some (source_name place) }
@@ -120,6 +127,14 @@ and_key = refl
 union_key : word_terminal (codes "UNION") ≡ key keys.Union
 unfolding word_terminal is_word
 union_key = refl
+
+null_keys : terminals (keyword (codes "IS") ∷ keyword (codes "NULL") ∷ []) ≡ key keys.Is ∷ key keys.Null ∷ []
+unfolding word_terminal is_word
+null_keys = refl
+
+not_null_keys : terminals (keyword (codes "IS") ∷ keyword (codes "NOT") ∷ keyword (codes "NULL") ∷ []) ≡ key keys.Is ∷ key keys.Not ∷ key keys.Null ∷ []
+unfolding word_terminal is_word
+not_null_keys = refl
 
 -- t and digits is no reserved word
 digit_lower : (d : ℕ) → is_digit d ≡ true → to_ascii_lowercase d ≡ d
@@ -198,22 +213,25 @@ test_by : (g : Sign) (op : Op) (a b : Side) (us vs : List Lexeme) → comparison
 test_by g op a b us vs e h k = subst (IsTest (Compare op a b)) (sym (map-append terminal us (lexemes.Sign g ∷ vs)))
     (compare g (record { op = op; turned = false }) h e k)
 
-compared_is : (op : Op) (a b : Side) (us vs : List Lexeme) → IsComparison op → IsSide a (terminals us) → IsSide b (terminals vs)
-    → IsTest (Compare op a b) (terminals (compared_words op us vs))
+compared_is : (op : Op) (a b : Side) (us vs : List Lexeme) → IsSide a (terminals us) → IsSide b (terminals vs)
+    → IsTest (written_by op a b) (terminals (compared_words op us vs))
 unfolding compared_words
-compared_is Eq a b us vs c h k = test_by Equal Eq a b us vs refl h k
-compared_is Ne a b us vs c h k = test_by NotEqual Ne a b us vs refl h k
-compared_is Lt a b us vs c h k = test_by Less Lt a b us vs refl h k
-compared_is Le a b us vs c h k = test_by LessEqual Le a b us vs refl h k
-compared_is IsNull a b us vs c h k = absurd c
-compared_is NotNull a b us vs c h k = absurd c
+compared_is Eq a b us vs h k = test_by Equal Eq a b us vs refl h k
+compared_is Ne a b us vs h k = test_by NotEqual Ne a b us vs refl h k
+compared_is Lt a b us vs h k = test_by Less Lt a b us vs refl h k
+compared_is Le a b us vs h k = test_by LessEqual Le a b us vs refl h k
+compared_is IsNull a b us vs h k =
+    let words : List Lexeme = keyword (codes "IS") ∷ keyword (codes "NULL") ∷ [] in
+    subst (IsTest (NullTest IsNull a)) (sym (map-append terminal us words ∙ ap (λ (ts : List Terminal). terminals us ++ ts) null_keys)) (null h)
+compared_is NotNull a b us vs h k =
+    let words : List Lexeme = keyword (codes "IS") ∷ keyword (codes "NOT") ∷ keyword (codes "NULL") ∷ [] in
+    subst (IsTest (NullTest NotNull a)) (sym (map-append terminal us words ∙ ap (λ (ts : List Terminal). terminals us ++ ts) not_null_keys)) (not_null h)
 
 test_is : (s : Schema) (p : List Parameter) (f : List ℕ) (params : List Kind) (atom : Atom) → CanWriteAtom s p f atom → AtomFits s params [] f atom
-    → IsComparison atom.op
     → IsTest (written_test s p f atom) (terminals (atom_words s p f atom))
 unfolding atom_words
-test_is s p f params atom w fits c =
-    compared_is atom.op _ _ _ _ c (side_is s p f params fits.kind atom.left w.left fits.left_is) (side_is s p f params fits.kind atom.right w.right fits.right_is)
+test_is s p f params atom w fits =
+    compared_is atom.op _ _ _ _ (side_is s p f params fits.kind atom.left w.left fits.left_is) (side_is s p f params fits.kind atom.right w.right fits.right_is)
 
 -- ---- heads and sources
 
@@ -250,7 +268,6 @@ pub record CanReadPart (s : Schema) (p : List Parameter) (part : Part) : Type 0 
   pub kinds : List Kind
   pub some_kind : kinds ≢ []
   pub fits : PartFits s (kinds_of p) [] kinds part
-  pub comparisons : All (λ (a : Atom). IsComparison a.op) part.conds
 
 where_is : (s : Schema) (p : List Parameter) (f : List ℕ) (atoms : List Atom) → All (λ a. IsTest (written_test s p f a) (terminals (atom_words s p f a))) atoms
     → IsWhere None (tree_of (map (written_test s p f) atoms)) (terminals (where_words s p f atoms))
@@ -302,7 +319,7 @@ select_is s p part h =
     (written_sources s 0 part.from) (source_words_from s 0 part.from) (no_sources s 0 part.from h.fits.some_table)
     (sources_are s 0 part.from (omega (arith, h.writes.few))) in
     let where_are = where_is s p part.from part.conds
-    (λ k d lt. test_is s p part.from (kinds_of p) _ (h.writes.conds k d lt) (h.fits.conds k d lt) (h.comparisons k d lt)) in
+    (λ k d lt. test_is s p part.from (kinds_of p) _ (h.writes.conds k d lt) (h.fits.conds k d lt)) in
     subst (IsSelect (written_select s p part)) (sym (select_words _ _ _)) (select not_distinct (items items_are) sources_is where_are)
 
 pub query_is : (s : Schema) (p : List Parameter) (q : Query) → q.parts ≢ [] → All (CanReadPart s p) q.parts

@@ -3,10 +3,6 @@ use Rattle.std.specs.Prelude.{◌≡◌, ◌≤◌, ◌^◌, All, List, length, 
 use Rattle.ba_model.specs.SchemaFaults.{AreDistinct, AreTables, column_names, table_names}
 use Rattle.ba_model.specs.Limits.{most_query_bytes}
 use Rattle.ba_model.specs.declared.policy.Parameter.{Parameter}
-use Rattle.ba_model.specs.declared.query.Atom.{Atom}
-use Rattle.ba_model.specs.declared.query.Op.{Op}
-use Rattle.ba_model.specs.declared.query.Op.TheVariants.{Eq, Ne, Lt, Le, IsNull, NotNull}
-use Rattle.ba_model.specs.declared.query.Part.{Part}
 use Rattle.ba_model.specs.declared.query.Query.{Query}
 use Rattle.ba_model.specs.declared.schema.Schema.{Schema}
 use Rattle.ba_model.specs.declared.schema.Table.{Table}
@@ -14,18 +10,6 @@ use Rattle.ba_sql_print.specs.Printed.{query_text}
 use Rattle.ba_sql_print.specs.Spelling.{HasSpelling}
 use Rattle.ba_sql_query.specs.Reads.{ReadsQuery}
 use Rattle.ba_sql_query.specs.Texts.{query_of}
-
--- IS NULL and IS NOT NULL are not read
-abbrev pub IsComparison : Op → Type 0
-IsComparison Eq = Unit {0}
-IsComparison Ne = Unit {0}
-IsComparison Lt = Unit {0}
-IsComparison Le = Unit {0}
-IsComparison IsNull = ⊥
-IsComparison NotNull = ⊥
-
-abbrev pub HasComparisons : Part → Type 0
-HasComparisons part = All (λ (atom : Atom). IsComparison atom.op) part.conds
 
 -- no two tables have one name, and no two columns of a table; their numbers have 32 bits
 pub record AreNamedApart (all : List Table) : Type 0 where
@@ -38,12 +22,11 @@ pub record AreNamedApart (all : List Table) : Type 0 where
 abbrev pub CheckedTablesAreApart : Type 0
 CheckedTablesAreApart = (tables : List Table) → AreTables tables → AreNamedApart tables
 
--- a query that can be written, of comparisons alone, over tables and parameters named apart, whose text isn't too long
+-- a query that can be written, over tables and parameters named apart, whose text isn't too long
 pub record IsPrintable (schema : Schema) (params : List Parameter) (query : Query) : Type 0 where
   pub spelling : HasSpelling schema params query
   pub tables : AreNamedApart schema.tables
   pub params_apart : AreDistinct (map (λ parameter. parameter.name) params)
-  pub comparisons : All HasComparisons query.parts
   pub short : length (query_text schema params query) ≤ most_query_bytes
 
 abbrev pub PrintedQueryReadsBack : Type 0

@@ -7,7 +7,7 @@ pub fn printed_text_has_words()
     ensures { PrintedTextHasWords }
 {}
 
-/// A printed query of comparisons reads back as itself, and as no other.
+/// A printed query reads back as itself, and as no other.
 ///
 /// Tables, the columns of a table, and parameters are named apart, as in a checked schema and a policy; the names of tables and columns can
 /// stand in quotes, those of parameters are words; whole numbers have 64 bits; and the text has at most 65,536 bytes.

@@ -18,7 +18,7 @@ use Rattle.ba_model.specs.declared.query.Query.{Query}
 use Rattle.ba_model.specs.declared.schema.Schema.{Schema}
 use Rattle.ba_sql_syntax.specs.Grammar.{HasTree, IsQueryText}
 use Rattle.ba_sql_syntax.specs.Reader.{text_of}
-use Rattle.ba_sql_syntax.specs.Scan.{IsSupported, scan}
+use Rattle.ba_sql_syntax.specs.Scan.{IsSupported, nothing, scan}
 use Rattle.ba_sql_syntax.specs.Terminals.{terminals}
 use Rattle.ba_sql_syntax.specs.Written.{HaveTrees, if_supported, or_syntax, written_of}
 use Rattle.ba_sql_syntax.specs.declared.fault.SyntaxFault.{SyntaxFault}
@@ -136,7 +136,7 @@ module _ (schema : Schema) (params : List Parameter) (text : List ℕ) where
 
   is_supported : (words : List Lexeme) → written_of words ≡ Err syntax.Syntax → IsSupported words
   unfolding written_of
-  is_supported words e = scanned_none words (scanned (scan false words) (text_of (terminals words)) e)
+  is_supported words e = scanned_none words (scanned (scan nothing words) (text_of (terminals words)) e)
 
   ok_fault : {x : QueryText} {s : SyntaxFault} → ◌≡◌ {A = Result QueryText SyntaxFault} (Ok x) (Err s) → ⊥
   ok_fault e = cc

@@ -199,6 +199,8 @@ module _ (schema : Schema) (params : List Parameter) where
       both_agree (operand_of schema params sources from side) (λ x. each (constant_of params) among >>= λ ys. Ok (resolved.Among x ys))
       (λ n. side_lacks n schema params sources from side) (λ n. list_all (constant_lacks n params) among) (side_agrees sources from side)
       (λ x. then_agrees (each (constant_of params) among) (λ ys. resolved.Among x ys) (λ n. list_all (constant_lacks n params) among) (each_agrees (constant_of params) (λ n c. constant_lacks n params c) constant_agrees among))
+  test_agrees sources from (tests.Null op side) =
+      then_agrees (operand_of schema params sources from side) (λ x. resolved.One (record { op = op; left = x; right = x })) (λ n. side_lacks n schema params sources from side) (side_agrees sources from side)
 
   node_agrees : (sources : List Source) (from : List ℕ) (n : Node) → Agrees (node_of schema params sources from n) (λ k. node_lacks k schema params sources from n)
   unfolding node_of node_lacks

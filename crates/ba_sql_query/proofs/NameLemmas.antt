@@ -218,6 +218,9 @@ module _ (schema : Schema) (params : List Parameter) where
   abbrev among_these : List Constant → Operand → Result ResolvedTest ReadQueryFault
   among_these among x = each (constant_of params) among >>= among_with x
 
+  abbrev null_with : Op → Operand → Result ResolvedTest ReadQueryFault
+  null_with op x = Ok (resolved.One (record { op = op; left = x; right = x }))
+
   test_sound : (sources : List Source) (from : List ℕ) (t : Test) (r : ResolvedTest) → test_of schema params sources from t ≡ Ok r → IsTest schema params sources from t r
   unfolding test_of
   test_sound sources from (tests.Compare op left right) r e =
@@ -228,6 +231,9 @@ module _ (schema : Schema) (params : List Parameter) where
       let a = bind_ok (operand_of schema params sources from side) (among_these among) r e in
       let b = bind_ok (each (constant_of params) among) (among_with a.0) r a.2 in
       (a.0, b.0, operand_sound sources from side a.0 a.1, each_zip (constant_of params) (IsConstant params) constant_sound among b.0 b.1, sym (ok_same (resolved.Among a.0 b.0) r b.2))
+  test_sound sources from (tests.Null op side) r e =
+      let a = bind_ok (operand_of schema params sources from side) (null_with op) r e in
+      (a.0, operand_sound sources from side a.0 a.1, sym (ok_same (resolved.One (record { op = op; left = a.0; right = a.0 })) r a.2))
 
   test_complete : (sources : List Source) (from : List ℕ) (t : Test) (r : ResolvedTest) → IsTest schema params sources from t r → test_of schema params sources from t ≡ Ok r
   unfolding test_of
@@ -235,6 +241,7 @@ module _ (schema : Schema) (params : List Parameter) where
       rw (operand_complete sources from left h.0 h.2) (rw (operand_complete sources from right h.1 h.3) (ap (λ (q : ResolvedTest). Ok q) (sym h.4)))
   test_complete sources from (tests.Among side among) r h =
       rw (operand_complete sources from side h.0 h.2) (rw (zip_each (constant_of params) (IsConstant params) constant_complete among h.1 h.3) (ap (λ (q : ResolvedTest). Ok q) (sym h.4)))
+  test_complete sources from (tests.Null op side) r h = rw (operand_complete sources from side h.0 h.1) (ap (λ (q : ResolvedTest). Ok q) (sym h.2))
 
   abbrev as_node : ResolvedTest → Result ResolvedNode ReadQueryFault
   as_node t = Ok (steps.Test t)

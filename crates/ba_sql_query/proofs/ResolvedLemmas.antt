@@ -182,6 +182,9 @@ module _ (schema : Schema) (params : List Parameter) where
   abbrev among_these : List Constant → Operand → Result ResolvedTest ReadQueryFault
   among_these among x = each (constant_of params) among >>= among_with x
 
+  abbrev null_with : Op → Operand → Result ResolvedTest ReadQueryFault
+  null_with op x = Ok (resolved.One (record { op = op; left = x; right = x }))
+
   equations_good : (from : List ℕ) (x : Operand) (ys : List Operand) → good from x ≡ true → list_all (good from) ys ≡ true → list_all (good_atom from) (map (equation x) ys) ≡ true
   equations_good from x [] h g = refl
   equations_good from x (y ∷ ys) h g =
@@ -200,6 +203,11 @@ module _ (schema : Schema) (params : List Parameter) where
       let b = bind_ok (each (constant_of params) among) (among_with a.0) r a.2 in
       let ys = each_all (constant_of params) (good from) (constant_good from) among b.0 b.1 in
       subst (λ (q : ResolvedTest). list_all (good_atom from) (test_atoms q) ≡ true) (ok_same (resolved.Among a.0 b.0) r b.2) (equations_good from a.0 b.0 (operand_good sources from side a.0 a.1) ys)
+  test_good sources from (tests.Null op side) r e =
+      let a = bind_ok (operand_of schema params sources from side) (null_with op) r e in
+      let one = operand_good sources from side a.0 a.1 in
+      let both = and_both (good from a.0) (good from a.0) one one in
+      subst (λ (q : ResolvedTest). list_all (good_atom from) (test_atoms q) ≡ true) (ok_same (resolved.One (record { op = op; left = a.0; right = a.0 })) r a.2) (and_both (good from a.0 && good from a.0) true both refl)
 
   abbrev as_node : ResolvedTest → Result ResolvedNode ReadQueryFault
   as_node t = Ok (steps.Test t)

@@ -120,11 +120,14 @@ abbrev pub IsHead : Schema → List Parameter → List Source → List ℕ → H
 IsHead schema params sources from heads.All xs = xs ≡ all_columns schema from
 IsHead schema params sources from (heads.Items is) xs = (pieces : List (List Operand)) × AllZip (IsItem schema params sources from) is pieces × (flat_map (λ piece. piece) pieces ≡ xs)
 
+-- the right side of IS NULL and IS NOT NULL repeats the left
 abbrev pub IsTest : Schema → List Parameter → List Source → List ℕ → Test → ResolvedTest → Type 0
 IsTest schema params sources from (tests.Compare op left right) t =
     (x : Operand) × (y : Operand) × IsOperand schema params sources from left x × IsOperand schema params sources from right y × (t ≡ resolved.One (record { op = op; left = x; right = y }))
 IsTest schema params sources from (tests.Among side among) t =
     (x : Operand) × (ys : List Operand) × IsOperand schema params sources from side x × AllZip (IsConstant params) among ys × (t ≡ resolved.Among x ys)
+IsTest schema params sources from (tests.Null op side) t =
+    (x : Operand) × IsOperand schema params sources from side x × (t ≡ resolved.One (record { op = op; left = x; right = x }))
 
 abbrev pub IsNode : Schema → List Parameter → List Source → List ℕ → Node → ResolvedNode → Type 0
 IsNode schema params sources from (nodes.Test t) n = (r : ResolvedTest) × IsTest schema params sources from t r × (n ≡ steps.Test r)

@@ -67,6 +67,8 @@ test_of schema params sources from (tests.Compare op left right) =
     operand_of schema params sources from left >>= λ x. (operand_of schema params sources from right >>= λ y. Ok (resolved.One (record { op = op; left = x; right = y })))
 test_of schema params sources from (tests.Among side among) =
     operand_of schema params sources from side >>= λ x. (each (constant_of params) among >>= λ ys. Ok (resolved.Among x ys))
+test_of schema params sources from (tests.Null op side) =
+    operand_of schema params sources from side >>= λ x. Ok (resolved.One (record { op = op; left = x; right = x }))
 
 unfoldable pub node_of : Schema → List Parameter → List Source → List ℕ → Node → Result ResolvedNode ReadQueryFault
 node_of schema params sources from (nodes.Test t) = test_of schema params sources from t >>= λ x. Ok (steps.Test x)
@@ -102,6 +104,7 @@ side_lacks n schema params sources from (sides.Constant c) = constant_lacks n pa
 unfoldable pub test_lacks : ℕ → Schema → List Parameter → List Source → List ℕ → Test → Bool
 test_lacks n schema params sources from (tests.Compare op left right) = side_lacks n schema params sources from left && side_lacks n schema params sources from right
 test_lacks n schema params sources from (tests.Among side among) = side_lacks n schema params sources from side && list_all (constant_lacks n params) among
+test_lacks n schema params sources from (tests.Null op side) = side_lacks n schema params sources from side
 
 unfoldable pub node_lacks : ℕ → Schema → List Parameter → List Source → List ℕ → Node → Bool
 node_lacks n schema params sources from (nodes.Test t) = test_lacks n schema params sources from t

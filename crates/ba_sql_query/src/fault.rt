@@ -11,7 +11,8 @@ use ba_sql_syntax::SyntaxFault;
 pub enum ReadQueryFault {
     /// The text has no tokens.
     Lex(LexFault),
-    /// What isn't supported: a word in upper case, or a sign.
+    /// What isn't supported: a word in upper case, or a sign. IS, NOT and NULL are supported in
+    /// IS NULL and IS NOT NULL alone.
     Unsupported(Str),
     /// The grammar has no such words.
     Syntax,

@@ -63,6 +63,7 @@ fn test_lacks(rank: u8, scope: &Scope, params: &[Parameter], test: &Test) -> boo
         Test::Among { side, among } => {
             side_lacks(rank, scope, params, side) && constants_lack(rank, params, among.as_slice())
         }
+        Test::Null { side, .. } => side_lacks(rank, scope, params, side),
     }
 }
 

@@ -49,11 +49,13 @@ fn query_of(
 /// The form is that of `ba_sql_syntax::read_written`: selects with joins and conditions, and their union, a part of the queries of the SQL
 /// standard. A source is called by its alias, or by its table's name if it has none; a column without qualifier is that of the only source
 /// that has it. `*` stands for all columns of all sources in order. The condition of each select is brought into its disjunctive form,
-/// whose members are the query's parts, in the order of the text.
+/// whose members are the query's parts, in the order of the text. IS NULL and IS NOT NULL may stand behind any column, literal or
+/// parameter; the right side of such an atom repeats the left.
 ///
 /// Faults, of which the first of this order is told, wherever it stands:
 /// - `Lex`: the text is too long, or has no tokens.
-/// - `Unsupported`: the first word or sign that isn't supported, before any look at the grammar.
+/// - `Unsupported`: the first word or sign that isn't supported, before any look at the grammar. NULL is one everywhere but in IS NULL
+///   and IS NOT NULL.
 /// - `Syntax`: the grammar has no such words.
 /// - `UnknownTable`: a source's table isn't of the schema, or a qualifier calls no source of its select.
 /// - `UnknownColumn`: no source that may be meant has the column.

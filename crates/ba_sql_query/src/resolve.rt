@@ -11,7 +11,7 @@ use crate::lacking::first_of_names;
 use crate::names::{constant_of, operand_of, table_of};
 use crate::resolved::{ResolvedNode, ResolvedSelect, ResolvedTest};
 use crate::scope::Scope;
-use ba_model::{Atom, Column, Failure, List, Operand, Parameter, Schema};
+use ba_model::{Atom, Column, Duplicate, Failure, List, Operand, Parameter, Schema};
 use ba_sql_syntax::{Constant, Heads, Item, Node, QueryText, Select, Source, Test};
 use std::alloc::{AllocError, Global};
 
@@ -164,6 +164,12 @@ fn test_of(
             let side = operand_of(alloc, scope, params, side)?;
             let among = constants_of(alloc, params, among.as_slice())?;
             Ok(ResolvedTest::Among { side, among })
+        }
+        Test::Null { op, side } => {
+            let left = operand_of(alloc, scope, params, side)?;
+            let right = left.copy(alloc)?;
+            let op = *op;
+            Ok(ResolvedTest::One(Atom { op, left, right }))
         }
     }
 }

@@ -16,7 +16,7 @@ use Rattle.ba_sql_syntax.specs.Grammar.IsListed.{one, more as more_listed}
 use Rattle.ba_sql_syntax.specs.Reader.{Read, constant_at, name_at, run}
 use Rattle.ba_sql_syntax.specs.Terminals.{Terminal, constant, is_key, is_sign, key, key_number, name, sign, unsupported}
 use Rattle.ba_sql_syntax.specs.declared.word.Key.{Key}
-use Rattle.ba_sql_syntax.specs.declared.word.Key.TheVariants.{Select, Distinct, From, Where, Join, Inner, Cross, On, As, And, Or, Union, In}
+use Rattle.ba_sql_syntax.specs.declared.word.Key.TheVariants.{Select, Distinct, From, Where, Join, Inner, Cross, On, As, And, Or, Union, In, Is as IsKey, Not as NotKey, Null as NullKey}
 use Rattle.ba_sql_syntax.specs.declared.written.Constant.{Constant}
 
 -- ---- one terminal
@@ -34,7 +34,10 @@ key_from (suc (suc (suc (suc (suc (suc (suc (suc zero)))))))) = As
 key_from (suc (suc (suc (suc (suc (suc (suc (suc (suc zero))))))))) = And
 key_from (suc (suc (suc (suc (suc (suc (suc (suc (suc (suc zero)))))))))) = Or
 key_from (suc (suc (suc (suc (suc (suc (suc (suc (suc (suc (suc zero))))))))))) = Union
-key_from _ = In
+key_from (suc (suc (suc (suc (suc (suc (suc (suc (suc (suc (suc (suc zero)))))))))))) = In
+key_from (suc (suc (suc (suc (suc (suc (suc (suc (suc (suc (suc (suc (suc zero))))))))))))) = IsKey
+key_from (suc (suc (suc (suc (suc (suc (suc (suc (suc (suc (suc (suc (suc (suc zero)))))))))))))) = NotKey
+key_from _ = NullKey
 
 key_back : (k : Key) → key_from (key_number k) ≡ k
 key_back Select = refl
@@ -50,6 +53,9 @@ key_back And = refl
 key_back Or = refl
 key_back Union = refl
 key_back In = refl
+key_back IsKey = refl
+key_back NotKey = refl
+key_back NullKey = refl
 
 is_key_so : (k : Key) (t : Terminal) → is_key k t ≡ true → t ≡ key k
 is_key_so k (key j) h = ap key (sym (key_back j) ∙ ap key_from (eqb-true (key_number j) (key_number k) h) ∙ key_back k)

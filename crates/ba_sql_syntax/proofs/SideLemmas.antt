@@ -1,7 +1,9 @@
 -- Aliases, sides and tests: what is read is spelled so, and what is spelled so is read.
 use Rattle.std.proofs.Common.{◌≡◌, ℕ, ◌<◌, Bool, true, false, cond, List, [], ◌∷◌, ◌++◌, length, Option, Some, None, Ok, refl, sym, ap, subst, ◌∙◌, append_assoc, arith, length-append}
-use Rattle.ba_grammar.specs.Front.{begins, listed, past}
+use Rattle.ba_grammar.specs.Front.{begins, listed, past, skip}
 use Rattle.ba_model.specs.Readings.{◌>>=◌}
+use Rattle.ba_model.specs.declared.query.Op.{Op}
+use Rattle.ba_model.specs.declared.query.Op.TheVariants.{IsNull, NotNull}
 use Rattle.ba_grammar.proofs.WordLemmas.{bind_ok, err_ok, ok_same}
 use Rattle.ba_lex.specs.declared.token.Sign.{Sign}
 use Rattle.ba_lex.specs.declared.token.Sign.TheVariants.{LeftParen, RightParen, Comma, Dot, Semicolon, Star, Equal, NotEqual, BangEqual, Less, LessEqual, Greater, GreaterEqual, Plus, Minus, Slash, Percent}
@@ -9,17 +11,17 @@ use Rattle.ba_sql_syntax.specs.Grammar.{IsAlias, IsConstant, IsSide, IsTest, com
 use Rattle.ba_sql_syntax.specs.Grammar.IsAlias.{none as no_alias, plain as plain_alias, behind_as}
 use Rattle.ba_sql_syntax.specs.Grammar.IsConstant.{literal as literal_constant}
 use Rattle.ba_sql_syntax.specs.Grammar.IsSide.{qualified, plain as plain_side, literal as literal_side}
-use Rattle.ba_sql_syntax.specs.Grammar.IsTest.{compare, among}
-use Rattle.ba_sql_syntax.specs.Reader.{Read, alias_at, among_at, column_at, compared_at, comparison_at, constant_at, is_name, name_at, side_at, some_comparison, test_at}
+use Rattle.ba_sql_syntax.specs.Grammar.IsTest.{compare, among, null, not_null}
+use Rattle.ba_sql_syntax.specs.Reader.{Read, alias_at, among_at, column_at, compared_at, comparison_at, constant_at, is_name, name_at, null_at, null_op, side_at, some_comparison, test_at}
 use Rattle.ba_sql_syntax.specs.Terminals.{Terminal, constant, is_key, is_sign, key, name, sign, unsupported}
 use Rattle.ba_sql_syntax.specs.declared.compare.Comparison.{Comparison}
-use Rattle.ba_sql_syntax.specs.declared.word.Key.TheVariants.{As, In}
+use Rattle.ba_sql_syntax.specs.declared.word.Key.TheVariants.{As, In, Is, Not, Null as NullKey}
 use Rattle.ba_sql_syntax.specs.declared.written.Constant.{Constant}
 use Rattle.ba_sql_syntax.specs.declared.written.Side.{Side}
 use Rattle.ba_sql_syntax.specs.declared.written.Side.TheVariants.{Column, Constant as ConstantSide}
 use Rattle.ba_sql_syntax.specs.declared.written.Test.{Test}
-use Rattle.ba_sql_syntax.specs.declared.written.Test.TheVariants.{Among}
-use Rattle.ba_sql_syntax.proofs.FrontLemmas.{IsComplete, IsSound, Spelled, constant_read, listed_complete, listed_sound, name_read, past_key, past_sign}
+use Rattle.ba_sql_syntax.specs.declared.written.Test.TheVariants.{Among, Null}
+use Rattle.ba_sql_syntax.proofs.FrontLemmas.{IsComplete, IsSound, Spelled, constant_read, listed_complete, listed_sound, name_read, past_key, past_sign, skipped_key}
 
 -- ---- what ends a side, and a name behind one
 
@@ -224,20 +226,55 @@ among_sound ts rest us a p is all e =
       all = all ∙ ap (λ (r : List Terminal). us ++ r) whole ∙ among_all us l.us f.0;
     })
 
-abbrev test_end : Side × List Terminal → Read Test
-test_end a = cond (begins (is_key In) a.1) (among_at a.0 a.1) (compared_at a.0 a.1)
+abbrev null_end : Side → Op → List Terminal → Read Test
+null_end a op rest = Ok (Null op a, rest)
 
-test_chosen : (b : Bool) (ts rest us : List Terminal) (a : Side) (p : Test × List Terminal) → IsSide a us → ts ≡ us ++ rest
-    → cond b (among_at a rest) (compared_at a rest) ≡ Ok p → Spelled IsTest p.0 ts p.1
-test_chosen true ts rest us a p is all e = among_sound ts rest us a p is all e
-test_chosen false ts rest us a p is all e = compared_sound ts rest us a p is all e
+abbrev null_behind : Side → List Terminal → Read Test
+null_behind a rest = past (is_key NullKey) (skip (is_key Not) rest) >>= null_end a (null_op rest)
+
+null_spelled : (b : Bool) (ts us rest more behind : List Terminal) (a : Side) → begins (is_key Not) more ≡ b → IsSide a us → ts ≡ us ++ rest
+    → rest ≡ key Is ∷ more → skip (is_key Not) more ≡ key NullKey ∷ behind → Spelled IsTest (Null (cond b NotNull IsNull) a) ts behind
+null_spelled true ts us rest more behind a begun is all e f =
+    let there : more ≡ key Not ∷ key NullKey ∷ behind = (skipped_key Not more true begun).0 refl ∙ ap (λ (r : List Terminal). key Not ∷ r) f in
+    let whole : rest ≡ key Is ∷ key Not ∷ key NullKey ∷ behind = e ∙ ap (λ (r : List Terminal). key Is ∷ r) there in
+    record {
+      us = us ++ key Is ∷ key Not ∷ key NullKey ∷ [];
+      is = not_null is;
+      all = all ∙ ap (λ (r : List Terminal). us ++ r) whole ∙ sym (append_assoc us (key Is ∷ key Not ∷ key NullKey ∷ []) behind);
+    }
+null_spelled false ts us rest more behind a begun is all e f =
+    let there : more ≡ key NullKey ∷ behind = (skipped_key Not more false begun).1 refl ∙ f in
+    let whole : rest ≡ key Is ∷ key NullKey ∷ behind = e ∙ ap (λ (r : List Terminal). key Is ∷ r) there in
+    record {
+      us = us ++ key Is ∷ key NullKey ∷ [];
+      is = null is;
+      all = all ∙ ap (λ (r : List Terminal). us ++ r) whole ∙ sym (append_assoc us (key Is ∷ key NullKey ∷ []) behind);
+    }
+
+null_sound : (ts rest us : List Terminal) (a : Side) (p : Test × List Terminal) → IsSide a us → ts ≡ us ++ rest → null_at a rest ≡ Ok p
+    → Spelled IsTest p.0 ts p.1
+unfolding null_at
+null_sound ts rest us a p is all e =
+    let b = bind_ok (past (is_key Is) rest) (null_behind a) p e in
+    let c = bind_ok (past (is_key NullKey) (skip (is_key Not) b.0)) (null_end a (null_op b.0)) p b.2 in
+    subst (λ (q : Test × List Terminal). Spelled IsTest q.0 ts q.1) (ok_same (Null (null_op b.0) a, c.0) p c.2)
+    (null_spelled (begins (is_key Not) b.0) ts us rest b.0 c.0 a refl is all (past_key Is rest b.0 b.1) (past_key NullKey (skip (is_key Not) b.0) c.0 c.1))
+
+abbrev test_end : Side × List Terminal → Read Test
+test_end a = cond (begins (is_key In) a.1) (among_at a.0 a.1) (cond (begins (is_key Is) a.1) (null_at a.0 a.1) (compared_at a.0 a.1))
+
+test_chosen : (b c : Bool) (ts rest us : List Terminal) (a : Side) (p : Test × List Terminal) → IsSide a us → ts ≡ us ++ rest
+    → cond b (among_at a rest) (cond c (null_at a rest) (compared_at a rest)) ≡ Ok p → Spelled IsTest p.0 ts p.1
+test_chosen true c ts rest us a p is all e = among_sound ts rest us a p is all e
+test_chosen false true ts rest us a p is all e = null_sound ts rest us a p is all e
+test_chosen false false ts rest us a p is all e = compared_sound ts rest us a p is all e
 
 pub test_sound : IsSound test_at IsTest
 unfolding test_at
 test_sound ts p e =
     let a = bind_ok (side_at ts) test_end p e in
     let s = side_sound ts a.0 a.1 in
-    test_chosen (begins (is_key In) a.0.1) ts a.0.1 s.us a.0.0 p s.is s.all a.2
+    test_chosen (begins (is_key In) a.0.1) (begins (is_key Is) a.0.1) ts a.0.1 s.us a.0.0 p s.is s.all a.2
 
 -- a sign that compares is no dot
 no_dot : (s : Sign) (c : Comparison) → comparison s ≡ Some c → is_sign Dot (sign s) ≡ false
@@ -260,7 +297,7 @@ no_dot Slash c e = refl
 no_dot Percent c e = refl
 
 pub test_complete : IsComplete test_at IsTest EndsSide
-unfolding test_at compared_at comparison_at among_at
+unfolding test_at compared_at comparison_at among_at null_at
 test_complete _ _ rest (compare {a} {b} {us} {vs} s c i e j) ends =
     let left = side_complete a us (sign s ∷ (vs ++ rest)) i (record { dot = no_dot s c e }) in
     let right = side_complete b vs rest j ends in
@@ -269,11 +306,22 @@ test_complete _ _ rest (among {a} {cs} {us} {vs} i l) ends =
     let left = side_complete a us (key In ∷ sign LeftParen ∷ (vs ++ sign RightParen ∷ rest)) i (record { dot = refl }) in
     let list = listed_complete constant_at IsConstant EndsSide constant_complete (λ ts. record { dot = refl }) cs vs (sign RightParen ∷ rest) l (record { dot = refl }) refl in
     rw (← among_all us vs rest) (rw left (rw list refl))
+test_complete _ _ rest (null {a} {us} i) ends =
+    let left = side_complete a us (key Is ∷ key NullKey ∷ rest) i (record { dot = refl }) in
+    rw (append_assoc us (key Is ∷ key NullKey ∷ []) rest) (rw left refl)
+test_complete _ _ rest (not_null {a} {us} i) ends =
+    let left = side_complete a us (key Is ∷ key Not ∷ key NullKey ∷ rest) i (record { dot = refl }) in
+    rw (append_assoc us (key Is ∷ key Not ∷ key NullKey ∷ []) rest) (rw left refl)
 
 pub test_first : {t : Test} {us : List Terminal} → IsTest t us → (rest : List Terminal) → First (us ++ rest)
 test_first (compare {a} {b} {us} {vs} s c i e j) rest = subst First (sym (append_assoc us (sign s ∷ vs) rest)) (side_first i (sign s ∷ (vs ++ rest)))
 test_first (among {a} {cs} {us} {vs} i l) rest = subst First (among_all us vs rest) (side_first i (key In ∷ sign LeftParen ∷ (vs ++ sign RightParen ∷ rest)))
+test_first (null {a} {us} i) rest = subst First (sym (append_assoc us (key Is ∷ key NullKey ∷ []) rest)) (side_first i (key Is ∷ key NullKey ∷ rest))
+test_first (not_null {a} {us} i) rest =
+    subst First (sym (append_assoc us (key Is ∷ key Not ∷ key NullKey ∷ []) rest)) (side_first i (key Is ∷ key Not ∷ key NullKey ∷ rest))
 
 pub test_size : {t : Test} {us : List Terminal} → IsTest t us → 0 < length us
 test_size (compare {a} {b} {us} {vs} s c i e j) = omega (arith, length-append us (sign s ∷ vs))
 test_size (among {a} {cs} {us} {vs} i l) = omega (arith, length-append us (key In ∷ sign LeftParen ∷ (vs ++ sign RightParen ∷ [])))
+test_size (null {a} {us} i) = omega (arith, length-append us (key Is ∷ key NullKey ∷ []))
+test_size (not_null {a} {us} i) = omega (arith, length-append us (key Is ∷ key Not ∷ key NullKey ∷ []))

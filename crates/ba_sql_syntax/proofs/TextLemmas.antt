@@ -15,7 +15,7 @@ use Rattle.ba_sql_syntax.specs.Grammar.AreSelects.{first as first_select, union}
 use Rattle.ba_sql_syntax.specs.Grammar.IsQuery.{plain, semicolon}
 use Rattle.ba_sql_syntax.specs.Grammar.IsSelect.{select}
 use Rattle.ba_sql_syntax.specs.Reader.{Read, ended, has_source, run, select_at, selects_at, text_of, union_goes, union_step}
-use Rattle.ba_sql_syntax.specs.Scan.{IsFirstUnsupported, IsSupported, scan}
+use Rattle.ba_sql_syntax.specs.Scan.{IsFirstUnsupported, IsSupported, nothing, scan}
 use Rattle.ba_sql_syntax.specs.Terminals.{Terminal, is_key, is_sign, key, sign, terminals}
 use Rattle.ba_sql_syntax.specs.Written.{HaveTrees, if_supported, or_syntax, written_of}
 use Rattle.ba_model.specs.declared.failure.Failure.{Failure}
@@ -204,7 +204,7 @@ top_err None (Err f) called e = cc
 pub written_sound : (words : List Lexeme) (text : QueryText) → written_of words ≡ Ok text → IsSupported words × IsQueryText text words
 unfolding written_of
 written_sound words text e =
-    let t = top_ok (scan false words) (text_of (terminals words)) text e in
+    let t = top_ok (scan nothing words) (text_of (terminals words)) text e in
     (scanned_none words t.0, text_sound (terminals words) text t.1)
 
 pub written_complete : (words : List Lexeme) (text : QueryText) → IsSupported words × IsQueryText text words → written_of words ≡ Ok text
@@ -216,7 +216,7 @@ one_text words text other h k = ok_same text other (sym (text_complete h) ∙ te
 
 pub unsupported_sound : (words : List Lexeme) (called : List ℕ) → written_of words ≡ Err (Unsupported called) → IsFirstUnsupported words called
 unfolding written_of
-unsupported_sound words called e = scanned_some words called (top_err (scan false words) (text_of (terminals words)) called e)
+unsupported_sound words called e = scanned_some words called (top_err (scan nothing words) (text_of (terminals words)) called e)
 
 pub unsupported_complete : (words : List Lexeme) (called : List ℕ) → IsFirstUnsupported words called → written_of words ≡ Err (Unsupported called)
 unfolding written_of
@@ -233,7 +233,7 @@ ok_no_err (Err other) text fault e f = cc
 pub refused_sound : (words : List Lexeme) → written_of words ≡ Err syntax → IsSupported words × ((text : QueryText) → IsQueryText text words → ⊥)
 unfolding written_of
 refused_sound words e =
-    let supported = scanned_none words (top_syntax (scan false words) (text_of (terminals words)) e) in
+    let supported = scanned_none words (top_syntax (scan nothing words) (text_of (terminals words)) e) in
     (supported, λ text h. ok_no_err (written_of words) text syntax (written_complete words text (supported, h)) e)
 
 pub refused_complete : (words : List Lexeme) → IsSupported words × ((text : QueryText) → IsQueryText text words → ⊥) → written_of words ≡ Err syntax

@@ -4,10 +4,10 @@ use Rattle.ba_lex.specs.declared.token.Lexeme.{Lexeme}
 use Rattle.ba_lex.specs.declared.token.Sign.{Sign}
 use Rattle.ba_lex.specs.declared.token.Sign.TheVariants.{LeftParen, RightParen, Comma, Dot, Semicolon, Star, Equal, NotEqual, BangEqual, Less, LessEqual, Greater, GreaterEqual, Plus, Minus, Slash, Percent}
 use Rattle.ba_model.specs.declared.query.Op.{Op}
-use Rattle.ba_model.specs.declared.query.Op.TheVariants.{Eq, Ne, Lt, Le}
+use Rattle.ba_model.specs.declared.query.Op.TheVariants.{Eq, Ne, Lt, Le, IsNull, NotNull}
 use Rattle.ba_sql_syntax.specs.Terminals.{Terminal, key, name, constant, sign, terminals}
 use Rattle.ba_sql_syntax.specs.declared.compare.Comparison.{Comparison}
-use Rattle.ba_sql_syntax.specs.declared.word.Key.TheVariants.{Select, Distinct, From, Where, Join, Inner, Cross, On, As, And, Or, Union, In}
+use Rattle.ba_sql_syntax.specs.declared.word.Key.TheVariants.{Select, Distinct, From, Where, Join, Inner, Cross, On, As, And, Or, Union, In, Is, Not, Null as NullKey}
 use Rattle.ba_sql_syntax.specs.declared.written.Constant.{Constant}
 use Rattle.ba_sql_syntax.specs.declared.written.Heads.{Heads}
 use Rattle.ba_sql_syntax.specs.declared.written.Heads.TheVariants.{All, Items}
@@ -21,7 +21,7 @@ use Rattle.ba_sql_syntax.specs.declared.written.Side.{Side}
 use Rattle.ba_sql_syntax.specs.declared.written.Side.TheVariants.{Column, Constant as ConstantSide}
 use Rattle.ba_sql_syntax.specs.declared.written.Source.{Source}
 use Rattle.ba_sql_syntax.specs.declared.written.Test.{Test}
-use Rattle.ba_sql_syntax.specs.declared.written.Test.TheVariants.{Compare, Among}
+use Rattle.ba_sql_syntax.specs.declared.written.Test.TheVariants.{Compare, Among, Null}
 
 -- list = element | list "," element
 pub data IsListed {X : Type 0} (Is : X → List Terminal → Type 0) : List X → List Terminal → Type 0 where
@@ -72,12 +72,14 @@ comparison Percent = None
 abbrev pub compared : Comparison → Side → Side → Test
 compared c left right = if c.turned then Compare c.op right left else Compare c.op left right
 
--- test = side comparison side | side IN "(" constant { "," constant } ")"
+-- test = side comparison side | side IN "(" constant { "," constant } ")" | side IS NULL | side IS NOT NULL
 pub data IsTest : Test → List Terminal → Type 0 where
   compare : {a b : Side} {us vs : List Terminal} (s : Sign) (c : Comparison) → IsSide a us → comparison s ≡ Some c → IsSide b vs
       → IsTest (compared c a b) (us ++ sign s ∷ vs)
   among : {a : Side} {cs : List Constant} {us vs : List Terminal} → IsSide a us → IsListed IsConstant cs vs
       → IsTest (Among a cs) (us ++ key In ∷ sign LeftParen ∷ (vs ++ sign RightParen ∷ []))
+  null : {a : Side} {us : List Terminal} → IsSide a us → IsTest (Null IsNull a) (us ++ key Is ∷ key NullKey ∷ [])
+  not_null : {a : Side} {us : List Terminal} → IsSide a us → IsTest (Null NotNull a) (us ++ key Is ∷ key Not ∷ key NullKey ∷ [])
 
 -- a condition's tree
 pub data Cond : Type 0 where

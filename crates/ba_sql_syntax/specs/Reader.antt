@@ -4,13 +4,15 @@ use Rattle.ba_grammar.specs.Front.{ReadOf, begins, listed, past, skip, syntax}
 use Rattle.ba_grammar.specs.declared.error.Syntax.{Syntax}
 use Rattle.ba_lex.specs.declared.token.Sign.TheVariants.{LeftParen, RightParen, Comma, Dot, Semicolon, Star}
 use Rattle.ba_model.specs.Readings.{◌>>=◌}
+use Rattle.ba_model.specs.declared.query.Op.{Op}
+use Rattle.ba_model.specs.declared.query.Op.TheVariants.{IsNull, NotNull}
 use Rattle.ba_sql_syntax.specs.Grammar.{comparison, compared}
 use Rattle.ba_sql_syntax.specs.Terminals.{Terminal, key, name, constant, sign, unsupported, is_key, is_sign}
 use Rattle.ba_sql_syntax.specs.declared.compare.Comparison.{Comparison}
 use Rattle.ba_sql_syntax.specs.declared.condition.Level.{Level}
 use Rattle.ba_sql_syntax.specs.declared.condition.Turn.{Turn}
 use Rattle.ba_sql_syntax.specs.declared.condition.Turn.TheVariants.{Want, Have}
-use Rattle.ba_sql_syntax.specs.declared.word.Key.TheVariants.{Select, Distinct, From, Where, Join, Inner, Cross, On, As, And, Or, Union, In}
+use Rattle.ba_sql_syntax.specs.declared.word.Key.TheVariants.{Select, Distinct, From, Where, Join, Inner, Cross, On, As, And, Or, Union, In, Is, Not, Null as NullKey}
 use Rattle.ba_sql_syntax.specs.declared.written.Constant.{Constant}
 use Rattle.ba_sql_syntax.specs.declared.written.Heads.{Heads}
 use Rattle.ba_sql_syntax.specs.declared.written.Heads.TheVariants.{All, Items}
@@ -24,7 +26,7 @@ use Rattle.ba_sql_syntax.specs.declared.written.Side.{Side}
 use Rattle.ba_sql_syntax.specs.declared.written.Side.TheVariants.{Column, Constant as ConstantSide}
 use Rattle.ba_sql_syntax.specs.declared.written.Source.{Source}
 use Rattle.ba_sql_syntax.specs.declared.written.Test.{Test}
-use Rattle.ba_sql_syntax.specs.declared.written.Test.TheVariants.{Among}
+use Rattle.ba_sql_syntax.specs.declared.written.Test.TheVariants.{Among, Null}
 
 -- what was read, and the terminals behind it
 abbrev pub Read : Type 0 → Type 0
@@ -127,10 +129,21 @@ among_at side ts = do
   rest ← past (is_sign RightParen) among.1
   Ok (Among side among.0, rest)
 
+-- what IS tests: NOT NULL or NULL
+abbrev pub null_op : List Terminal → Op
+null_op ts = if begins (is_key Not) ts then NotNull else IsNull
+
+unfoldable pub null_at : Side → List Terminal → Read Test
+null_at side ts = do
+  rest ← past (is_key Is) ts
+  behind ← past (is_key NullKey) (skip (is_key Not) rest)
+  Ok (Null (null_op rest) side, behind)
+
 unfoldable pub test_at : List Terminal → Read Test
 test_at ts = do
   side ← side_at ts
-  if begins (is_key In) side.1 then among_at side.0 side.1 else compared_at side.0 side.1
+  if begins (is_key In) side.1 then among_at side.0 side.1
+      else (if begins (is_key Is) side.1 then null_at side.0 side.1 else compared_at side.0 side.1)
 
 -- ---- conditions: brackets that are open, the innermost first, and whether an operator waits in each
 

@@ -7,7 +7,7 @@ use Rattle.ba_lex.specs.declared.token.Lexeme.TheVariants as lexemes
 use Rattle.ba_lex.specs.declared.token.Sign.{Sign}
 use Rattle.ba_model.specs.declared.value.Value.TheVariants.{Int, Text as TextValue}
 use Rattle.ba_sql_syntax.specs.declared.word.Key.{Key}
-use Rattle.ba_sql_syntax.specs.declared.word.Key.TheVariants.{Select, Distinct, From, Where, Join, Inner, Cross, On, As, And, Or, Union, In}
+use Rattle.ba_sql_syntax.specs.declared.word.Key.TheVariants.{Select, Distinct, From, Where, Join, Inner, Cross, On, As, And, Or, Union, In, Is, Not, Null}
 pub use Rattle.ba_sql_syntax.specs.declared.word.Terminal.{Terminal}
 pub use Rattle.ba_sql_syntax.specs.declared.word.Terminal.TheVariants.{Key as key, Name as name, Constant as constant, Sign as sign, Unsupported as unsupported}
 use Rattle.ba_sql_syntax.specs.declared.written.Constant.TheVariants.{Value, Param}
@@ -26,10 +26,13 @@ key_text And = codes "AND"
 key_text Or = codes "OR"
 key_text Union = codes "UNION"
 key_text In = codes "IN"
+key_text Is = codes "IS"
+key_text Not = codes "NOT"
+key_text Null = codes "NULL"
 
 -- all keywords
 abbrev pub keys : List Key
-keys = Select ∷ Distinct ∷ From ∷ Where ∷ Join ∷ Inner ∷ Cross ∷ On ∷ As ∷ And ∷ Or ∷ Union ∷ In ∷ []
+keys = Select ∷ Distinct ∷ From ∷ Where ∷ Join ∷ Inner ∷ Cross ∷ On ∷ As ∷ And ∷ Or ∷ Union ∷ In ∷ Is ∷ Not ∷ Null ∷ []
 
 abbrev pub truth : ℤ → Terminal
 truth n = constant (Value (Int n))
@@ -40,9 +43,10 @@ meanings =
     (codes "TRUE", truth (pos 1)) ∷ (codes "FALSE", truth (pos 0))
     ∷ (codes "SELECT", key Select) ∷ (codes "DISTINCT", key Distinct) ∷ (codes "FROM", key From) ∷ (codes "WHERE", key Where)
     ∷ (codes "JOIN", key Join) ∷ (codes "INNER", key Inner) ∷ (codes "CROSS", key Cross) ∷ (codes "ON", key On) ∷ (codes "AS", key As)
-    ∷ (codes "AND", key And) ∷ (codes "OR", key Or) ∷ (codes "UNION", key Union) ∷ (codes "IN", key In) ∷ []
+    ∷ (codes "AND", key And) ∷ (codes "OR", key Or) ∷ (codes "UNION", key Union) ∷ (codes "IN", key In)
+    ∷ (codes "IS", key Is) ∷ (codes "NOT", key Not) ∷ (codes "NULL", key Null) ∷ []
 
--- the words that are reserved and mean nothing here
+-- the reserved words that aren't supported; IS, NOT and NULL are in IS NULL and IS NOT NULL alone
 abbrev pub unsupported_words : List (List ℕ)
 unsupported_words =
     codes "ALL" ∷ codes "NOT" ∷ codes "NULL" ∷ codes "IS" ∷ codes "LIKE" ∷ codes "BETWEEN" ∷ codes "EXISTS"
@@ -100,6 +104,9 @@ key_number And = 9
 key_number Or = 10
 key_number Union = 11
 key_number In = 12
+key_number Is = 13
+key_number Not = 14
+key_number Null = 15
 
 abbrev pub is_key : Key → Terminal → Bool
 is_key k (key j) = key_number j == key_number k

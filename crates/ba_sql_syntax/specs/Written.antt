@@ -1,11 +1,11 @@
 -- What the words of a query say, or why they are none.
-use Rattle.std.specs.Prelude.{◌≡◌, ◌↔◌, ℕ, false, List, All, Option, Some, None, Result, Ok, Err}
+use Rattle.std.specs.Prelude.{◌≡◌, ◌↔◌, ℕ, List, All, Option, Some, None, Result, Ok, Err}
 use Rattle.ba_grammar.specs.declared.error.Syntax.{Syntax}
 use Rattle.ba_lex.specs.declared.token.Lexeme.{Lexeme}
 use Rattle.ba_model.specs.Readings.{widened}
 use Rattle.ba_sql_syntax.specs.Grammar.{HasTree, IsQueryText}
 use Rattle.ba_sql_syntax.specs.Reader.{text_of}
-use Rattle.ba_sql_syntax.specs.Scan.{IsFirstUnsupported, IsSupported, scan}
+use Rattle.ba_sql_syntax.specs.Scan.{IsFirstUnsupported, IsSupported, nothing, scan}
 use Rattle.ba_sql_syntax.specs.Terminals.{terminals}
 use Rattle.ba_sql_syntax.specs.declared.fault.SyntaxFault.{SyntaxFault}
 use Rattle.ba_sql_syntax.specs.declared.fault.SyntaxFault.TheVariants.{Unsupported, Syntax as syntax}
@@ -20,7 +20,7 @@ if_supported None read = read
 
 -- first the scan, then the grammar
 unfoldable pub written_of : List Lexeme → Result QueryText SyntaxFault
-written_of words = if_supported (scan false words) (or_syntax (text_of (terminals words)))
+written_of words = if_supported (scan nothing words) (or_syntax (text_of (terminals words)))
 
 -- words without an unsupported one are read as the grammar says
 abbrev pub ReadsGrammar : Type 0

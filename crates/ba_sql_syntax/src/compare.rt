@@ -2,9 +2,9 @@
 ghost use Rattle.std.specs.Prelude.{◌≡◌};
 ghost use Rattle.ba_model.specs.Readings.{Sees};
 ghost use Rattle.ba_sql_syntax.specs.Grammar.{compared, comparison};
-ghost use Rattle.ba_sql_syntax.specs.Reader.{among_at, compared_at, comparison_at, comparison_of, constant_at, test_at};
+ghost use Rattle.ba_sql_syntax.specs.Reader.{among_at, compared_at, comparison_at, comparison_of, constant_at, null_at, null_op, test_at};
 
-use crate::front::{begins_with, constant, past};
+use crate::front::{begins_with, constant, past, skip};
 use crate::side::side;
 use crate::word::{Key, Terminal};
 use crate::written::{Constant, Side, Test};
@@ -120,7 +120,27 @@ fn among(
     Ok((Test::Among { side, among }, rest))
 }
 
-/// A comparison of two sides, or IN with its constants.
+/// NOT NULL or NULL: what IS tests.
+fn null_op(words: &[Terminal]) -> Op
+    ensures { result ≡ null_op words.now }
+{
+    if begins_with(words, Key::Not) {
+        return Op::NotNull;
+    }
+    Op::IsNull
+}
+
+#[tactic(auto, unfolding(crate::specs::Reader::null_at))]
+fn null(side: Side, words: &[Terminal]) -> Result<(Test, &[Terminal]), Failure<Syntax>>
+    ensures { Sees (λ x. (x.0, x.1.now)) result (null_at side words.now) }
+{
+    let rest = past(words, Key::Is)?;
+    let op = null_op(rest);
+    let rest = past(skip(rest, Key::Not), Key::Null)?;
+    Ok((Test::Null { op, side }, rest))
+}
+
+/// A comparison of two sides, IN with its constants, IS NULL or IS NOT NULL.
 #[tactic(auto, unfolding(crate::specs::Reader::test_at))]
 pub fn test(alloc: Global, words: &[Terminal]) -> Result<(Test, &[Terminal]), Failure<Syntax>>
     ensures { Sees (λ x. (x.0, x.1.now)) result (test_at words.now) }
@@ -128,6 +148,9 @@ pub fn test(alloc: Global, words: &[Terminal]) -> Result<(Test, &[Terminal]), Fa
     let (side, rest) = side(alloc, words)?;
     if begins_with(rest, Key::In) {
         return among(alloc, side, rest);
+    }
+    if begins_with(rest, Key::Is) {
+        return null(side, rest);
     }
     compared(alloc, side, rest)
 }

@@ -8,7 +8,8 @@ use ba_model::Str;
 /// Why words are no query. Of both the first is told.
 #[derive(Debug, Drop)]
 pub enum SyntaxFault {
-    /// What isn't supported: a word in upper case, or a sign.
+    /// What isn't supported: a word in upper case, or a sign. IS, NOT and NULL are supported in
+    /// IS NULL and IS NOT NULL alone.
     Unsupported(Str),
     /// The grammar has no such words.
     Syntax,

@@ -88,9 +88,10 @@ fn scanned(alloc: Global, words: &[Lexeme]) -> Result<QueryText, Failure<SyntaxF
 /// First the words are scanned from the left: the first that isn't supported is told as
 /// `Unsupported`, a word in upper case and a sign as itself. These are the words ALL NOT NULL IS
 /// LIKE BETWEEN EXISTS GROUP HAVING ORDER LIMIT OFFSET LEFT RIGHT FULL OUTER NATURAL USING CASE WITH
-/// INSERT UPDATE DELETE INTERSECT EXCEPT in any case, the signs `+`, `-`, `/` and `%`, a SELECT
-/// directly behind `(`, and a word that isn't reserved directly before `(`. Then all words together
-/// must spell a query of the grammar, else they are `Syntax`:
+/// INSERT UPDATE DELETE INTERSECT EXCEPT in any case, but for those of IS NULL and IS NOT NULL, the
+/// signs `+`, `-`, `/` and `%`, a SELECT directly behind `(`, and a word that isn't reserved
+/// directly before `(`. Then all words together must spell a query of the grammar, else they are
+/// `Syntax`:
 ///
 /// ```text
 /// query  = select { UNION [DISTINCT] select } [";"]
@@ -100,6 +101,7 @@ fn scanned(alloc: Global, words: &[Lexeme]) -> Result<QueryText, Failure<SyntaxF
 /// source = name [ [AS] name ]
 /// cond   = conj { OR conj }             conj = prim { AND prim }
 /// prim   = "(" cond ")" | operand cmp operand | operand IN "(" constant { "," constant } ")"
+///          | operand IS [NOT] NULL
 /// operand = [ name "." ] name | constant
 /// constant = Number | Text | Param | TRUE | FALSE
 /// cmp    = "=" | "<>" | "!=" | "<" | "<=" | ">" | ">="

@@ -25,6 +25,9 @@ pub enum Key {
     Or,
     Union,
     In,
+    Is,
+    Not,
+    Null,
 }
 
 impl Key {
@@ -45,6 +48,9 @@ impl Key {
             Key::Or => "OR",
             Key::Union => "UNION",
             Key::In => "IN",
+            Key::Is => "IS",
+            Key::Not => "NOT",
+            Key::Null => "NULL",
         }
     }
 }
@@ -56,7 +62,7 @@ pub enum Terminal {
     Name(Str),
     Constant(Constant),
     Sign(Sign),
-    /// A word that isn't supported.
+    /// A reserved word that the grammar has nowhere.
     Unsupported,
 }
 
@@ -70,7 +76,7 @@ fn first_letter(word: &Str) -> u8
     }
 }
 
-/// Of the words that are reserved and not supported those that begin with this letter.
+/// Of the unsupported words those that begin with this letter.
 fn unsupported_by(letter: u8) -> &'static [&'static str]
     ensures { map (λ word. word.now) result.now ≡ words_by letter unsupported_words }
 {
@@ -94,7 +100,7 @@ fn unsupported_by(letter: u8) -> &'static [&'static str]
     }
 }
 
-/// Whether the word is reserved, but not supported.
+/// Whether the word is an unsupported one. IS, NOT and NULL are, but for IS NULL and IS NOT NULL.
 pub fn is_unsupported(word: &Str) -> bool
     ensures { result ≡ is_unsupported word.now }
 {
@@ -110,8 +116,9 @@ fn keys_by(letter: u8) -> &'static [Key]
         b'c' => &[Key::Cross],
         b'd' => &[Key::Distinct],
         b'f' => &[Key::From],
-        b'i' => &[Key::Inner, Key::In],
+        b'i' => &[Key::Inner, Key::In, Key::Is],
         b'j' => &[Key::Join],
+        b'n' => &[Key::Not, Key::Null],
         b'o' => &[Key::On, Key::Or],
         b's' => &[Key::Select],
         b'u' => &[Key::Union],

@@ -60,6 +60,8 @@ pub enum Heads {
 #[derive(Debug, Drop)]
 pub enum Test {
     Compare { op: Op, left: Side, right: Side },
+    /// IS NULL or IS NOT NULL, as the op says.
+    Null { op: Op, side: Side },
     /// IN: the side equals one of these.
     Among { side: Side, among: List<Constant> },
 }
