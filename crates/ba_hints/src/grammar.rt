@@ -16,6 +16,7 @@ pub enum Term {
     Or,
     Union,
     In,
+    Is,
     Create,
     TableKey,
     Primary,
@@ -94,6 +95,7 @@ impl Term {
             Term::Or => "OR",
             Term::Union => "UNION",
             Term::In => "IN",
+            Term::Is => "IS",
             Term::Create => "CREATE",
             Term::TableKey => "TABLE",
             Term::Primary => "PRIMARY",
@@ -161,6 +163,8 @@ pub enum Stage {
     LeftColumn,
     Right,
     In,
+    Is,
+    IsNot,
     RightDot,
     Tested,
     RightColumn,
@@ -247,7 +251,7 @@ impl Step {
 }
 
 /// The steps over a question.
-pub const QUERY: [Step; 83] = [
+pub const QUERY: [Step; 87] = [
     Step(Stage::Query, Term::Select, Stage::Head),
     Step(Stage::Head, Term::Distinct, Stage::HeadBare),
     Step(Stage::Head, Term::Star, Stage::HeadStar),
@@ -308,6 +312,7 @@ pub const QUERY: [Step; 83] = [
     Step(Stage::LeftColumn, Term::Column, Stage::Left),
     Step(Stage::Left, Term::Compare, Stage::Right),
     Step(Stage::Left, Term::In, Stage::In),
+    Step(Stage::Left, Term::Is, Stage::Is),
     Step(Stage::Right, Term::Qualifier, Stage::RightDot),
     Step(Stage::Right, Term::Column, Stage::Tested),
     Step(Stage::Right, Term::Value, Stage::Tested),
@@ -317,6 +322,9 @@ pub const QUERY: [Step; 83] = [
     Step(Stage::InItem, Term::Listed, Stage::InNext),
     Step(Stage::InNext, Term::Comma, Stage::InItem),
     Step(Stage::InNext, Term::Close, Stage::Tested),
+    Step(Stage::Is, Term::Not, Stage::IsNot),
+    Step(Stage::Is, Term::Null, Stage::Tested),
+    Step(Stage::IsNot, Term::Null, Stage::Tested),
     Step(Stage::Tested, Term::And, Stage::Cond),
     Step(Stage::Tested, Term::Or, Stage::Cond),
     Step(Stage::Tested, Term::Close, Stage::Tested),

@@ -67,9 +67,55 @@ fn is_open(tokens: &[Token], at: usize) -> bool {
     }
 }
 
+// Whether a token is a keyword.
+fn is_keyword_at(tokens: &[Token], at: usize, keyword: &str) -> bool {
+    match tokens.get(at) {
+        Some(token) => is_keyword(&token.lexeme, keyword),
+        None => false,
+    }
+}
+
+// How many tokens an IS NULL or an IS NOT NULL has that begins there; 0 if there is none.
+fn null_test_length(tokens: &[Token], at: usize) -> usize {
+    if !is_keyword_at(tokens, at, "IS") {
+        return 0;
+    }
+    let second = at.saturating_add(1);
+    if is_keyword_at(tokens, second, "NULL") {
+        return 2;
+    }
+    let third = at.saturating_add(2);
+    if is_keyword_at(tokens, second, "NOT") && is_keyword_at(tokens, third, "NULL") {
+        return 3;
+    }
+    0
+}
+
+// Whether a token is one of an IS NULL or of an IS NOT NULL.
+fn is_in_null_test(tokens: &[Token], at: usize) -> bool {
+    for before in 0..3 {
+        let Some(first) = at.checked_sub(before) else {
+            return false;
+        };
+        if null_test_length(tokens, first) > before {
+            return true;
+        }
+    }
+    false
+}
+
 // Why a token that spells the word that isn't supported is the one that isn't.
 fn unsupported_text(tokens: &[Token], at: usize) -> Option<&'static str> {
     let token = tokens.get(at)?;
+    if is_in_null_test(tokens, at) {
+        return None;
+    }
+    if is_keyword(&token.lexeme, "IS")
+        || is_keyword(&token.lexeme, "NOT")
+        || is_keyword(&token.lexeme, "NULL")
+    {
+        return Some("is supported in IS NULL and IS NOT NULL alone");
+    }
     if is_keyword(&token.lexeme, "SELECT") {
         let before = at.checked_sub(1)?;
         return is_open(tokens, before).then_some("isn't supported inside brackets");

@@ -135,6 +135,8 @@ SELECT UId FROM Users UNION SELECT EId FROM Events WHERE EId = 1 OR EId = 2 UNIO
 SELECT UId FROM Users WHERE [[30000 (]]UId = 1[[30000 )]] => SELECT t0."UId" FROM "Users" t0 WHERE t0."UId" = 1
 SELECT 1 FROM Users WHERE UId=1 OR UId=2 AND UId=3 OR UId=4 => SELECT 1 FROM "Users" t0 WHERE t0."UId" = 1 UNION SELECT 1 FROM "Users" t0 WHERE t0."UId" = 2 AND t0."UId" = 3 UNION SELECT 1 FROM "Users" t0 WHERE t0."UId" = 4
 SELECT 1 FROM Users WHERE UId=1 AND (UId=2 AND (UId=3 OR UId=4)) => SELECT 1 FROM "Users" t0 WHERE t0."UId" = 1 AND t0."UId" = 2 AND t0."UId" = 3 UNION SELECT 1 FROM "Users" t0 WHERE t0."UId" = 1 AND t0."UId" = 2 AND t0."UId" = 4
+SELECT UId FROM Users WHERE Name IS NULL OR (Users.UId is not null AND ?MyUId IS NULL) => SELECT t0."UId" FROM "Users" t0 WHERE t0."Name" IS NULL UNION SELECT t0."UId" FROM "Users" t0 WHERE t0."UId" IS NOT NULL AND ?MyUId IS NULL
+SELECT 'x' FROM Users WHERE 3 Is Not Null AND TRUE IS NULL AND 'x' IS NULL => SELECT 'x' FROM "Users" t0 WHERE 3 IS NOT NULL AND 1 IS NULL AND 'x' IS NULL
 SELECT DISTINCT u.UId one, Name "n" FROM Users AS u => SELECT t0."UId", t0."Name" FROM "Users" t0"#;
 
 /// Texts have their fault before a later one, which stands further left or in another select.
@@ -166,7 +168,13 @@ SELECT UId FROM Users WHERE UId IN (1[[32 ,1]]) UNION SELECT Name FROM Users => 
 
 const UNSUPPORTED: &str =
     "SELECT Name FROM Users UNION ALL SELECT Title FROM Events => unsupported ALL
-SELECT a FROM T wHere a is nOt null => unsupported IS
+SELECT a FROM T wHere a is nOt => unsupported IS
+SELECT a FROM T WHERE a IS NOT (NULL) => unsupported IS
+SELECT a FROM T WHERE a IS NULL AND b = NULL => unsupported NULL
+SELECT a FROM T WHERE a IN (1, null) => unsupported NULL
+SELECT a FROM T WHERE a IS NOT NULL NULL => unsupported NULL
+SELECT a FROM T WHERE NOT NULL => unsupported NOT
+SELECT a FROM T WHERE a IS NOT NOT NULL => unsupported IS
 SELECT a + 1 FROM T => unsupported +
 SELECT a / 1 FROM T => unsupported /
 SELECT a FROM ( select b FROM U) => unsupported SELECT
@@ -195,6 +203,11 @@ SELECT a FROM T WHERE [[30000 (]]a = 1[[30001 )]]
 SELECT a FROM T WHERE (a) = 1
 SELECT a FROM T WHERE a IN ()
 SELECT a FROM T WHERE a IN (b)
+SELECT a IS NULL FROM T
+SELECT a FROM T WHERE IS NULL
+SELECT a FROM T WHERE a IS NULL = 1
+SELECT a FROM T WHERE (a IS NOT NULL
+SELECT a FROM T WHERE a IN (1) IS NULL
 SELECT a FROM T WHERE a = 1 WHERE b = 2"#;
 
 /// Texts near the longest take time that their length bounds.
