@@ -95,6 +95,14 @@ fn header_text(alloc: Global, table: &Table) -> Result<String, AllocError> {
     Ok(text)
 }
 
+// What else a column of numbers may hold.
+fn null_text(table: &Table, column: u32) -> &'static str {
+    match table.columns.find(column as usize) {
+        Some(column) if column.nullable => ", or \\N or nothing for NULL",
+        _ => "",
+    }
+}
+
 // What is wrong with a row.
 fn row_text(
     alloc: Global,
@@ -121,8 +129,9 @@ fn row_text(
         TableFault::BadNumber(row, column) => {
             let name = column_name(table, column);
             let field = record.field(alloc, column)?;
+            let null = null_text(table, column);
             format!(in alloc;
-                "row {row} has {field} as its {name}, which is a whole number: - or nothing, then digits, within 64 bits"
+                "row {row} has {field} as its {name}, which is a whole number: - or nothing, then digits, within 64 bits{null}"
             )
         }
         TableFault::TooMany(limit) => format!(in alloc; "there are more than {limit} rows"),

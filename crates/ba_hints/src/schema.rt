@@ -193,25 +193,6 @@ fn tables_hint(
     Hint::plain(alloc, general_text(fault))
 }
 
-// A hint on a column that may be NULL.
-fn null_hint(
-    alloc: Global,
-    bytes: &[u8],
-    words: &Words<'_>,
-    table: &str,
-    column: &str,
-) -> Result<Hint, AllocError> {
-    let text = format!(in alloc;
-        "{column} of {table} may be NULL, which isn't supported: put NOT NULL behind its type"
-    )?;
-    let all = words.taken.len();
-    let place = match words.find(Term::NewTable, None, table, all) {
-        Some(at) => words.find(Term::NewColumn, Some(words.group(at)), column, all),
-        None => None,
-    };
-    Ok(words.hint(bytes.len(), place, text))
-}
-
 // A hint on the first of the words that spells one that isn't supported.
 fn unsupported_hint(
     alloc: Global,
@@ -247,9 +228,6 @@ fn fault_hint(
             Hint::plain(alloc, "its words aren't those of a schema")
         }
         DdlFault::Syntax => stop_hint(alloc, &SCHEMA, bytes, &words, &walk.state),
-        DdlFault::Nullable(table, column) => {
-            null_hint(alloc, bytes, &words, table.as_str(), column.as_str())
-        }
         DdlFault::Schema(fault) => tables_hint(alloc, bytes, &words, *fault),
     }
 }

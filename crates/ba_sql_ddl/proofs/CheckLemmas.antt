@@ -1,5 +1,5 @@
 -- The first fault of a draft, by the function and as the model tells it.
-use Rattle.std.proofs.Common.{◌≡◌, ◌∙◌, ℕ, ◌<◌, Bool, true, false, not, nat_eq, List, [], ◌∷◌, All, Option, Some, None, Result, Ok, Err, refl, sym, ap, subst, lit<, arith}
+use Rattle.std.proofs.Common.{◌≡◌, ◌∙◌, ℕ, ◌<◌, Bool, true, false, not, nat_eq, List, [], ◌∷◌, Option, Some, None, Result, Ok, Err, refl, sym, ap, subst, lit<, arith}
 use Rattle.std.specs.Prelude.{IfErr, IfOk}
 use Rattle.std.specs.List.{AllByRecursion, IsDistinct, list_all, list_any}
 use Rattle.std.proofs.lemmas.Bool.{and_from, and_parts, false_from_ne_true, not_from_false, not-true, or_from, or_parts}
@@ -13,12 +13,10 @@ use Rattle.ba_model.specs.declared.check_schema.SchemaFault.{SchemaFault}
 use Rattle.ba_model.specs.declared.check_schema.SchemaFault.TheVariants.{DuplicateTable, DuplicateColumn, UnknownTable, UnknownColumn, WidthDiffers, KindDiffers, EmptyKey, TooMany, Rule as OfRule}
 use Rattle.ba_model.specs.declared.failure.Failure.{Failure}
 use Rattle.ba_model.specs.declared.failure.Failure.TheVariants.{NoMemory, Fault}
-use Rattle.ba_model.specs.declared.schema.Column.{Column}
 use Rattle.ba_model.specs.declared.schema.Rule.{Rule}
 use Rattle.ba_model.specs.declared.schema.Schema.{Schema}
 use Rattle.ba_model.specs.declared.schema.Table.{Table}
-use Rattle.ba_sql_ddl.specs.Check.{AreNotNull, are_distinct, columns_distinct, first_fault, schema, well_formed}
-use Rattle.ba_sql_ddl.specs.Meaning.{first_nullable, nullable_column}
+use Rattle.ba_sql_ddl.specs.Check.{are_distinct, columns_distinct, first_fault, schema, well_formed}
 use Rattle.ba_sql_ddl.specs.Numbers.{same_name}
 
 -- ---- the tests of names and keys
@@ -171,24 +169,3 @@ check_gives tables rules (Ok s) none content is fault =
     tables_give tables s is.tables (ap (λ (z : Schema). z.tables) content) (ap (λ (z : Schema). z.rules) content ∙ none)
 check_gives tables rules (Err e) none content is fault =
     fault_fails tables e (fault_of_tables tables e (subst (λ rs. OfFault e (IsSchemaFault (record { tables = tables; rules = rs }))) none fault))
-
--- ---- no nullable column
-
-columns_not_null : (cs : List Column) → nullable_column cs ≡ None → AllByRecursion (λ c. c.nullable ≡ false) cs
-columns_not_null [] e = tt
-columns_not_null (c ∷ cs) e = at c.nullable refl (columns_not_null cs)
-  where
-    at : (b : Bool) → c.nullable ≡ b → (nullable_column cs ≡ None → AllByRecursion (λ c. c.nullable ≡ false) cs) → AllByRecursion (λ c. c.nullable ≡ false) (c ∷ cs)
-    at false h below = (h, below (rw h at e))
-    at true h below = let wrong : ◌≡◌ {A = Option (List ℕ)} (Some c.name) None = rw h at e in cc
-
-tables_not_null : (ts : List Table) → first_nullable ts ≡ None → AllByRecursion (λ t. All (λ c. c.nullable ≡ false) t.columns) ts
-tables_not_null [] e = tt
-tables_not_null (t ∷ ts) e = at (nullable_column t.columns) refl (tables_not_null ts)
-  where
-    at : (o : Option (List ℕ)) → nullable_column t.columns ≡ o → (first_nullable ts ≡ None → AllByRecursion (λ t. All (λ c. c.nullable ≡ false) t.columns) ts) → AllByRecursion (λ t. All (λ c. c.nullable ≡ false) t.columns) (t ∷ ts)
-    at None h below = (All-from_recursion (λ (c : Column). c.nullable ≡ false) t.columns (columns_not_null t.columns h), below (rw h at e))
-    at (Some n) h below = let wrong : ◌≡◌ {A = Option (List ℕ × List ℕ)} (Some (t.name, n)) None = rw h at e in cc
-
-pub not_null : (tables : List Table) → first_nullable tables ≡ None → AreNotNull tables
-not_null tables e = record { columns = All-from_recursion (λ (t : Table). All (λ (c : Column). c.nullable ≡ false) t.columns) tables (tables_not_null tables e) }

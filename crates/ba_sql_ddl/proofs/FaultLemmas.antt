@@ -12,12 +12,11 @@ use Rattle.ba_model.specs.declared.check_schema.SchemaFault.TheVariants.{Duplica
 use Rattle.ba_model.specs.declared.failure.Failure.{Failure}
 use Rattle.ba_model.specs.declared.schema.Schema.{Schema}
 use Rattle.ba_model.specs.declared.schema.Table.{Table}
-use Rattle.ba_sql_ddl.specs.Check.{AreNotNull, are_distinct, checked, columns_distinct, first_fault, schema, too_many}
-use Rattle.ba_sql_ddl.specs.Meaning.{first_nullable}
+use Rattle.ba_sql_ddl.specs.Check.{are_distinct, checked, columns_distinct, first_fault, schema, too_many}
 use Rattle.ba_sql_ddl.specs.Numbers.{same_name}
 use Rattle.ba_sql_ddl.specs.declared.fault.DdlFault.{DdlFault}
-use Rattle.ba_sql_ddl.specs.declared.fault.DdlFault.TheVariants.{Nullable, Schema as SchemaFaulty}
-use Rattle.ba_sql_ddl.proofs.CheckLemmas.{columns_tell, names_told, columns_told, not_null, table_names_tell}
+use Rattle.ba_sql_ddl.specs.declared.fault.DdlFault.TheVariants.{Schema as SchemaFaulty}
+use Rattle.ba_sql_ddl.proofs.CheckLemmas.{columns_tell, names_told, columns_told, table_names_tell}
 
 -- what a fault of a rank lacks
 abbrev Level : List Table → ℕ → Type 0
@@ -110,34 +109,24 @@ told tables =
 
 record IsChecked (s : Schema) : Type 0 where
   tables : AreTables s.tables
-  not_null : AreNotNull s.tables
   rules : s.rules ≡ []
 
 is_checked : (tables : List Table) (s : Schema) → checked tables ≡ Ok s → IsChecked s
 unfolding checked
-is_checked tables s e = at (first_nullable tables) refl (first_fault tables) refl
+is_checked tables s e = at (first_fault tables) refl
   where
     same : (t : Schema) → ◌≡◌ {A = Result Schema DdlFault} (Ok t) (Ok s) → t ≡ s
     same t e = cc
 
-    at : (n : Option (List ℕ × List ℕ)) → first_nullable tables ≡ n → (f : Option SchemaFault) → first_fault tables ≡ f → IsChecked s
-    at (Some n) h f k = let wrong : ◌≡◌ {A = Result Schema DdlFault} (Err (Nullable n.0 n.1)) (Ok s) = rw h at e in cc
-    at None h (Some f) k = let wrong : ◌≡◌ {A = Result Schema DdlFault} (Err (SchemaFaulty f)) (Ok s) = rw (h, k) at e in cc
-    at None h None k =
-        let is : ◌≡◌ {A = Result Schema DdlFault} (Ok (schema tables)) (Ok s) = rw (h, k) at e in
-        subst IsChecked (same (schema tables) is) (record {
-          tables = subst (λ (o : Option SchemaFault). Told o tables) k (told tables);
-          not_null = not_null tables h;
-          rules = refl;
-        })
+    at : (f : Option SchemaFault) → first_fault tables ≡ f → IsChecked s
+    at (Some f) k = let wrong : ◌≡◌ {A = Result Schema DdlFault} (Err (SchemaFaulty f)) (Ok s) = rw k at e in cc
+    at None k =
+        let is : ◌≡◌ {A = Result Schema DdlFault} (Ok (schema tables)) (Ok s) = rw k at e in
+        subst IsChecked (same (schema tables) is) (record { tables = subst (λ (o : Option SchemaFault). Told o tables) k (told tables); rules = refl })
 
 pub checked_tables : (tables : List Table) (r : Result Schema (Failure DdlFault)) → Gives r (checked tables) → IfOk r (λ s. AreTables s.tables)
 checked_tables tables (Ok s) e = (is_checked tables s e).tables
 checked_tables tables (Err f) e = tt
-
-pub checked_not_null : (tables : List Table) (r : Result Schema (Failure DdlFault)) → Gives r (checked tables) → IfOk r (λ s. AreNotNull s.tables)
-checked_not_null tables (Ok s) e = (is_checked tables s e).not_null
-checked_not_null tables (Err f) e = tt
 
 pub checked_rules : (tables : List Table) (r : Result Schema (Failure DdlFault)) → Gives r (checked tables) → IfOk r (λ s. s.rules ≡ [])
 checked_rules tables (Ok s) e = (is_checked tables s e).rules

@@ -1,9 +1,9 @@
 -- What written tables mean, by the function and in SQL's terms.
-use Rattle.std.proofs.Common.{◌≡◌, ℕ, zero, suc, ◌<◌, ◌≤◌, Bool, true, false, not, nat_lt, List, [], ◌∷◌, length, map, slice_get, All, Option, Some, None, is_some, option_map, refl, sym, ap, subst, ◌∙◌, arith}
+use Rattle.std.proofs.Common.{◌≡◌, ℕ, zero, suc, ◌<◌, ◌≤◌, Bool, true, false, not, nat_lt, List, [], ◌∷◌, length, map, slice_get, Option, Some, None, is_some, option_map, refl, sym, ap, subst, ◌∙◌, arith}
 use Rattle.std.specs.List.{AllByRecursion, AllZip, IsDistinct, flat_map, list_all}
 use Rattle.std.proofs.lemmas.Bool.{and_parts, false≢true, ltb-false}
 use Rattle.std.proofs.lemmas.List.{length-map}
-use Rattle.std.proofs.lemmas.List.Elements.{All-from_recursion, recursion_from_All}
+use Rattle.std.proofs.lemmas.List.Elements.{recursion_from_All}
 use Rattle.std.proofs.lemmas.Option.{slice_get-map, slice_get_past}
 use Rattle.ba_model.specs.SchemaFaults.{AreTables, ColumnsDistinct, column_names, columns_of, columns_or, columns_there, excess, has_columns, link_columns_there, or_else, table_excess, table_names, tables_excess, targets_there}
 use Rattle.ba_model.specs.declared.limits.Counted.{Counted}
@@ -12,7 +12,7 @@ use Rattle.ba_model.specs.declared.check_schema.SchemaFault.TheVariants.{Duplica
 use Rattle.ba_model.specs.declared.schema.Column.{Column}
 use Rattle.ba_model.specs.declared.schema.Link.{Link}
 use Rattle.ba_model.specs.declared.schema.Table.{Table}
-use Rattle.ba_sql_ddl.specs.Laws.{AreNumbersOf, IsColumn, IsLink, IsNotNull, IsTableOf}
+use Rattle.ba_sql_ddl.specs.Laws.{AreNumbersOf, IsColumn, IsLink, IsTableOf}
 use Rattle.ba_sql_ddl.specs.Meaning.{LinkText, column_of, columns_in, draft_of, is_not_null, key_of, keys_in, link_of, links_in, names_in, primary_names, scope_of, table_of}
 use Rattle.ba_sql_ddl.specs.Numbers.{number, number_in, number_there, once, same_name}
 use Rattle.ba_sql_ddl.specs.declared.draft.Scope.{Scope}
@@ -20,7 +20,7 @@ use Rattle.ba_sql_ddl.specs.declared.written.ColumnText.{ColumnText}
 use Rattle.ba_sql_ddl.specs.declared.written.TableItem.{TableItem}
 use Rattle.ba_sql_ddl.specs.declared.written.TableItem.TheVariants.{Column as ColumnItem, Constraint as ConstraintItem}
 use Rattle.ba_sql_ddl.specs.declared.written.TableText.{TableText}
-use Rattle.ba_sql_ddl.proofs.NullLemmas.{AllNotNull, not_null_complete}
+use Rattle.ba_sql_ddl.proofs.NullLemmas.{nullable_is, nullable_said}
 use Rattle.ba_sql_ddl.proofs.NumberLemmas.{AllBelow, IsShort, columns_complete, columns_sound, key_complete, key_sound, number_complete, number_sound, once_distinct}
 
 -- ---- names of tables and columns
@@ -233,26 +233,26 @@ links_complete texts t (l ∷ ls) (k ∷ ks) own g h =
 
 -- ---- columns
 
-columns_mean : (t : TableText) (cs : List ColumnText) → AllByRecursion (IsNotNull t) cs → AllZip IsColumn cs (map (column_of (once (primary_names t.items))) cs)
-columns_mean t [] h = tt
-columns_mean t (c ∷ cs) h = (record { name = refl; kind = refl; not_null = rw (not_null_complete t c h.0) refl }, columns_mean t cs h.1)
+columns_mean : (t : TableText) (cs : List ColumnText) → AllZip (IsColumn t) cs (map (column_of (once (primary_names t.items))) cs)
+columns_mean t [] = tt
+columns_mean t (c ∷ cs) = (record { name = refl; kind = refl; nullable = nullable_said t c }, columns_mean t cs)
 
-columns_meant : (t : TableText) (cs : List ColumnText) (columns : List Column) → AllByRecursion (IsNotNull t) cs → AllZip IsColumn cs columns → columns ≡ map (column_of (once (primary_names t.items))) cs
-columns_meant t [] [] h z = refl
-columns_meant t [] (x ∷ xs) h z = absurd z
-columns_meant t (c ∷ cs) [] h z = absurd z
-columns_meant t (c ∷ cs) (x ∷ xs) h z =
+columns_meant : (t : TableText) (cs : List ColumnText) (columns : List Column) → AllZip (IsColumn t) cs columns → columns ≡ map (column_of (once (primary_names t.items))) cs
+columns_meant t [] [] z = refl
+columns_meant t [] (x ∷ xs) z = absurd z
+columns_meant t (c ∷ cs) [] z = absurd z
+columns_meant t (c ∷ cs) (x ∷ xs) z =
     let p : List (List ℕ) = once (primary_names t.items) in
-    let null : x.nullable ≡ not (is_not_null p c) = z.0.not_null ∙ ap not (sym (not_null_complete t c h.0)) in
+    let null : x.nullable ≡ not (is_not_null p c) = nullable_is t c x.nullable z.0.nullable in
     let name = z.0.name in
     let kind = z.0.kind in
     let one : x ≡ column_of p c = λ i. record { name = name i; kind = kind i; nullable = null i } in
-    ap (λ (y : Column). y ∷ xs) one ∙ ap (λ (ys : List Column). column_of p c ∷ ys) (columns_meant t cs xs h.1 z.1)
+    ap (λ (y : Column). y ∷ xs) one ∙ ap (λ (ys : List Column). column_of p c ∷ ys) (columns_meant t cs xs z.1)
 
 -- ---- tables
 
-table_sound : (texts : List TableText) (t : TableText) → GoodTexts texts → Good t → AllNotNull t → Facts (map (table_of (scope_of texts)) texts) (table_of (scope_of texts) t) → IsTableOf texts t (table_of (scope_of texts) t)
-table_sound texts t g good null f =
+table_sound : (texts : List TableText) (t : TableText) → GoodTexts texts → Good t → Facts (map (table_of (scope_of texts)) texts) (table_of (scope_of texts) t) → IsTableOf texts t (table_of (scope_of texts) t)
+table_sound texts t g good f =
     let scope = scope_of texts in
     let names : List (List ℕ) = once (names_in t.items) in
     let own : names ≡ names_in t.items = once_distinct (names_in t.items) good.distinct in
@@ -262,34 +262,32 @@ table_sound texts t g good null f =
     let there = and_parts (list_all (has_columns table.columns) table.keys) (list_all (link_columns_there (map (table_of scope) texts) table) table.links) f.columns in
     record {
       name = refl;
-      columns = columns_mean t (columns_in t.items) (recursion_from_All (IsNotNull t) (columns_in t.items) null);
-      not_null = null;
+      columns = columns_mean t (columns_in t.items);
       keys = subst (λ (ns : List (List ℕ)). AllZip (AreNumbersOf ns) (flat_map keys_in t.items) table.keys) own (keys_sound table.columns names (flat_map keys_in t.items) count short there.0);
       links = links_sound texts t names table (flat_map links_in t.items) own count short g f.targets there.1;
     }
 
-tables_each : (texts ts : List TableText) → GoodTexts texts → AllByRecursion Good ts → AllByRecursion AllNotNull ts → AllByRecursion (Facts (map (table_of (scope_of texts)) texts)) (map (table_of (scope_of texts)) ts)
+tables_each : (texts ts : List TableText) → GoodTexts texts → AllByRecursion Good ts → AllByRecursion (Facts (map (table_of (scope_of texts)) texts)) (map (table_of (scope_of texts)) ts)
     → AllZip (IsTableOf texts) ts (map (table_of (scope_of texts)) ts)
-tables_each texts [] g goods nulls facts = tt
-tables_each texts (t ∷ ts) g goods nulls facts = (table_sound texts t g goods.0 nulls.0 facts.0, tables_each texts ts g goods.1 nulls.1 facts.1)
+tables_each texts [] g goods facts = tt
+tables_each texts (t ∷ ts) g goods facts = (table_sound texts t g goods.0 facts.0, tables_each texts ts g goods.1 facts.1)
 
-pub tables_sound : (texts : List TableText) → AreTables (draft_of texts) → All AllNotNull texts → AllZip (IsTableOf texts) texts (draft_of texts)
+pub tables_sound : (texts : List TableText) → AreTables (draft_of texts) → AllZip (IsTableOf texts) texts (draft_of texts)
 unfolding draft_of
-tables_sound texts are nulls =
+tables_sound texts are =
     let tables : List Table = map (table_of (scope_of texts)) texts in
     let f = formed tables are in
     let few = f.few in
     let each : AllByRecursion Good texts = goods (scope_of texts) tables texts f.each in
     let g : GoodTexts texts = record { distinct = subst (IsDistinct same_name) (names_tables (scope_of texts) texts) f.distinct; short = omega (arith, few, table_count texts); each = each } in
-    tables_each texts texts g each (recursion_from_All AllNotNull texts nulls) f.each
+    tables_each texts texts g each f.each
 
 table_complete : (texts : List TableText) (t : TableText) (table : Table) → GoodTexts texts → Good t → IsTableOf texts t table → table ≡ table_of (scope_of texts) t
 table_complete texts t table g good h =
     let scope = scope_of texts in
     let own : names_in t.items ≡ once (names_in t.items) = sym (once_distinct (names_in t.items) good.distinct) in
     let name = h.name in
-    let columns : table.columns ≡ map (column_of (once (primary_names t.items))) (columns_in t.items) =
-    columns_meant t (columns_in t.items) table.columns (recursion_from_All (IsNotNull t) (columns_in t.items) h.not_null) h.columns in
+    let columns : table.columns ≡ map (column_of (once (primary_names t.items))) (columns_in t.items) = columns_meant t (columns_in t.items) table.columns h.columns in
     let keys : table.keys ≡ map (key_of (once (names_in t.items))) (flat_map keys_in t.items) =
     keys_complete (names_in t.items) (flat_map keys_in t.items) table.keys good.short good.distinct h.keys ∙ ap (λ (ns : List (List ℕ)). map (key_of ns) (flat_map keys_in t.items)) own in
     let links : table.links ≡ map (link_of scope (once (names_in t.items))) (flat_map links_in t.items) =
@@ -301,15 +299,15 @@ column_texts [] = refl
 column_texts (ColumnItem c ∷ items) = ap (λ (ns : List (List ℕ)). c.name ∷ ns) (column_texts items)
 column_texts (ConstraintItem c ∷ items) = column_texts items
 
-zip_names : (cs : List ColumnText) (columns : List Column) → AllZip IsColumn cs columns → column_names columns ≡ map (λ (c : ColumnText). c.name) cs
-zip_names [] [] h = refl
-zip_names [] (x ∷ xs) h = absurd h
-zip_names (c ∷ cs) [] h = absurd h
-zip_names (c ∷ cs) (x ∷ xs) h = ap (λ (n : List ℕ). n ∷ column_names xs) h.0.name ∙ ap (λ (ns : List (List ℕ)). c.name ∷ ns) (zip_names cs xs h.1)
+zip_names : (t : TableText) (cs : List ColumnText) (columns : List Column) → AllZip (IsColumn t) cs columns → column_names columns ≡ map (λ (c : ColumnText). c.name) cs
+zip_names t [] [] h = refl
+zip_names t [] (x ∷ xs) h = absurd h
+zip_names t (c ∷ cs) [] h = absurd h
+zip_names t (c ∷ cs) (x ∷ xs) h = ap (λ (n : List ℕ). n ∷ column_names xs) h.0.name ∙ ap (λ (ns : List (List ℕ)). c.name ∷ ns) (zip_names t cs xs h.1)
 
 good_written : (texts : List TableText) (t : TableText) (tables : List Table) (table : Table) → Facts tables table → IsTableOf texts t table → Good t
 good_written texts t tables table f h =
-    let names : column_names table.columns ≡ names_in t.items = zip_names (columns_in t.items) table.columns h.columns ∙ column_texts t.items in
+    let names : column_names table.columns ≡ names_in t.items = zip_names t (columns_in t.items) table.columns h.columns ∙ column_texts t.items in
     let few = f.few in
     let count : length table.columns ≡ length (names_in t.items) = sym (length-map table.columns (λ c. c.name)) ∙ ap length names in
     record { distinct = subst (IsDistinct same_name) names f.distinct; short = omega (arith, few, count) }
@@ -342,11 +340,3 @@ tables_complete texts tables are h =
     let count : length tables ≡ length (text_names texts) = sym (length-map tables (λ (t : Table). t.name)) ∙ ap length names in
     let g : GoodTexts texts = record { distinct = subst (IsDistinct same_name) names f.distinct; short = omega (arith, few, count); each = each } in
     each_complete texts texts tables g each h
-
-nulls_each : (texts ts : List TableText) (us : List Table) → AllZip (IsTableOf texts) ts us → AllByRecursion AllNotNull ts
-nulls_each texts [] us h = tt
-nulls_each texts (t ∷ ts) [] h = absurd h
-nulls_each texts (t ∷ ts) (u ∷ us) h = (h.0.not_null, nulls_each texts ts us h.1)
-
-pub none_null : (texts : List TableText) (tables : List Table) → AllZip (IsTableOf texts) texts tables → All AllNotNull texts
-none_null texts tables h = All-from_recursion AllNotNull texts (nulls_each texts texts tables h)

@@ -1,5 +1,5 @@
 -- A file, by the function and in SQL's terms.
-use Rattle.std.proofs.Common.{◌≡◌, ℕ, List, length, All, Option, Some, None, Result, Ok, Err, refl, sym, ap, subst, ◌∙◌}
+use Rattle.std.proofs.Common.{◌≡◌, ℕ, List, length, Option, Some, None, Result, Ok, Err, refl, sym, ap, subst, ◌∙◌}
 use Rattle.std.specs.List.{flat_map}
 use Rattle.std.proofs.lemmas.List.Elements.{All-from_recursion, recursion_from_All}
 use Rattle.ba_grammar.specs.declared.error.Syntax.{Syntax as OfGrammar}
@@ -15,19 +15,18 @@ use Rattle.ba_model.specs.Limits.{most_text_bytes}
 use Rattle.ba_model.specs.declared.schema.Schema.{Schema}
 use Rattle.ba_model.specs.declared.schema.Table.{Table}
 use Rattle.ba_sql_ddl.specs.Check.{checked, first_fault, schema}
-use Rattle.ba_sql_ddl.specs.Laws.{AreWords, HasNoForm, HasNullable, HasSchemaFault, HasUnsupported, IsFirstNullable, IsWrittenSchema, ReadsSchema}
-use Rattle.ba_sql_ddl.specs.Meaning.{draft_of, first_nullable, scope_of}
+use Rattle.ba_sql_ddl.specs.Laws.{AreWords, HasNoForm, HasSchemaFault, HasUnsupported, IsWrittenSchema, ReadsSchema}
+use Rattle.ba_sql_ddl.specs.Meaning.{draft_of}
 use Rattle.ba_sql_ddl.specs.Reader.{table_at, tables_at}
 use Rattle.ba_sql_ddl.specs.Reading.{schema_of, texts_of}
 use Rattle.ba_sql_ddl.specs.Scan.{first_unsupported}
 use Rattle.ba_sql_ddl.specs.Written.{AreWritten, IsTable, table_items}
 use Rattle.ba_sql_ddl.specs.declared.fault.DdlFault.{DdlFault}
-use Rattle.ba_sql_ddl.specs.declared.fault.DdlFault.TheVariants.{Lex, Unsupported, Syntax, Nullable, Schema as SchemaFaulty}
+use Rattle.ba_sql_ddl.specs.declared.fault.DdlFault.TheVariants.{Lex, Unsupported, Syntax, Schema as SchemaFaulty}
 use Rattle.ba_sql_ddl.specs.declared.written.TableText.{TableText}
 use Rattle.ba_sql_ddl.proofs.CheckLemmas.{no_fault, the_fault}
 use Rattle.ba_sql_ddl.proofs.FaultLemmas.{Told, told}
-use Rattle.ba_sql_ddl.proofs.MeaningLemmas.{none_null, tables_complete, tables_sound}
-use Rattle.ba_sql_ddl.proofs.NullLemmas.{AllNotNull, all_not_null, none_nullable, nullable_complete, nullable_sound}
+use Rattle.ba_sql_ddl.proofs.MeaningLemmas.{tables_complete, tables_sound}
 use Rattle.ba_sql_ddl.proofs.ScanLemmas.{first_complete, first_sound, supported_complete, supported_sound}
 use Rattle.ba_sql_ddl.proofs.TableLemmas.{table_complete, table_has_word, table_sound}
 
@@ -69,40 +68,31 @@ gives_checked : (bytes : List ℕ) (texts : List TableText) → Texts bytes text
 unfolding schema_of texts_of
 gives_checked bytes texts t = let w = t.words in rw (w.read, w.supported, t.parsed) refl
 
-gives_nullable : (bytes : List ℕ) (texts : List TableText) (table column : List ℕ) → Texts bytes texts → first_nullable (draft_of texts) ≡ Some (table, column) → schema_of bytes ≡ Err (Nullable table column)
+gives_fault : (bytes : List ℕ) (texts : List TableText) (f : SchemaFault) → Texts bytes texts → first_fault (draft_of texts) ≡ Some f → schema_of bytes ≡ Err (SchemaFaulty f)
 unfolding checked
-gives_nullable bytes texts table column t e = gives_checked bytes texts t ∙ rw e refl
+gives_fault bytes texts f t e = gives_checked bytes texts t ∙ rw e refl
 
-gives_fault : (bytes : List ℕ) (texts : List TableText) (f : SchemaFault) → Texts bytes texts → first_nullable (draft_of texts) ≡ None → first_fault (draft_of texts) ≡ Some f → schema_of bytes ≡ Err (SchemaFaulty f)
+gives_schema : (bytes : List ℕ) (texts : List TableText) → Texts bytes texts → first_fault (draft_of texts) ≡ None → schema_of bytes ≡ Ok (schema (draft_of texts))
 unfolding checked
-gives_fault bytes texts f t e h = gives_checked bytes texts t ∙ rw (e, h) refl
-
-gives_schema : (bytes : List ℕ) (texts : List TableText) → Texts bytes texts → first_nullable (draft_of texts) ≡ None → first_fault (draft_of texts) ≡ None → schema_of bytes ≡ Ok (schema (draft_of texts))
-unfolding checked
-gives_schema bytes texts t e h = gives_checked bytes texts t ∙ rw (e, h) refl
+gives_schema bytes texts t e = gives_checked bytes texts t ∙ rw e refl
 
 data Outcome (bytes : List ℕ) : Type 0 where
   lex : (f : LexFault) → file_tokens_of most_text_bytes bytes ≡ Err f → Outcome bytes
   unsupported : (tokens : List Token) (k : List ℕ) → file_tokens_of most_text_bytes bytes ≡ Ok tokens → first_unsupported (lexemes_of tokens) ≡ Some k → Outcome bytes
   syntax : (tokens : List Token) (s : OfGrammar) → Words bytes tokens → tables_at (lexemes_of tokens) ≡ Err s → Outcome bytes
-  nullable : (texts : List TableText) (table column : List ℕ) → Texts bytes texts → first_nullable (draft_of texts) ≡ Some (table, column) → Outcome bytes
-  fault : (texts : List TableText) (f : SchemaFault) → Texts bytes texts → first_nullable (draft_of texts) ≡ None → first_fault (draft_of texts) ≡ Some f → Outcome bytes
-  right : (texts : List TableText) → Texts bytes texts → first_nullable (draft_of texts) ≡ None → first_fault (draft_of texts) ≡ None → Outcome bytes
+  fault : (texts : List TableText) (f : SchemaFault) → Texts bytes texts → first_fault (draft_of texts) ≡ Some f → Outcome bytes
+  right : (texts : List TableText) → Texts bytes texts → first_fault (draft_of texts) ≡ None → Outcome bytes
 
 outcome : (bytes : List ℕ) → Outcome bytes
 outcome bytes = of_tokens (file_tokens_of most_text_bytes bytes) refl
   where
-    of_fault : (texts : List TableText) → Texts bytes texts → first_nullable (draft_of texts) ≡ None → (o : Option SchemaFault) → first_fault (draft_of texts) ≡ o → Outcome bytes
-    of_fault texts t n None e = right texts t n e
-    of_fault texts t n (Some f) e = fault texts f t n e
-
-    of_null : (texts : List TableText) → Texts bytes texts → (o : Option (List ℕ × List ℕ)) → first_nullable (draft_of texts) ≡ o → Outcome bytes
-    of_null texts t None e = of_fault texts t e (first_fault (draft_of texts)) refl
-    of_null texts t (Some at) e = nullable texts at.0 at.1 t e
+    of_fault : (texts : List TableText) → Texts bytes texts → (o : Option SchemaFault) → first_fault (draft_of texts) ≡ o → Outcome bytes
+    of_fault texts t None e = right texts t e
+    of_fault texts t (Some f) e = fault texts f t e
 
     of_tables : (tokens : List Token) → Words bytes tokens → (r : Result (List TableText) OfGrammar) → tables_at (lexemes_of tokens) ≡ r → Outcome bytes
     of_tables tokens w (Err s) e = syntax tokens s w e
-    of_tables tokens w (Ok texts) e = of_null texts (record { tokens = tokens; words = w; parsed = e }) (first_nullable (draft_of texts)) refl
+    of_tables tokens w (Ok texts) e = of_fault texts (record { tokens = tokens; words = w; parsed = e }) (first_fault (draft_of texts)) refl
 
     of_scan : (tokens : List Token) → file_tokens_of most_text_bytes bytes ≡ Ok tokens → (o : Option (List ℕ)) → first_unsupported (lexemes_of tokens) ≡ o → Outcome bytes
     of_scan tokens r (Some k) e = unsupported tokens k r e
@@ -133,32 +123,16 @@ written_texts bytes texts h =
       parsed = ap tables_at (sym a.say) ∙ written_complete h.words texts h.written;
     }
 
-draft_none : (texts : List TableText) → first_nullable (draft_of texts) ≡ None → All AllNotNull texts
-unfolding draft_of
-draft_none texts e = all_not_null (scope_of texts) texts e
-
-none_draft : (texts : List TableText) → All AllNotNull texts → first_nullable (draft_of texts) ≡ None
-unfolding draft_of
-none_draft texts h = none_nullable (scope_of texts) texts h
-
-draft_some : (texts : List TableText) (table column : List ℕ) → first_nullable (draft_of texts) ≡ Some (table, column) → IsFirstNullable texts table column
-unfolding draft_of
-draft_some texts table column e = nullable_sound (scope_of texts) texts table column e
-
-some_draft : (texts : List TableText) (table column : List ℕ) → IsFirstNullable texts table column → first_nullable (draft_of texts) ≡ Some (table, column)
-unfolding draft_of
-some_draft texts table column h = nullable_complete (scope_of texts) texts table column h
-
 well_formed : (tables : List Table) → first_fault tables ≡ None → AreTables tables
 well_formed tables e = subst (λ (o : Option SchemaFault). Told o tables) e (told tables)
 
 has_fault : (tables : List Table) (f : SchemaFault) → first_fault tables ≡ Some f → IsFirstFault f tables
 has_fault tables f e = subst (λ (o : Option SchemaFault). Told o tables) e (told tables)
 
-reads_right : (bytes : List ℕ) (texts : List TableText) → Texts bytes texts → first_nullable (draft_of texts) ≡ None → first_fault (draft_of texts) ≡ None → ReadsSchema bytes (schema (draft_of texts))
-reads_right bytes texts t n e =
+reads_right : (bytes : List ℕ) (texts : List TableText) → Texts bytes texts → first_fault (draft_of texts) ≡ None → ReadsSchema bytes (schema (draft_of texts))
+reads_right bytes texts t e =
     let are = well_formed (draft_of texts) e in
-    record { texts = texts; written = texts_written bytes texts t; tables = tables_sound texts are (draft_none texts n); well_formed = are; rules = refl }
+    record { texts = texts; written = texts_written bytes texts t; tables = tables_sound texts are; well_formed = are; rules = refl }
 
 -- ---- the laws
 
@@ -172,16 +146,15 @@ schema_sound bytes s e = of (outcome bytes)
     of (lex f h) = let wrong = sym (gives_lex bytes f h) ∙ e in cc
     of (unsupported tokens k r h) = let wrong = sym (gives_unsupported bytes tokens k r h) ∙ e in cc
     of (syntax tokens g w h) = let wrong = sym (gives_syntax bytes tokens g w h) ∙ e in cc
-    of (nullable texts table column t h) = let wrong = sym (gives_nullable bytes texts table column t h) ∙ e in cc
-    of (fault texts f t n h) = let wrong = sym (gives_fault bytes texts f t n h) ∙ e in cc
-    of (right texts t n h) = subst (ReadsSchema bytes) (schemas (schema (draft_of texts)) s (sym (gives_schema bytes texts t n h) ∙ e)) (reads_right bytes texts t n h)
+    of (fault texts f t h) = let wrong = sym (gives_fault bytes texts f t h) ∙ e in cc
+    of (right texts t h) = subst (ReadsSchema bytes) (schemas (schema (draft_of texts)) s (sym (gives_schema bytes texts t h) ∙ e)) (reads_right bytes texts t h)
 
 pub schema_complete : (bytes : List ℕ) (s : Schema) → ReadsSchema bytes s → schema_of bytes ≡ Ok s
 schema_complete bytes s h =
     let t = written_texts bytes h.texts h.written in
     let same : s.tables ≡ draft_of h.texts = tables_complete h.texts s.tables h.well_formed h.tables in
     let rules = h.rules in
-    gives_schema bytes h.texts t (none_draft h.texts (none_null h.texts s.tables h.tables)) (no_fault (draft_of h.texts) (subst AreTables same h.well_formed)) ∙ (λ i. Ok (record { tables = sym same i; rules = sym rules i }))
+    gives_schema bytes h.texts t (no_fault (draft_of h.texts) (subst AreTables same h.well_formed)) ∙ (λ i. Ok (record { tables = sym same i; rules = sym rules i }))
 
 pub one_schema : (bytes : List ℕ) (s t : Schema) → ReadsSchema bytes s → ReadsSchema bytes t → s ≡ t
 one_schema bytes s t a b = schemas s t (sym (schema_complete bytes s a) ∙ schema_complete bytes t b)
@@ -193,9 +166,8 @@ lex_sound bytes g e = of (outcome bytes)
     of (lex f h) = let found = sym (gives_lex bytes f h) ∙ e in let same : f ≡ g = cc in h ∙ ap (λ (x : LexFault). Err x) same
     of (unsupported tokens k r h) = let wrong = sym (gives_unsupported bytes tokens k r h) ∙ e in cc
     of (syntax tokens s w h) = let wrong = sym (gives_syntax bytes tokens s w h) ∙ e in cc
-    of (nullable texts table column t h) = let wrong = sym (gives_nullable bytes texts table column t h) ∙ e in cc
-    of (fault texts f t n h) = let wrong = sym (gives_fault bytes texts f t n h) ∙ e in cc
-    of (right texts t n h) = let wrong = sym (gives_schema bytes texts t n h) ∙ e in cc
+    of (fault texts f t h) = let wrong = sym (gives_fault bytes texts f t h) ∙ e in cc
+    of (right texts t h) = let wrong = sym (gives_schema bytes texts t h) ∙ e in cc
 
 pub lex_complete : (bytes : List ℕ) (g : LexFault) → file_tokens_of most_text_bytes bytes ≡ Err g → schema_of bytes ≡ Err (Lex g)
 lex_complete bytes g e = gives_lex bytes g e
@@ -210,9 +182,8 @@ unsupported_sound bytes word e = of (outcome bytes)
         let same : k ≡ word = cc in
         record { words = lexemes_of tokens; are = record { tokens = tokens; read = r; say = refl }; first = first_sound (lexemes_of tokens) word (h ∙ ap (λ (w : List ℕ). Some w) same) }
     of (syntax tokens s w h) = let wrong = sym (gives_syntax bytes tokens s w h) ∙ e in cc
-    of (nullable texts table column t h) = let wrong = sym (gives_nullable bytes texts table column t h) ∙ e in cc
-    of (fault texts f t n h) = let wrong = sym (gives_fault bytes texts f t n h) ∙ e in cc
-    of (right texts t n h) = let wrong = sym (gives_schema bytes texts t n h) ∙ e in cc
+    of (fault texts f t h) = let wrong = sym (gives_fault bytes texts f t h) ∙ e in cc
+    of (right texts t h) = let wrong = sym (gives_schema bytes texts t h) ∙ e in cc
 
 pub unsupported_complete : (bytes word : List ℕ) → HasUnsupported bytes word → schema_of bytes ≡ Err (Unsupported word)
 unsupported_complete bytes word h = let a = h.are in gives_unsupported bytes a.tokens word a.read (ap first_unsupported (sym a.say) ∙ first_complete h.words word h.first)
@@ -232,9 +203,8 @@ syntax_sound bytes e = of (outcome bytes)
       where
         refused : (s : OfGrammar) (texts : List TableText) → ◌≡◌ {A = Result (List TableText) OfGrammar} (Err s) (Ok texts) → ⊥
         refused s texts e = cc
-    of (nullable texts table column t h) = let wrong = sym (gives_nullable bytes texts table column t h) ∙ e in cc
-    of (fault texts f t n h) = let wrong = sym (gives_fault bytes texts f t n h) ∙ e in cc
-    of (right texts t n h) = let wrong = sym (gives_schema bytes texts t n h) ∙ e in cc
+    of (fault texts f t h) = let wrong = sym (gives_fault bytes texts f t h) ∙ e in cc
+    of (right texts t h) = let wrong = sym (gives_schema bytes texts t h) ∙ e in cc
 
 pub syntax_complete : (bytes : List ℕ) → HasNoForm bytes → schema_of bytes ≡ Err Syntax
 syntax_complete bytes h = of (tables_at (lexemes_of a.tokens)) refl
@@ -249,24 +219,6 @@ syntax_complete bytes h = of (tables_at (lexemes_of a.tokens)) refl
     of (Err s) e = gives_syntax bytes h.are.tokens s w e
     of (Ok texts) e = absurd (h.none texts (written_sound h.words texts (ap tables_at h.are.say ∙ e)))
 
-pub null_sound : (bytes table column : List ℕ) → schema_of bytes ≡ Err (Nullable table column) → HasNullable bytes table column
-null_sound bytes table column e = of (outcome bytes)
-  where
-    of : Outcome bytes → HasNullable bytes table column
-    of (lex f h) = let wrong = sym (gives_lex bytes f h) ∙ e in cc
-    of (unsupported tokens k r h) = let wrong = sym (gives_unsupported bytes tokens k r h) ∙ e in cc
-    of (syntax tokens s w h) = let wrong = sym (gives_syntax bytes tokens s w h) ∙ e in cc
-    of (nullable texts t c x h) =
-        let found = sym (gives_nullable bytes texts t c x h) ∙ e in
-        let is_table : t ≡ table = cc in
-        let is_column : c ≡ column = cc in
-        record { texts = texts; written = texts_written bytes texts x; first = draft_some texts table column (h ∙ (λ i. Some (is_table i, is_column i))) }
-    of (fault texts f t n h) = let wrong = sym (gives_fault bytes texts f t n h) ∙ e in cc
-    of (right texts t n h) = let wrong = sym (gives_schema bytes texts t n h) ∙ e in cc
-
-pub null_complete : (bytes table column : List ℕ) → HasNullable bytes table column → schema_of bytes ≡ Err (Nullable table column)
-null_complete bytes table column h = gives_nullable bytes h.texts table column (written_texts bytes h.texts h.written) (some_draft h.texts table column h.first)
-
 pub fault_sound : (bytes : List ℕ) (g : SchemaFault) → schema_of bytes ≡ Err (SchemaFaulty g) → HasSchemaFault bytes g
 fault_sound bytes g e = of (outcome bytes)
   where
@@ -274,12 +226,11 @@ fault_sound bytes g e = of (outcome bytes)
     of (lex f h) = let wrong = sym (gives_lex bytes f h) ∙ e in cc
     of (unsupported tokens k r h) = let wrong = sym (gives_unsupported bytes tokens k r h) ∙ e in cc
     of (syntax tokens s w h) = let wrong = sym (gives_syntax bytes tokens s w h) ∙ e in cc
-    of (nullable texts table column t h) = let wrong = sym (gives_nullable bytes texts table column t h) ∙ e in cc
-    of (fault texts f t n h) =
-        let found = sym (gives_fault bytes texts f t n h) ∙ e in
+    of (fault texts f t h) =
+        let found = sym (gives_fault bytes texts f t h) ∙ e in
         let same : f ≡ g = cc in
-        record { texts = texts; written = texts_written bytes texts t; not_null = draft_none texts n; first = has_fault (draft_of texts) g (h ∙ ap (λ (x : SchemaFault). Some x) same) }
-    of (right texts t n h) = let wrong = sym (gives_schema bytes texts t n h) ∙ e in cc
+        record { texts = texts; written = texts_written bytes texts t; first = has_fault (draft_of texts) g (h ∙ ap (λ (x : SchemaFault). Some x) same) }
+    of (right texts t h) = let wrong = sym (gives_schema bytes texts t h) ∙ e in cc
 
 pub fault_complete : (bytes : List ℕ) (g : SchemaFault) → HasSchemaFault bytes g → schema_of bytes ≡ Err (SchemaFaulty g)
-fault_complete bytes g h = gives_fault bytes h.texts g (written_texts bytes h.texts h.written) (none_draft h.texts h.not_null) (the_fault g (draft_of h.texts) h.first)
+fault_complete bytes g h = gives_fault bytes h.texts g (written_texts bytes h.texts h.written) (the_fault g (draft_of h.texts) h.first)

@@ -1,5 +1,5 @@
 -- The first fault of a draft, as a function.
-use Rattle.std.specs.Prelude.{◌≡◌, ℕ, Bool, true, false, not, All, ◌&&◌, nat_eq, List, [], ◌∷◌, Option, Some, None, Result, Ok, Err, if◌then◌else◌}
+use Rattle.std.specs.Prelude.{Bool, true, not, ◌&&◌, nat_eq, List, [], ◌∷◌, Option, Some, None, Result, Ok, Err, if◌then◌else◌}
 use Rattle.std.specs.List.{list_all, list_any}
 use Rattle.ba_model.specs.Limits.{limit_of}
 use Rattle.ba_model.specs.Readings.{widened}
@@ -9,10 +9,9 @@ use Rattle.ba_model.specs.declared.check_schema.SchemaFault.{SchemaFault}
 use Rattle.ba_model.specs.declared.check_schema.SchemaFault.TheVariants.{DuplicateTable, DuplicateColumn, UnknownTable, UnknownColumn, WidthDiffers, KindDiffers, EmptyKey, TooMany}
 use Rattle.ba_model.specs.declared.schema.Schema.{Schema}
 use Rattle.ba_model.specs.declared.schema.Table.{Table}
-use Rattle.ba_sql_ddl.specs.Meaning.{first_nullable}
 use Rattle.ba_sql_ddl.specs.Numbers.{same_name}
 use Rattle.ba_sql_ddl.specs.declared.fault.DdlFault.{DdlFault}
-use Rattle.ba_sql_ddl.specs.declared.fault.DdlFault.TheVariants.{Nullable, Schema as SchemaFaulty}
+use Rattle.ba_sql_ddl.specs.declared.fault.DdlFault.TheVariants.{Schema as SchemaFaulty}
 
 -- no two are the same
 abbrev pub are_distinct : {A : Type 0} → (A → A → Bool) → List A → Bool
@@ -48,14 +47,6 @@ without_fault None tables = Ok (schema tables)
 abbrev pub well_formed : List Table → Result Schema SchemaFault
 well_formed tables = without_fault (first_fault tables) tables
 
-abbrev pub without_null : Option (List ℕ × List ℕ) → Result Schema DdlFault → Result Schema DdlFault
-without_null (Some at) checked = Err (Nullable at.0 at.1)
-without_null None checked = checked
-
--- no column may be NULL
-pub record AreNotNull (tables : List Table) : Type 0 where
-  pub columns : All (λ t. All (λ c. c.nullable ≡ false) t.columns) tables
-
--- a draft without a nullable column and without a fault, as a schema
+-- the same, with the fault as one of a file
 unfoldable pub checked : List Table → Result Schema DdlFault
-checked tables = without_null (first_nullable tables) (widened SchemaFaulty (well_formed tables))
+checked tables = widened SchemaFaulty (well_formed tables)

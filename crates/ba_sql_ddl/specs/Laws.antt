@@ -1,5 +1,5 @@
 -- Which schema a file is, in SQL's terms.
-use Rattle.std.specs.Prelude.{◌≡◌, ◌↔◌, ℕ, false, List, [], ◌∷◌, ◌++◌, All, Contains, ◌⊎◌, Ok, Err, Some, slice_get}
+use Rattle.std.specs.Prelude.{◌≡◌, ◌↔◌, ℕ, IsTrue, List, [], All, Contains, ◌⊎◌, Ok, Err, Some, slice_get}
 use Rattle.std.specs.List.{AllZip, flat_map}
 use Rattle.ba_lex.specs.Tokens.{file_tokens_of, lexemes_of}
 use Rattle.ba_lex.specs.declared.token.LexFault.{LexFault}
@@ -16,7 +16,7 @@ use Rattle.ba_sql_ddl.specs.Meaning.{LinkText, columns_in, draft_of, keys_in, ki
 use Rattle.ba_sql_ddl.specs.Reading.{schema_of}
 use Rattle.ba_sql_ddl.specs.Scan.{IsFirstUnsupported, IsSupported}
 use Rattle.ba_sql_ddl.specs.Written.{AreWritten}
-use Rattle.ba_sql_ddl.specs.declared.fault.DdlFault.TheVariants.{Lex, Unsupported, Syntax, Nullable, Schema as SchemaFaulty}
+use Rattle.ba_sql_ddl.specs.declared.fault.DdlFault.TheVariants.{Lex, Unsupported, Syntax, Schema as SchemaFaulty}
 use Rattle.ba_sql_ddl.specs.declared.written.ColumnRule.TheVariants.{NotNull}
 use Rattle.ba_sql_ddl.specs.declared.written.ColumnText.{ColumnText}
 use Rattle.ba_sql_ddl.specs.declared.written.TableText.{TableText}
@@ -51,10 +51,11 @@ AreNumbersOf names = AllZip (IsNumberOf names)
 abbrev pub IsNotNull : TableText → ColumnText → Type 0
 IsNotNull t c = Contains c.rules NotNull ⊎ Contains (primary_names t.items) c.name
 
-pub record IsColumn (text : ColumnText) (column : Column) : Type 0 where
+-- of that name and kind; it may hold NULL exactly where it is neither NOT NULL nor in a PRIMARY KEY of its table
+pub record IsColumn (t : TableText) (text : ColumnText) (column : Column) : Type 0 where
   pub name : column.name ≡ text.name
   pub kind : column.kind ≡ kind_of text.type_text.word
-  pub not_null : column.nullable ≡ false
+  pub nullable : IsTrue column.nullable ↔ (¬ IsNotNull t text)
 
 -- ---- links
 
@@ -70,8 +71,7 @@ pub record IsLink (texts : List TableText) (t : TableText) (text : LinkText) (li
 
 pub record IsTableOf (texts : List TableText) (t : TableText) (table : Table) : Type 0 where
   pub name : table.name ≡ t.name
-  pub columns : AllZip IsColumn (columns_in t.items) table.columns
-  pub not_null : All (IsNotNull t) (columns_in t.items)
+  pub columns : AllZip (IsColumn t) (columns_in t.items) table.columns
   pub keys : AllZip (AreNumbersOf (names_in t.items)) (flat_map keys_in t.items) table.keys
   pub links : AllZip (IsLink texts t) (flat_map links_in t.items) table.links
 
@@ -97,32 +97,10 @@ pub record HasNoForm (bytes : List ℕ) : Type 0 where
   pub supported : All IsSupported words
   pub none : (texts : List TableText) → ¬ AreWritten texts words
 
--- the first column that is neither NOT NULL nor in a PRIMARY KEY
-pub record IsFirstNullable (texts : List TableText) (table column : List ℕ) : Type 0 where
-  pub before : List TableText
-  pub text : TableText
-  pub after : List TableText
-  pub front : List ColumnText
-  pub at : ColumnText
-  pub back : List ColumnText
-  pub tables : texts ≡ before ++ text ∷ after
-  pub columns : columns_in text.items ≡ front ++ at ∷ back
-  pub earlier : All (λ t. All (IsNotNull t) (columns_in t.items)) before
-  pub left : All (IsNotNull text) front
-  pub nullable : ¬ IsNotNull text at
-  pub table_is : table ≡ text.name
-  pub column_is : column ≡ at.name
-
-pub record HasNullable (bytes : List ℕ) (table column : List ℕ) : Type 0 where
-  pub texts : List TableText
-  pub written : IsWrittenSchema bytes texts
-  pub first : IsFirstNullable texts table column
-
--- no column may be NULL, and the tables meant have the fault as their first; a name that isn't there has a number that isn't
+-- the tables meant have the fault as their first; a name that isn't there has a number that isn't
 pub record HasSchemaFault (bytes : List ℕ) (fault : SchemaFault) : Type 0 where
   pub texts : List TableText
   pub written : IsWrittenSchema bytes texts
-  pub not_null : All (λ t. All (IsNotNull t) (columns_in t.items)) texts
   pub first : IsFirstFault fault (draft_of texts)
 
 -- ---- the laws
@@ -141,9 +119,6 @@ UnsupportedReading = (bytes word : List ℕ) → (schema_of bytes ≡ Err (Unsup
 
 abbrev pub SyntaxReading : Type 0
 SyntaxReading = (bytes : List ℕ) → (schema_of bytes ≡ Err Syntax) ↔ HasNoForm bytes
-
-abbrev pub NullableReading : Type 0
-NullableReading = (bytes table column : List ℕ) → (schema_of bytes ≡ Err (Nullable table column)) ↔ HasNullable bytes table column
 
 abbrev pub SchemaFaultReading : Type 0
 SchemaFaultReading = (bytes : List ℕ) (fault : SchemaFault) → (schema_of bytes ≡ Err (SchemaFaulty fault)) ↔ HasSchemaFault bytes fault

@@ -1,5 +1,5 @@
 -- What written tables mean: a draft of tables, whose names are numbers.
-use Rattle.std.specs.Prelude.{ℕ, Bool, true, false, not, ◌||◌, List, [], ◌∷◌, map, Option, Some, None, is_some, position, if◌then◌else◌}
+use Rattle.std.specs.Prelude.{ℕ, Bool, true, false, not, ◌||◌, List, [], ◌∷◌, map, is_some, position}
 use Rattle.std.specs.List.{flat_map, list_any}
 use Rattle.ba_model.specs.declared.schema.Column.{Column}
 use Rattle.ba_model.specs.declared.schema.Kind.{Kind}
@@ -151,17 +151,3 @@ scope_of texts = record { tables = once (map (λ t. t.name) texts); columns = ma
 
 unfoldable pub draft_of : List TableText → List Table
 draft_of texts = map (table_of (scope_of texts)) texts
-
--- ---- the first column that may be NULL
-
-abbrev pub nullable_column : List Column → Option (List ℕ)
-nullable_column [] = None
-nullable_column (c ∷ cs) = if c.nullable then Some c.name else nullable_column cs
-
-abbrev pub of_table : List ℕ → Option (List ℕ) → Option (List ℕ × List ℕ) → Option (List ℕ × List ℕ)
-of_table table (Some column) later = Some (table, column)
-of_table table None later = later
-
-abbrev pub first_nullable : List Table → Option (List ℕ × List ℕ)
-first_nullable [] = None
-first_nullable (t ∷ ts) = of_table t.name (nullable_column t.columns) (first_nullable ts)

@@ -15,9 +15,6 @@ pub enum DdlFault {
     Unsupported(Str),
     /// The grammar has no such words.
     Syntax,
-    /// The first column that is neither NOT NULL nor in a PRIMARY KEY: its table's name and its
-    /// own.
-    Nullable(Str, Str),
     /// The tables are no schema.
     Schema(SchemaFault),
 }

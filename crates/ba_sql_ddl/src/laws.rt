@@ -1,5 +1,5 @@
 //! Laws of the definitions.
-ghost use Rattle.ba_sql_ddl.specs.Laws.{LexFaultReading, NullableReading, SchemaFaultReading, SchemaIsUnique, SchemaReading, SyntaxReading, UnsupportedReading};
+ghost use Rattle.ba_sql_ddl.specs.Laws.{LexFaultReading, SchemaFaultReading, SchemaIsUnique, SchemaReading, SyntaxReading, UnsupportedReading};
 
 /// A file is read as a schema exactly where the grammar, the names and the model's rules say so,
 /// and as at most one; and a fault is told exactly where the file has it as the first of the order.
@@ -9,6 +9,5 @@ pub fn schema_reading()
     ensures lex { LexFaultReading }
     ensures unsupported { UnsupportedReading }
     ensures syntax { SyntaxReading }
-    ensures nullable { NullableReading }
     ensures fault { SchemaFaultReading }
 {}

@@ -1,9 +1,8 @@
 //! Schemas.
-ghost use Rattle.std.specs.Prelude.{◌≡◌, [], IfOk, option_map};
+ghost use Rattle.std.specs.Prelude.{◌≡◌, [], IfOk};
 ghost use Rattle.ba_model.specs.Readings.{Gives};
 ghost use Rattle.ba_model.specs.SchemaFaults.{AreTables};
-ghost use Rattle.ba_sql_ddl.specs.Check.{AreNotNull, checked, well_formed};
-ghost use Rattle.ba_sql_ddl.specs.Meaning.{first_nullable, nullable_column};
+ghost use Rattle.ba_sql_ddl.specs.Check.{checked, well_formed};
 ghost use Rattle.ba_sql_ddl.specs.Reading.{schema_of, texts_of};
 
 use crate::draft::draft_of;
@@ -13,9 +12,7 @@ use crate::scan::first_unsupported;
 use crate::written::TableText;
 use ba_grammar::lexemes;
 use ba_lex::{Lexeme, tokens_of_bytes};
-use ba_model::{
-    Column, Duplicate, Failure, List, MAX_TEXT_BYTES, Schema, SchemaDraft, SchemaFault, Str, Table,
-};
+use ba_model::{Failure, List, MAX_TEXT_BYTES, Schema, SchemaDraft, SchemaFault, Str, Table};
 use std::alloc::Global;
 
 #[tactic(auto, unfolding(crate::specs::Reading::texts_of))]
@@ -29,29 +26,6 @@ fn texts_of(alloc: Global, words: &[Lexeme]) -> Result<List<TableText>, Failure<
     tables(alloc, words).map_err(Failure::widen)
 }
 
-fn nullable_column(columns: &[Column]) -> Option<&Str>
-    ensures { option_map (λ name. name.now) result ≡ nullable_column columns.now }
-{
-    for column in columns {
-        if column.nullable {
-            return Some(&column.name);
-        }
-    }
-    None
-}
-
-/// The first column that may be NULL, and its table.
-fn first_nullable(tables: &[Table]) -> Option<(&Str, &Str)>
-    ensures { option_map (λ at. (at.0.now, at.1.now)) result ≡ first_nullable tables.now }
-{
-    for table in tables {
-        if let Some(column) = nullable_column(table.columns.as_slice()) {
-            return Some((&table.name, column));
-        }
-    }
-    None
-}
-
 fn well_formed(alloc: Global, tables: List<Table>) -> Result<Schema, Failure<SchemaFault>>
     ensures { Gives result (well_formed tables) }
 {
@@ -63,11 +37,6 @@ fn well_formed(alloc: Global, tables: List<Table>) -> Result<Schema, Failure<Sch
 fn checked(alloc: Global, tables: List<Table>) -> Result<Schema, Failure<DdlFault>>
     ensures { Gives result (checked tables) }
 {
-    if let Some((table, column)) = first_nullable(tables.as_slice()) {
-        let table = table.copy(alloc)?;
-        let column = column.copy(alloc)?;
-        return Err(Failure::Fault(DdlFault::Nullable(table, column)));
-    }
     well_formed(alloc, tables).map_err(Failure::widen)
 }
 
@@ -82,12 +51,13 @@ fn checked(alloc: Global, tables: List<Table>) -> Result<Schema, Failure<DdlFaul
 /// where the column stands. A link's target may stand later, and need not be a key. A name is
 /// quoted, or a word that is neither unsupported nor a keyword.
 ///
+/// A column may hold NULL exactly where it is neither NOT NULL nor in a PRIMARY KEY of its table; it
+/// is in one that has its name. UNIQUE and NULL behind a type say nothing of that.
+///
 /// The file has at most `MAX_TEXT_BYTES` bytes and may be empty. The first of these faults is told:
 /// - `Lex`: the file is too long, isn't UTF-8, or has no tokens.
 /// - `Unsupported`: the first of the words that aren't supported, before any look at the grammar.
 /// - `Syntax`: the grammar has no such words.
-/// - `Nullable`: the first column that is neither NOT NULL nor in a PRIMARY KEY, by its table's
-///   name and its own. A column is in a PRIMARY KEY that has its name.
 /// - `Schema`: the first fault of the tables, as `Schema::check` tells it. A name that isn't there
 ///   stands for a number that isn't there.
 ///
@@ -96,7 +66,6 @@ fn checked(alloc: Global, tables: List<Table>) -> Result<Schema, Failure<DdlFaul
 pub fn read_schema(alloc: Global, bytes: &[u8]) -> Result<Schema, Failure<DdlFault>>
     ensures exact { Gives result (schema_of bytes.now) }
     ensures tables { IfOk result (λ schema. AreTables schema.tables) }
-    ensures not_null { IfOk result (λ schema. AreNotNull schema.tables) }
     ensures rules { IfOk result (λ schema. schema.rules ≡ []) }
 {
     let tokens = tokens_of_bytes(alloc, bytes, MAX_TEXT_BYTES).map_err(Failure::widen)?;

@@ -14,18 +14,19 @@ use Rattle.ba_model.specs.declared.schema.Kind.{Kind}
 use Rattle.ba_model.specs.declared.schema.Kind.TheVariants.{Int as IntKind, Text as TextKind}
 use Rattle.ba_model.specs.declared.schema.Table.{Table}
 use Rattle.ba_model.specs.declared.value.Value.{Value}
-use Rattle.ba_model.specs.declared.value.Value.TheVariants.{Int}
+use Rattle.ba_model.specs.declared.value.Value.TheVariants.{Null, Int}
 use Rattle.ba_model.specs.Readings.{◌>>=◌}
 use Rattle.ba_model.specs.Limits.{most_rows}
 use Rattle.ba_tables.specs.FileFaults.{HasBadHeader, HasOtherWidth, HasTooMany, IsFirstBad, IsNoText, LacksNumber, TellsHeader, TellsNumber, TellsTooMany, TellsUtf8, TellsWidth}
-use Rattle.ba_tables.specs.Spelling.{Spells, SpellsNumber, SpellsRow}
-use Rattle.ba_tables.specs.TableFile.{is_header, names_of, number_of, row_at, rows_from, rows_of_file, rows_of_lines, rows_of_rest, value_at, values_from, within_limit}
+use Rattle.ba_tables.specs.Spelling.{SaysNull, Spells, SpellsNumber, SpellsRow}
+use Rattle.ba_tables.specs.TableFile.{is_header, names_of, number_of, row_at, rows_from, rows_of_file, rows_of_lines, rows_of_rest, says_null, some_value, value_at, values_from, within_limit}
 use Rattle.ba_tables.specs.declared.fault.TableFault.{TableFault}
 use Rattle.ba_tables.specs.declared.fault.TableFault.TheVariants.{BadHeader, BadWidth, BadUtf8, BadNumber, TooMany}
 use Rattle.ba_tables.proofs.AgreeLemmas.{both, halves}
 use Rattle.ba_tables.proofs.FrontLemmas.{no_text_is, other_width_is, row_is}
 use Rattle.ba_tables.proofs.RowsLemmas.{beyond, file_is, lines_are, no_lines}
 use Rattle.ba_tables.proofs.SpellLemmas.{field_spells, header_test, header_told, number_spells, row_spells, rows_spell, spells_field, spells_number, spells_row, spells_rows}
+use Rattle.ba_tables.proofs.ValueLemmas.{null_is, some_is, some_test, some_told}
 
 err_same : {A : Type 0} (f g : TableFault) → ◌≡◌ {A = Result A TableFault} (Err f) (Err g) → f ≡ g
 err_same f g e = cc e
@@ -67,6 +68,7 @@ record Lacks (k : ℕ) (cs : List Column) (fs : List (List ℕ)) : Type 0 where
   is_column : slice_get cs k ≡ Some column
   is_field : slice_get fs k ≡ Some field
   kind : column.kind ≡ IntKind
+  no_null : ¬ SaysNull column field
   no_number : (n : ℤ) → ¬ SpellsNumber field n
   values : List Value
   earlier : SpellsRow (take k cs) (take k fs) values
@@ -76,31 +78,44 @@ record LacksFrom (row i : ℕ) (cs : List Column) (fs : List (List ℕ)) (fault 
   is : fault ≡ BadNumber row (i + k)
   lacks : Lacks k cs fs
 
-lacks_here : (row i : ℕ) (c : Column) (cs : List Column) (f : List ℕ) (fs : List (List ℕ)) (fault : TableFault) → value_at row i c.kind f ≡ Err fault → LacksFrom row i (c ∷ cs) (f ∷ fs) fault
-lacks_here row i c cs f fs fault e = by c.kind refl e
+value_err : (row i : ℕ) (c : Column) (f : List ℕ) (fault : TableFault) → value_at row i c f ≡ Err fault → (¬ SaysNull c f) × (some_value row i c.kind f ≡ Err fault)
+value_err row i c f fault e = by (says_null c f) refl
   where
+    by : (b : Bool) → says_null c f ≡ b → (¬ SaysNull c f) × (some_value row i c.kind f ≡ Err fault)
+    by true n = let wrong : ◌≡◌ {A = Result Value TableFault} (Ok Null) (Err fault) = sym (null_is row i c f n) ∙ e in cc wrong
+    by false n = (some_told c f n, sym (some_is row i c f n) ∙ e)
+
+err_value : (row i : ℕ) (c : Column) (f : List ℕ) → c.kind ≡ IntKind → ¬ SaysNull c f → ((n : ℤ) → ¬ SpellsNumber f n) → value_at row i c f ≡ Err (BadNumber row i)
+err_value row i c f kind null none = some_is row i c f (some_test c f null) ∙ rw (kind, none_read f none) refl
+
+lacks_here : (row i : ℕ) (c : Column) (cs : List Column) (f : List ℕ) (fs : List (List ℕ)) (fault : TableFault) → value_at row i c f ≡ Err fault → LacksFrom row i (c ∷ cs) (f ∷ fs) fault
+lacks_here row i c cs f fs fault e = by c.kind refl told.1
+  where
+    told : (¬ SaysNull c f) × (some_value row i c.kind f ≡ Err fault)
+    told = value_err row i c f fault e
+
     none : (o : Option ℤ) → ok_or (option_map Int o) (BadNumber row i) ≡ Err fault → (o ≡ None) × (fault ≡ BadNumber row (i + 0))
     none None e = let zero_is : i ≡ i + 0 = omega arith in (refl, sym (err_same (BadNumber row i) fault e) ∙ ap (BadNumber row) zero_is)
     none (Some n) e = cc e
 
-    by : (k : Kind) → c.kind ≡ k → value_at row i k f ≡ Err fault → LacksFrom row i (c ∷ cs) (f ∷ fs) fault
+    by : (k : Kind) → c.kind ≡ k → some_value row i k f ≡ Err fault → LacksFrom row i (c ∷ cs) (f ∷ fs) fault
     by TextKind k e = cc e
     by IntKind k e =
         let n = none (number_of f) e in
         record {
           k = 0;
           is = n.1;
-          lacks = record { column = c; field = f; is_column = refl; is_field = refl; kind = k; no_number = no_number f n.0; values = []; earlier = tt };
+          lacks = record { column = c; field = f; is_column = refl; is_field = refl; kind = k; no_null = told.0; no_number = no_number f n.0; values = []; earlier = tt };
         }
 
-lacks_later : (row i : ℕ) (c : Column) (cs : List Column) (f : List ℕ) (fs : List (List ℕ)) (v : Value) (fault : TableFault) → Spells c.kind f v → LacksFrom row (i + 1) cs fs fault → LacksFrom row i (c ∷ cs) (f ∷ fs) fault
+lacks_later : (row i : ℕ) (c : Column) (cs : List Column) (f : List ℕ) (fs : List (List ℕ)) (v : Value) (fault : TableFault) → Spells c f v → LacksFrom row (i + 1) cs fs fault → LacksFrom row i (c ∷ cs) (f ∷ fs) fault
 lacks_later row i c cs f fs v fault s h =
     let l = h.lacks in
     let place : (i + 1) + h.k ≡ i + suc h.k = omega arith in
     record {
       k = suc h.k;
       is = h.is ∙ ap (BadNumber row) place;
-      lacks = record { column = l.column; field = l.field; is_column = l.is_column; is_field = l.is_field; kind = l.kind; no_number = l.no_number; values = v ∷ l.values; earlier = (s, l.earlier) };
+      lacks = record { column = l.column; field = l.field; is_column = l.is_column; is_field = l.is_field; kind = l.kind; no_null = l.no_null; no_number = l.no_number; values = v ∷ l.values; earlier = (s, l.earlier) };
     }
 
 values_lack : (row i : ℕ) (cs : List Column) (fs : List (List ℕ)) (fault : TableFault) → length fs ≡ length cs → list_all is_utf8 fs ≡ true → values_from row i cs fs ≡ Err fault → LacksFrom row i cs fs fault
@@ -109,32 +124,33 @@ values_lack row i [] [] fault w t e = cc e
 values_lack row i [] (f ∷ fs) fault w t e = absurd (omega arith)
 values_lack row i (c ∷ cs) [] fault w t e = absurd (omega arith)
 values_lack row i (c ∷ cs) (f ∷ fs) fault w t e =
-    by (value_at row i c.kind f) refl (values_from row (i + 1) cs fs) refl (values_lack row (i + 1) cs fs fault (omega arith) texts.1) e
+    by (value_at row i c f) refl (values_from row (i + 1) cs fs) refl (values_lack row (i + 1) cs fs fault (omega arith) texts.1) e
   where
     texts : (is_utf8 f ≡ true) × (list_all is_utf8 fs ≡ true)
     texts = halves (is_utf8 f) (list_all is_utf8 fs) t
 
-    by : (r : Result Value TableFault) → value_at row i c.kind f ≡ r → (q : Result (List Value) TableFault) → values_from row (i + 1) cs fs ≡ q
+    by : (r : Result Value TableFault) → value_at row i c f ≡ r → (q : Result (List Value) TableFault) → values_from row (i + 1) cs fs ≡ q
         → (values_from row (i + 1) cs fs ≡ Err fault → LacksFrom row (i + 1) cs fs fault) → (r >>= λ v. (q >>= λ vs. Ok (v ∷ vs))) ≡ Err fault → LacksFrom row i (c ∷ cs) (f ∷ fs) fault
     by (Err g) a q b more e = lacks_here row i c cs f fs fault (a ∙ ap Err (err_same g fault e))
     by (Ok v) a (Ok vs) b more e = cc e
-    by (Ok v) a (Err g) b more e = lacks_later row i c cs f fs v fault (field_spells row i c.kind f v texts.0 a) (more (b ∙ ap Err (err_same g fault e)))
+    by (Ok v) a (Err g) b more e = lacks_later row i c cs f fs v fault (field_spells row i c f v texts.0 a) (more (b ∙ ap Err (err_same g fault e)))
 
 lack_values : (row i k : ℕ) (cs : List Column) (fs : List (List ℕ)) (column : Column) (field : List ℕ) (vs : List Value) → slice_get cs k ≡ Some column → slice_get fs k ≡ Some field → column.kind ≡ IntKind
-    → ((n : ℤ) → ¬ SpellsNumber field n) → SpellsRow (take k cs) (take k fs) vs → values_from row i cs fs ≡ Err (BadNumber row (i + k))
+    → ¬ SaysNull column field → ((n : ℤ) → ¬ SpellsNumber field n) → SpellsRow (take k cs) (take k fs) vs → values_from row i cs fs ≡ Err (BadNumber row (i + k))
 unfolding values_from
-lack_values row i k [] fs column field vs a b kind none h = cc a
-lack_values row i k (c ∷ cs) [] column field vs a b kind none h = cc b
-lack_values row i zero (c ∷ cs) (f ∷ fs) column field vs a b kind none h =
+lack_values row i k [] fs column field vs a b kind null none h = cc a
+lack_values row i k (c ∷ cs) [] column field vs a b kind null none h = cc b
+lack_values row i zero (c ∷ cs) (f ∷ fs) column field vs a b kind null none h =
     let same : c ≡ column = cc a in
     let this : f ≡ field = cc b in
-    let of_numbers : c.kind ≡ IntKind = ap (λ (x : Column). x.kind) same ∙ kind in
+    let bad : value_at row i c f ≡ Err (BadNumber row i) =
+    ap (λ (x : Column). value_at row i x f) same ∙ ap (λ (x : List ℕ). value_at row i column x) this ∙ err_value row i column field kind null none in
     let zero_is : i ≡ i + 0 = omega arith in
-    rw (of_numbers, this, none_read field none) (ap (λ (n : ℕ). Err (BadNumber row n)) zero_is)
-lack_values row i (suc k) (c ∷ cs) (f ∷ fs) column field [] a b kind none h = absurd h
-lack_values row i (suc k) (c ∷ cs) (f ∷ fs) column field (v ∷ vs) a b kind none h =
+    rw bad (ap (λ (n : ℕ). Err (BadNumber row n)) zero_is)
+lack_values row i (suc k) (c ∷ cs) (f ∷ fs) column field [] a b kind null none h = absurd h
+lack_values row i (suc k) (c ∷ cs) (f ∷ fs) column field (v ∷ vs) a b kind null none h =
     let place : (i + 1) + k ≡ i + suc k = omega arith in
-    rw ((spells_field row i c.kind f v h.0).1, lack_values row (i + 1) k cs fs column field vs a b kind none h.1) (ap (λ (n : ℕ). Err (BadNumber row n)) place)
+    rw ((spells_field row i c f v h.0).1, lack_values row (i + 1) k cs fs column field vs a b kind null none h.1) (ap (λ (n : ℕ). Err (BadNumber row n)) place)
 
 -- ---- a row
 
@@ -159,6 +175,7 @@ row_lacks row cs line f w t h =
         is_column = l.is_column;
         is_field = l.is_field;
         kind = l.kind;
+        no_null = l.no_null;
         no_number = l.no_number;
         values = l.values;
         earlier = l.earlier;
@@ -188,7 +205,7 @@ fault_row row cs line (BadNumber r k) h =
     let l = h.1 in
     let place : 0 + k ≡ k = omega arith in
     row_is row cs line l.width (text_all line l.text)
-    ∙ lack_values row 0 k cs line l.column l.field l.values l.is_column l.is_field l.kind l.no_number l.earlier
+    ∙ lack_values row 0 k cs line l.column l.field l.values l.is_column l.is_field l.kind l.no_null l.no_number l.earlier
     ∙ ap (λ (n : ℕ). Err (BadNumber row n)) place
     ∙ ap (λ (n : ℕ). Err (BadNumber n k)) (sym h.0)
 

@@ -1,6 +1,6 @@
 -- The rows that a file reads as fit its table.
-use Rattle.std.proofs.Common.{◌≡◌, ℕ, ◌+◌, ◌==◌, Bool, true, false, cond, not, List, [], ◌∷◌, length, Option, Some, None, Result, Ok, Err, refl, arith, subst, ℤ}
-use Rattle.std.proofs.lemmas.Bool.{eqb-true}
+use Rattle.std.proofs.Common.{◌≡◌, ℕ, ◌+◌, ◌==◌, Bool, true, false, cond, not, List, [], ◌∷◌, length, Option, Some, None, Result, Ok, Err, refl, arith, ◌∙◌, sym, subst, ℤ}
+use Rattle.std.proofs.lemmas.Bool.{and_parts, eqb-true}
 use Rattle.std.proofs.lemmas.List.Elements.{All-cons, All-nil}
 use Rattle.std.specs.List.{All, AllZip, list_all}
 use Rattle.std.specs.Option.{ok_or, option_map}
@@ -13,12 +13,13 @@ use Rattle.ba_model.specs.declared.schema.Kind.{Kind}
 use Rattle.ba_model.specs.declared.schema.Kind.TheVariants.{Int as IntKind, Text as TextKind}
 use Rattle.ba_model.specs.declared.schema.Table.{Table}
 use Rattle.ba_model.specs.declared.value.Value.{Value}
-use Rattle.ba_model.specs.declared.value.Value.TheVariants.{Int, Text}
+use Rattle.ba_model.specs.declared.value.Value.TheVariants.{Null, Int, Text}
 use Rattle.ba_model.specs.Readings.{◌>>=◌, Gives}
-use Rattle.ba_tables.specs.TableFile.{is_header, number_of, row_at, rows_from, rows_of_file, rows_of_lines, rows_of_rest, value_at, values_from, within_limit}
+use Rattle.ba_tables.specs.TableFile.{is_header, is_null_text, number_of, row_at, rows_from, rows_of_file, rows_of_lines, rows_of_rest, says_null, some_value, value_at, values_from, within_limit}
 use Rattle.ba_model.specs.declared.failure.Failure.{Failure}
 use Rattle.ba_tables.specs.declared.fault.TableFault.{TableFault}
 use Rattle.ba_tables.specs.declared.fault.TableFault.TheVariants.{BadHeader, BadWidth, BadUtf8, BadNumber}
+use Rattle.ba_tables.proofs.ValueLemmas.{null_is, some_is, value_same}
 
 -- what a step gave that went through
 pub went_through : {A B : Type 0} (read : Result A TableFault) (f : A → Result B TableFault) (y : B) → (read >>= f) ≡ Ok y → (x : A) × (read ≡ Ok x) × (f x ≡ Ok y)
@@ -29,8 +30,8 @@ int_value : (o : Option ℤ) (fault : TableFault) (v : Value) → ok_or (option_
 int_value None fault v h = cc h
 int_value (Some n) fault v h = (n, cc h)
 
-value_fits : (row i : ℕ) (c : Column) (f : List ℕ) (v : Value) → value_at row i c.kind f ≡ Ok v → IsOfColumn c v
-value_fits row i c f v h = by c.kind refl
+some_fits : (row i : ℕ) (c : Column) (f : List ℕ) (v : Value) → some_value row i c.kind f ≡ Ok v → IsOfColumn c v
+some_fits row i c f v h = by c.kind refl
   where
     by : (k : Kind) → c.kind ≡ k → IsOfColumn c v
     by IntKind e =
@@ -40,12 +41,21 @@ value_fits row i c f v h = by c.kind refl
         let same : Ok (Text f) ≡ Ok v = rw e at h in
         subst (λ x. IsOfColumn c x) (let s : Text f ≡ v = cc same in s) (let fits : IsOfKind c.kind (Text f) = rw e tt in fits)
 
+value_fits : (row i : ℕ) (c : Column) (f : List ℕ) (v : Value) → value_at row i c f ≡ Ok v → IsOfColumn c v
+value_fits row i c f v h = by (says_null c f) refl
+  where
+    by : (b : Bool) → says_null c f ≡ b → IsOfColumn c v
+    by true n =
+        let fits : IsOfColumn c Null = (and_parts c.nullable (is_null_text c.kind f) n).0 in
+        subst (λ x. IsOfColumn c x) (value_same Null v (sym (null_is row i c f n) ∙ h)) fits
+    by false n = some_fits row i c f v (sym (some_is row i c f n) ∙ h)
+
 values_fit : (row i : ℕ) (cs : List Column) (fs : List (List ℕ)) (vs : List Value) → length fs ≡ length cs → values_from row i cs fs ≡ Ok vs → AllZip IsOfColumn cs vs
 unfolding values_from
 values_fit row i [] fs vs w h = let none : [] ≡ vs = cc h in subst (λ x. AllZip IsOfColumn [] x) none tt
 values_fit row i (c ∷ cs) [] vs w h = absurd (omega arith)
 values_fit row i (c ∷ cs) (f ∷ fs) vs w h =
-    let v = went_through (value_at row i c.kind f) (λ v. values_from row (i + 1) cs fs >>= λ us. Ok (v ∷ us)) vs h in
+    let v = went_through (value_at row i c f) (λ v. values_from row (i + 1) cs fs >>= λ us. Ok (v ∷ us)) vs h in
     let us = went_through (values_from row (i + 1) cs fs) (λ us. Ok (v.0 ∷ us)) vs v.2 in
     let shorter : length fs ≡ length cs = omega arith in
     let whole : v.0 ∷ us.0 ≡ vs = cc us.2 in

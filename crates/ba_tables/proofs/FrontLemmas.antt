@@ -29,12 +29,12 @@ with_none (Ok xs) = refl
 with_none (Err f) = refl
 
 -- one more value of a row
-next_value : (front : List Value) (row column : ℕ) (c : Column) (cs : List Column) (f : List ℕ) (fs : List (List ℕ)) (v : Value) → value_at row column c.kind f ≡ Ok v
+next_value : (front : List Value) (row column : ℕ) (c : Column) (cs : List Column) (f : List ℕ) (fs : List (List ℕ)) (v : Value) → value_at row column c f ≡ Ok v
     → with_front front (values_from row column (c ∷ cs) (f ∷ fs)) ≡ with_front (front ++ v ∷ []) (values_from row (column + 1) cs fs)
 unfolding values_from
 next_value front row column c cs f fs v h = rw h (regroup front v (values_from row (column + 1) cs fs))
 
-bad_value : (e : Failure TableFault) (front : List Value) (row column : ℕ) (c : Column) (cs : List Column) (f : List ℕ) (fs : List (List ℕ)) → Fails e (value_at row column c.kind f)
+bad_value : (e : Failure TableFault) (front : List Value) (row column : ℕ) (c : Column) (cs : List Column) (f : List ℕ) (fs : List (List ℕ)) → Fails e (value_at row column c f)
     → Fails e (with_front front (values_from row column (c ∷ cs) (f ∷ fs)))
 unfolding values_from
 bad_value NoMemory front row column c cs f fs h = tt
@@ -46,13 +46,13 @@ no_value front row column fs = ap Ok (append-nil front)
 
 -- the same at a place of the columns and the fields
 pub next_value_at : (front : List Value) (row i : ℕ) (cs : List Column) (c : Column) (fs : List (List ℕ)) (f : List ℕ) (v : Value) (total : Result (List Value) TableFault)
-    → slice_get cs i ≡ Some c → field_at fs i ≡ Some f → value_at row i c.kind f ≡ Ok v
+    → slice_get cs i ≡ Some c → field_at fs i ≡ Some f → value_at row i c f ≡ Ok v
     → with_front front (values_from row i (drop i cs) (drop i fs)) ≡ total → with_front (front ++ v ∷ []) (values_from row (i + 1) (drop (i + 1) cs) (drop (i + 1) fs)) ≡ total
 next_value_at front row i cs c fs f v total a b h so_far =
     sym (next_value front row i c (drop (i + 1) cs) f (drop (i + 1) fs) v h) ∙ rw (drop_field fs i f b, drop_element cs i c a) at so_far
 
 pub bad_value_at : (e : Failure TableFault) (front : List Value) (row i : ℕ) (cs : List Column) (c : Column) (fs : List (List ℕ)) (f : List ℕ) (total : Result (List Value) TableFault)
-    → slice_get cs i ≡ Some c → field_at fs i ≡ Some f → Fails e (value_at row i c.kind f) → with_front front (values_from row i (drop i cs) (drop i fs)) ≡ total → Fails e total
+    → slice_get cs i ≡ Some c → field_at fs i ≡ Some f → Fails e (value_at row i c f) → with_front front (values_from row i (drop i cs) (drop i fs)) ≡ total → Fails e total
 bad_value_at e front row i cs c fs f total a b h so_far =
     let started = rw (drop_field fs i f b, drop_element cs i c a) at so_far in
     rw (← started) (bad_value e front row i c (drop (i + 1) cs) f (drop (i + 1) fs) h)

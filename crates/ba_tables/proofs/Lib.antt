@@ -18,3 +18,4 @@ pub mod RowsLemmas
 pub mod SpellLemmas
 pub mod TwinLemmas
 pub mod UnbrokenLemmas
+pub mod ValueLemmas

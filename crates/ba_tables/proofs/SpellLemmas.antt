@@ -1,5 +1,5 @@
 -- A file reads as rows exactly where it spells them.
-use Rattle.std.proofs.Common.{◌≡◌, ◌≢◌, ℕ, zero, suc, ◌+◌, ◌-◌, ◌<◌, ◌≤◌, ◌^◌, ◌==◌, inl, inr, Bool, true, false, cond, nat_le, List, [], ◌∷◌, length, drop, slice_index, Option, Some, None, Result, Ok, Err, refl, arith, ◌∙◌, sym, ap, subst, ℤ, pos, neg_ℤ}
+use Rattle.std.proofs.Common.{◌≡◌, ◌≢◌, ℕ, suc, ◌+◌, ◌-◌, ◌≤◌, ◌^◌, ◌==◌, inl, inr, Bool, true, false, cond, nat_le, List, [], ◌∷◌, length, drop, slice_index, Option, Some, None, Result, Ok, Err, refl, arith, ◌∙◌, sym, ap, subst, ℤ, pos, neg_ℤ}
 use Rattle.std.proofs.lemmas.Bool.{eqb-true}
 use Rattle.std.proofs.lemmas.Bool.Decides.{nat_tests}
 use Rattle.std.proofs.lemmas.Fmt.{IsAscii-from_digits}
@@ -15,11 +15,11 @@ use Rattle.ba_model.specs.declared.schema.Kind.{Kind}
 use Rattle.ba_model.specs.declared.schema.Kind.TheVariants.{Int as IntKind, Text as TextKind}
 use Rattle.ba_model.specs.declared.schema.Table.{Table}
 use Rattle.ba_model.specs.declared.value.Value.{Value}
-use Rattle.ba_model.specs.declared.value.Value.TheVariants.{Int}
+use Rattle.ba_model.specs.declared.value.Value.TheVariants.{Null, Int}
 use Rattle.ba_model.specs.Readings.{◌>>=◌}
 use Rattle.ba_model.specs.Limits.{most_rows}
-use Rattle.ba_tables.specs.Spelling.{IsDigits, ReadsAsSpelled, RowsAreUnique, Spells, SpellsNumber, SpellsRow, SpellsTable}
-use Rattle.ba_tables.specs.TableFile.{digits_up_to, is_header, names_of, number_of, row_at, rows_from, rows_of_file, rows_of_lines, rows_of_rest, value_at, values_from, within_limit}
+use Rattle.ba_tables.specs.Spelling.{IsDigits, ReadsAsSpelled, RowsAreUnique, Spells, SpellsNumber, SpellsOfKind, SpellsRow, SpellsTable}
+use Rattle.ba_tables.specs.TableFile.{digits_up_to, is_header, names_of, number_of, row_at, rows_from, rows_of_file, rows_of_lines, rows_of_rest, says_null, some_value, value_at, values_from, within_limit}
 use Rattle.ba_tables.specs.declared.fault.TableFault.{TableFault}
 use Rattle.ba_tables.specs.declared.fault.TableFault.TheVariants.{BadHeader, BadNumber, TooMany}
 use Rattle.ba_tables.proofs.AgreeLemmas.{both, halves}
@@ -27,6 +27,7 @@ use Rattle.ba_tables.proofs.FileFitLemmas.{row_told, went_through}
 use Rattle.ba_tables.proofs.FrontLemmas.{row_is}
 use Rattle.ba_tables.proofs.NumberLemmas.{minus_is, own, plain_is, spelled, spelled_told}
 use Rattle.ba_tables.proofs.RowsLemmas.{file_is, lines_are, within}
+use Rattle.ba_tables.proofs.ValueLemmas.{cons_ascii, null_is, null_test, null_text, null_told, some_is, some_test, some_told, value_same}
 
 mapped : {X Y : Type 0} (f : X → Y) (o : Option X) (y : Y) → option_map f o ≡ Some y → (x : X) × (o ≡ Some x) × (f x ≡ y)
 mapped f None y e = cc e
@@ -75,10 +76,6 @@ spells_number field n (inr h) =
     let rest : drop 1 field ≡ h.rest = rw h.sign refl in
     rw (minus_is field first, rest, spelled (2 ^ 63) h.rest (record { digits = h.digits.digits; some_digit = h.digits.some_digit; within = h.fits })) (ap Some (sym h.value))
 
-cons_ascii : (c : ℕ) (cs : List ℕ) → c < 128 → IsAscii cs → IsAscii (c ∷ cs)
-cons_ascii c cs h k zero = omega arith
-cons_ascii c cs h k (suc i) = k i
-
 digits_ascii : (text : List ℕ) → IsDigits text → IsAscii text
 digits_ascii text h = IsAscii-from_digits text (own.to text h.digits)
 
@@ -91,13 +88,24 @@ filled : (o : Option ℤ) (fault : TableFault) (v : Value) → ok_or (option_map
 filled None fault v e = cc e
 filled (Some n) fault v e = (n, refl, cc e)
 
-pub field_spells : (row i : ℕ) (k : Kind) (f : List ℕ) (v : Value) → is_utf8 f ≡ true → value_at row i k f ≡ Ok v → Spells k f v
-field_spells row i IntKind f v t e = let h = filled (number_of f) (BadNumber row i) v e in (h.0, number_spells f h.0 h.1, h.2)
-field_spells row i TextKind f v t e = (IsUtf8-from_is_utf8 f t, cc e)
+some_spells : (row i : ℕ) (k : Kind) (f : List ℕ) (v : Value) → is_utf8 f ≡ true → some_value row i k f ≡ Ok v → SpellsOfKind k f v
+some_spells row i IntKind f v t e = let h = filled (number_of f) (BadNumber row i) v e in (h.0, number_spells f h.0 h.1, h.2)
+some_spells row i TextKind f v t e = (IsUtf8-from_is_utf8 f t, cc e)
 
-pub spells_field : (row i : ℕ) (k : Kind) (f : List ℕ) (v : Value) → Spells k f v → (is_utf8 f ≡ true) × (value_at row i k f ≡ Ok v)
-spells_field row i IntKind f v h = (is_utf8-from_IsUtf8 f (number_text f h.0 h.1), rw (spells_number f h.0 h.1, h.2) refl)
-spells_field row i TextKind f v h = (is_utf8-from_IsUtf8 f h.0, ap Ok (sym h.1))
+spells_some : (row i : ℕ) (k : Kind) (f : List ℕ) (v : Value) → SpellsOfKind k f v → (is_utf8 f ≡ true) × (some_value row i k f ≡ Ok v)
+spells_some row i IntKind f v h = (is_utf8-from_IsUtf8 f (number_text f h.0 h.1), rw (spells_number f h.0 h.1, h.2) refl)
+spells_some row i TextKind f v h = (is_utf8-from_IsUtf8 f h.0, ap Ok (sym h.1))
+
+pub field_spells : (row i : ℕ) (c : Column) (f : List ℕ) (v : Value) → is_utf8 f ≡ true → value_at row i c f ≡ Ok v → Spells c f v
+field_spells row i c f v t e = by (says_null c f) refl
+  where
+    by : (b : Bool) → says_null c f ≡ b → Spells c f v
+    by true n = inl (null_told c f n, sym (value_same Null v (sym (null_is row i c f n) ∙ e)))
+    by false n = inr (some_told c f n, some_spells row i c.kind f v t (sym (some_is row i c f n) ∙ e))
+
+pub spells_field : (row i : ℕ) (c : Column) (f : List ℕ) (v : Value) → Spells c f v → (is_utf8 f ≡ true) × (value_at row i c f ≡ Ok v)
+spells_field row i c f v (inl h) = (is_utf8-from_IsUtf8 f (null_text c.kind f h.0.spelled), null_is row i c f (null_test c f h.0) ∙ ap Ok (sym h.1))
+spells_field row i c f v (inr h) = let some = spells_some row i c.kind f v h.1 in (some.0, some_is row i c f (some_test c f h.0) ∙ some.1)
 
 values_spell : (row i : ℕ) (cs : List Column) (fs : List (List ℕ)) (vs : List Value) → length fs ≡ length cs → list_all is_utf8 fs ≡ true → values_from row i cs fs ≡ Ok vs → SpellsRow cs fs vs
 unfolding values_from
@@ -105,11 +113,11 @@ values_spell row i [] [] vs w t h = let none : [] ≡ vs = cc h in subst (λ x. 
 values_spell row i [] (f ∷ fs) vs w t h = absurd (omega arith)
 values_spell row i (c ∷ cs) [] vs w t h = absurd (omega arith)
 values_spell row i (c ∷ cs) (f ∷ fs) vs w t h =
-    let v = went_through (value_at row i c.kind f) (λ v. values_from row (i + 1) cs fs >>= λ us. Ok (v ∷ us)) vs h in
+    let v = went_through (value_at row i c f) (λ v. values_from row (i + 1) cs fs >>= λ us. Ok (v ∷ us)) vs h in
     let us = went_through (values_from row (i + 1) cs fs) (λ us. Ok (v.0 ∷ us)) vs v.2 in
     let texts = halves (is_utf8 f) (list_all is_utf8 fs) t in
     let whole : v.0 ∷ us.0 ≡ vs = cc us.2 in
-    subst (λ x. SpellsRow (c ∷ cs) (f ∷ fs) x) whole (field_spells row i c.kind f v.0 texts.0 v.1, values_spell row (i + 1) cs fs us.0 (omega arith) texts.1 us.1)
+    subst (λ x. SpellsRow (c ∷ cs) (f ∷ fs) x) whole (field_spells row i c f v.0 texts.0 v.1, values_spell row (i + 1) cs fs us.0 (omega arith) texts.1 us.1)
 
 pub spells_width : (cs : List Column) (fs : List (List ℕ)) (vs : List Value) → SpellsRow cs fs vs → length fs ≡ length cs
 spells_width [] [] vs h = refl
@@ -126,7 +134,7 @@ spells_values row i [] (f ∷ fs) vs h = absurd h
 spells_values row i (c ∷ cs) [] vs h = absurd h
 spells_values row i (c ∷ cs) (f ∷ fs) [] h = absurd h
 spells_values row i (c ∷ cs) (f ∷ fs) (v ∷ vs) h =
-    let one = spells_field row i c.kind f v h.0 in
+    let one = spells_field row i c f v h.0 in
     let others = spells_values row (i + 1) cs fs vs h.1 in
     (both (is_utf8 f) (list_all is_utf8 fs) one.0 others.0, rw (one.1, others.1) refl)
 

@@ -8,7 +8,7 @@ use Rattle.ba_model.specs.declared.schema.Kind.TheVariants.{Int as IntKind}
 use Rattle.ba_model.specs.declared.schema.Table.{Table}
 use Rattle.ba_model.specs.declared.value.Value.{Value}
 use Rattle.ba_model.specs.Limits.{most_rows}
-use Rattle.ba_tables.specs.Spelling.{SpellsNumber, SpellsRow}
+use Rattle.ba_tables.specs.Spelling.{SaysNull, SpellsNumber, SpellsRow}
 use Rattle.ba_tables.specs.TableFile.{names_of, rows_of_file}
 use Rattle.ba_tables.specs.declared.fault.TableFault.TheVariants.{BadHeader, BadWidth, BadUtf8, BadNumber, TooMany}
 
@@ -26,7 +26,8 @@ pub record IsNoText (columns : List Column) (line : List (List ℕ)) : Type 0 wh
   pub width : length line ≡ length columns
   pub no_text : ¬ All IsUtf8 line
 
--- Of the width and UTF-8. The column k is one of numbers and its field spells none; the fields before it spell values of their columns.
+-- Of the width and UTF-8. The column k is one of numbers, and its field spells none and doesn't say NULL; the fields before it spell
+-- values of their columns.
 pub record LacksNumber (k : ℕ) (columns : List Column) (line : List (List ℕ)) : Type 0 where
   pub width : length line ≡ length columns
   pub text : All IsUtf8 line
@@ -35,6 +36,7 @@ pub record LacksNumber (k : ℕ) (columns : List Column) (line : List (List ℕ)
   pub is_column : slice_get columns k ≡ Some column
   pub is_field : slice_get line k ≡ Some field
   pub kind : column.kind ≡ IntKind
+  pub no_null : ¬ SaysNull column field
   pub no_number : (n : ℤ) → ¬ SpellsNumber field n
   pub values : List Value
   pub earlier : SpellsRow (take k columns) (take k line) values

@@ -9,9 +9,9 @@ use Rattle.ba_model.specs.declared.schema.Kind.{Kind}
 use Rattle.ba_model.specs.declared.schema.Kind.TheVariants.{Int as IntKind, Text as TextKind}
 use Rattle.ba_model.specs.declared.schema.Table.{Table}
 use Rattle.ba_model.specs.declared.value.Value.{Value}
-use Rattle.ba_model.specs.declared.value.Value.TheVariants.{Int, Text}
+use Rattle.ba_model.specs.declared.value.Value.TheVariants.{Null, Int, Text}
 use Rattle.ba_model.specs.Limits.{most_rows}
-use Rattle.ba_tables.specs.TableFile.{names_of, rows_of_file}
+use Rattle.ba_tables.specs.TableFile.{names_of, null_field, rows_of_file}
 
 -- one digit or more and nothing else
 pub record IsDigits (text : List ℕ) : Type 0 where
@@ -35,10 +35,24 @@ pub record SpellsMinus (field : List ℕ) (n : ℤ) : Type 0 where
 abbrev pub SpellsNumber : List ℕ → ℤ → Type 0
 SpellsNumber field n = SpellsPlain field n ⊎ SpellsMinus field n
 
--- the field of a column of this kind spells the value
-abbrev pub Spells : Kind → List ℕ → Value → Type 0
-Spells IntKind field value = (n : ℤ) × SpellsNumber field n × (value ≡ Int n)
-Spells TextKind field value = IsUtf8 field × (value ≡ Text field)
+-- of numbers an empty field or `\N`, of texts `\N` alone
+abbrev pub IsNullText : Kind → List ℕ → Type 0
+IsNullText IntKind field = (field ≡ []) ⊎ (field ≡ null_field)
+IsNullText TextKind field = field ≡ null_field
+
+-- the field says NULL: the column may hold it, and it is spelled so
+pub record SaysNull (column : Column) (field : List ℕ) : Type 0 where
+  pub may_be : IsTrue column.nullable
+  pub spelled : IsNullText column.kind field
+
+-- the field spells the value of this kind
+abbrev pub SpellsOfKind : Kind → List ℕ → Value → Type 0
+SpellsOfKind IntKind field value = (n : ℤ) × SpellsNumber field n × (value ≡ Int n)
+SpellsOfKind TextKind field value = IsUtf8 field × (value ≡ Text field)
+
+-- the field of the column spells the value: NULL where it says so, and else a value of the column's kind
+abbrev pub Spells : Column → List ℕ → Value → Type 0
+Spells column field value = (SaysNull column field × (value ≡ Null)) ⊎ ((¬ SaysNull column field) × SpellsOfKind column.kind field value)
 
 -- the fields spell the row, column by column
 abbrev pub SpellsRow : List Column → List (List ℕ) → List Value → Type 0
@@ -47,7 +61,7 @@ SpellsRow [] [] (value ∷ row) = ⊥
 SpellsRow [] (field ∷ line) row = ⊥
 SpellsRow (c ∷ columns) [] row = ⊥
 SpellsRow (c ∷ columns) (field ∷ line) [] = ⊥
-SpellsRow (c ∷ columns) (field ∷ line) (value ∷ row) = Spells c.kind field value × SpellsRow columns line row
+SpellsRow (c ∷ columns) (field ∷ line) (value ∷ row) = Spells c field value × SpellsRow columns line row
 
 -- The file's records, as CSV gives them, are the column names and then one for each row. There are at most 100,000 rows.
 pub record SpellsTable (table : Table) (bytes : List ℕ) (rows : List (List Value)) : Type 0 where

@@ -1,5 +1,5 @@
 -- What a table's file reads as.
-use Rattle.std.specs.Prelude.{ℕ, ◌+◌, ◌-◌, ◌^◌, ℤ, pos, neg_ℤ, Bool, not, ◌&&◌, ◌==◌, nat_lt, nat_le, List, [], ◌∷◌, drop, map, length, Option, Some, None, option_map, ok_or, Result, Ok, Err, if◌then◌else◌}
+use Rattle.std.specs.Prelude.{ℕ, ◌+◌, ◌-◌, ◌^◌, ℤ, pos, neg_ℤ, Bool, not, ◌&&◌, ◌||◌, ◌==◌, nat_lt, nat_le, List, [], ◌∷◌, drop, map, length, Option, Some, None, option_map, ok_or, Result, Ok, Err, codes, if◌then◌else◌}
 use Rattle.std.specs.Cmp.Lexicographic.{pointwise}
 use Rattle.std.specs.List.{list_all}
 use Rattle.std.specs.Str.{all_ascii_digits, bytes_eq, is_utf8}
@@ -12,7 +12,7 @@ use Rattle.ba_model.specs.declared.schema.Kind.{Kind}
 use Rattle.ba_model.specs.declared.schema.Kind.TheVariants.{Int as IntKind, Text as TextKind}
 use Rattle.ba_model.specs.declared.schema.Table.{Table}
 use Rattle.ba_model.specs.declared.value.Value.{Value}
-use Rattle.ba_model.specs.declared.value.Value.TheVariants.{Int, Text}
+use Rattle.ba_model.specs.declared.value.Value.TheVariants.{Null, Int, Text}
 use Rattle.ba_tables.specs.declared.fault.TableFault.{TableFault}
 use Rattle.ba_tables.specs.declared.fault.TableFault.TheVariants.{BadHeader, BadWidth, BadUtf8, BadNumber, TooMany}
 
@@ -26,21 +26,38 @@ number_of field =
     if starts_with_minus field then option_map (λ n. neg_ℤ (pos n)) (digits_up_to (2 ^ 63) (drop 1 field))
     else option_map (λ n. pos n) (digits_up_to (2 ^ 63 - 1) field)
 
--- The value of the field of a row and column, by the column's kind. A nullable column's field is read as any other.
-abbrev pub value_at : ℕ → ℕ → Kind → List ℕ → Result Value TableFault
-value_at row column IntKind field = ok_or (option_map Int (number_of field)) (BadNumber row column)
-value_at row column TextKind field = Ok (Text field)
+-- `\N`
+abbrev pub null_field : List ℕ
+null_field = codes "\\N"
+
+-- what may say NULL: `\N`, and of numbers nothing, too
+abbrev pub is_null_text : Kind → List ℕ → Bool
+is_null_text IntKind field = (length field == 0) || bytes_eq field null_field
+is_null_text TextKind field = bytes_eq field null_field
+
+-- the field says NULL: in a column that may hold it
+abbrev pub says_null : Column → List ℕ → Bool
+says_null column field = column.nullable && is_null_text column.kind field
+
+-- the value of the field of a row and column that doesn't say NULL, by the column's kind
+abbrev pub some_value : ℕ → ℕ → Kind → List ℕ → Result Value TableFault
+some_value row place IntKind field = ok_or (option_map Int (number_of field)) (BadNumber row place)
+some_value row place TextKind field = Ok (Text field)
+
+-- the value of the field of a row and column
+unfoldable pub value_at : ℕ → ℕ → Column → List ℕ → Result Value TableFault
+value_at row place column field = if says_null column field then Ok Null else some_value row place column.kind field
 
 -- the values of the columns from a number on
 unfoldable pub values_from : ℕ → ℕ → List Column → List (List ℕ) → Result (List Value) TableFault
-values_from row column [] fields = Ok []
-values_from row column (c ∷ columns) [] = Ok []
-values_from row column (c ∷ columns) (field ∷ fields) = do
-  value ← value_at row column c.kind field
-  values ← values_from row (column + 1) columns fields
+values_from row place [] fields = Ok []
+values_from row place (column ∷ columns) [] = Ok []
+values_from row place (column ∷ columns) (field ∷ fields) = do
+  value ← value_at row place column field
+  values ← values_from row (place + 1) columns fields
   Ok (value ∷ values)
 
--- a row is tested for its width, then for UTF-8, then for its numbers
+-- a row is tested for its width, then for UTF-8, then for its numbers; NULL is none that is tested
 unfoldable pub row_at : ℕ → List Column → List (List ℕ) → Result (List Value) TableFault
 row_at row columns fields =
     if not (length fields == length columns) then Err (BadWidth row)

@@ -16,7 +16,11 @@ use std::alloc::Global;
 /// The file is CSV (RFC 4180) as the `csv` crate reads it: fields between commas, double quotes, records that end at LF, CR LF
 /// or CR, blank lines and a byte order mark passed over. The first record is the header, exactly the names of the columns in
 /// their order. Each other record is a row with a field for each column: any UTF-8 for a text, and for a whole number `-` or
-/// nothing and then decimal digits, from -2^63 to 2^63 - 1, leading zeros allowed. A nullable column's field is read as any other.
+/// nothing and then decimal digits, from -2^63 to 2^63 - 1, leading zeros allowed.
+///
+/// In a nullable column `\N` is NULL, and for a whole number an empty field is NULL too; an empty field of a text is the empty
+/// text. A field in quotes is read as the same without them. In a column that isn't nullable `\N` is the text of these two
+/// characters, and no number.
 ///
 /// A row is tested for its width, then for UTF-8, then for its numbers, and the first bad row is the fault; more than
 /// `MAX_ROWS` rows are a fault where none is bad. `NoMemory` may come at any point. The time is linear in the file's length.

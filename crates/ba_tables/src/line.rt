@@ -89,9 +89,9 @@ fn values_of(
         return Err(Failure::NoMemory);
     };
     let mut values = List::new(alloc);
-    for column in 0..width {
-        let kind = columns.get(column as usize).kind;
-        let value = value_at(alloc, row, column, kind, text_at(line, column as usize))?;
+    for place in 0..width {
+        let column = columns.get(place as usize);
+        let value = value_at(alloc, row, place, column, text_at(line, place as usize))?;
         values.push(value)?;
     }
     Ok(values)

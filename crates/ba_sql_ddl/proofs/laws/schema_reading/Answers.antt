@@ -1,4 +1,4 @@
-use Rattle.ba_sql_ddl.proofs.ReadingLemmas.{fault_complete, fault_sound, lex_complete, lex_sound, null_complete, null_sound, one_schema, schema_complete, schema_sound, syntax_complete, syntax_sound, unsupported_complete, unsupported_sound}
+use Rattle.ba_sql_ddl.proofs.ReadingLemmas.{fault_complete, fault_sound, lex_complete, lex_sound, one_schema, schema_complete, schema_sound, syntax_complete, syntax_sound, unsupported_complete, unsupported_sound}
 use Rattle.ba_sql_ddl.proofs.laws.schema_reading.Goals as goal
 
 pub returns-clause-reading : goal.returns-clause-reading
@@ -15,9 +15,6 @@ returns-clause-unsupported c bytes word = (unsupported_sound bytes word, unsuppo
 
 pub returns-clause-syntax : goal.returns-clause-syntax
 returns-clause-syntax c bytes = (syntax_sound bytes, syntax_complete bytes)
-
-pub returns-clause-nullable : goal.returns-clause-nullable
-returns-clause-nullable c bytes table column = (null_sound bytes table column, null_complete bytes table column)
 
 pub returns-clause-fault : goal.returns-clause-fault
 returns-clause-fault c bytes f = (fault_sound bytes f, fault_complete bytes f)
