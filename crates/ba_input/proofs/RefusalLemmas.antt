@@ -105,7 +105,6 @@ unfolding ddl_refusal
 ddl_is file (ddl.Lex it) = lex_is file it
 ddl_is file (ddl.Unsupported word) = tt
 ddl_is file ddl.Syntax = tt
-ddl_is file (ddl.Nullable it column) = tt
 ddl_is file (ddl.Schema it) = schema_is file it
 
 policy_is : (file : List ℕ) (e : PolicyFault) → IsRefusal (policy_refusal file e)

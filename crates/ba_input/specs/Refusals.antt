@@ -66,7 +66,6 @@ unfoldable pub ddl_refusal : List ℕ → DdlFault → Fault
 ddl_refusal file (ddl.Lex fault) = lex_fault file fault
 ddl_refusal file (ddl.Unsupported word) = text_fault file (query.Unsupported word)
 ddl_refusal file ddl.Syntax = text_fault file query.Syntax
-ddl_refusal file (ddl.Nullable it column) = Input file (reason.Nullable it column)
 ddl_refusal file (ddl.Schema fault) = schema_fault file fault
 
 -- ---- the policy

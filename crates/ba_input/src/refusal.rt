@@ -98,10 +98,6 @@ pub(crate) fn ddl_refusal(file: Str, fault: DdlFault) -> Fault
         DdlFault::Lex(fault) => lex_fault(file, fault),
         DdlFault::Unsupported(word) => text_fault(file, ReadQueryFault::Unsupported(word)),
         DdlFault::Syntax => text_fault(file, ReadQueryFault::Syntax),
-        DdlFault::Nullable(table, column) => Fault::Input {
-            file,
-            reason: Reason::Nullable { table, column },
-        },
         DdlFault::Schema(fault) => schema_fault(file, fault),
     }
 }

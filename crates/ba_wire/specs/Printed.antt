@@ -95,7 +95,6 @@ line_name line_fault.Context = codes "context"
 -- numbers in decimal
 unfoldable pub reason_text : Reason → List ℕ
 reason_text (reason.Text it) = fault_words it
-reason_text (reason.Nullable table column) = codes "nullable" ␣ table ␣ column
 reason_text reason.DuplicateTable = codes "duplicate_table"
 reason_text reason.DuplicateColumn = codes "duplicate_column"
 reason_text reason.WidthDiffers = codes "width_differs"

@@ -19,8 +19,6 @@ use std::alloc::{AllocError, Global};
 pub enum Reason {
     /// The fault of a schema's or a policy's text, by its name.
     Text { fault: ReadQueryFault },
-    /// The column may be NULL.
-    Nullable { table: Str, column: Str },
     /// Two tables have one name.
     DuplicateTable,
     /// Two columns of a table have one name, or a key repeats a column.
@@ -114,7 +112,6 @@ impl Reason {
     {
         match self {
             Reason::Text { fault } => fault_words(alloc, fault),
-            Reason::Nullable { table, column } => format!(in alloc; "nullable {table} {column}"),
             Reason::DuplicateTable => String::from_str(alloc, "duplicate_table"),
             Reason::DuplicateColumn => String::from_str(alloc, "duplicate_column"),
             Reason::WidthDiffers => String::from_str(alloc, "width_differs"),

@@ -89,9 +89,6 @@ pub(super) fn write_ddl_fault(alloc: Global, fault: DdlFault, told: &mut String)
             write_text_fault(alloc, ReadQueryFault::Unsupported(word), told)
         }
         DdlFault::Syntax => write_text_fault(alloc, ReadQueryFault::Syntax, told),
-        DdlFault::Nullable(table, column) => {
-            write_reason(alloc, Reason::Nullable { table, column }, told)
-        }
         DdlFault::Schema(fault) => write_schema_fault(alloc, fault, told),
     }
 }

@@ -43,7 +43,8 @@ fn write_file(
 }
 
 const SCHEMA: &str = "CREATE TABLE Tags (A INT NOT NULL);
-CREATE TABLE Users (Id INT NOT NULL, Name TEXT NOT NULL);";
+CREATE TABLE Users (Id INT NOT NULL, Name TEXT NOT NULL);
+CREATE TABLE Marks (Id INT, Note TEXT);";
 
 /// Files of the second table.
 struct Files;
@@ -72,6 +73,19 @@ impl Reading for Tags {
     }
 }
 
+/// Files of the third table, whose columns may hold NULL.
+struct Marks;
+
+impl Reading for Marks {
+    fn tell(&self, alloc: Global, text: &str, told: &mut String) -> Told {
+        let schema = schema_of(alloc, SCHEMA)?;
+        match schema.tables.find(2) {
+            Some(marks) => write_file(alloc, rows_of_file(alloc, marks, text.as_bytes()), told),
+            None => Err(AllocError),
+        }
+    }
+}
+
 const ROWS: &str = r#"Id,Name~1,ann~2,bob~ => 2: 1 'ann'; 2 'bob';
 Id,Name^~1,ann^~2,bob^~ => 2: 1 'ann'; 2 'bob';
 Id,Name^1,ann^2,bob^ => 2: 1 'ann'; 2 'bob';
@@ -82,7 +96,15 @@ Id,Name~1,ann~1,ann~ => 2: 1 'ann'; 1 'ann';
 Id,Name~007,"a,""b""~"~ => 1: 7 'a,"b"~';
 Id,Name~-0,~-007, x ~ => 2: 0 ''; -7 ' x ';
 Id,Name~9223372036854775807,é~-9223372036854775808,b~ => 2: 9223372036854775807 'é'; -9223372036854775808 'b';
-Id,Name~00000000000000000000000000000001,a => 1: 1 'a';"#;
+Id,Name~00000000000000000000000000000001,a => 1: 1 'a';
+Id,Name~1,\N~2,"\N" => 2: 1 '\N'; 2 '\N';"#;
+
+const NULLS: &str = r#"Id,Note~1,a~\N,\N~, => 3: 1 'a'; NULL NULL; NULL '';
+Id,Note~"\N","\N"~"","" => 2: NULL NULL; NULL '';
+Id,Note~1,\n~2, \N~3,\N\N~4,NULL => 4: 1 '\n'; 2 ' \N'; 3 '\N\N'; 4 'NULL';
+Id,Note~\n,a => number 1 0
+Id,Note~\N,a~ \N,b => number 2 0
+Id,Note~1,a~NULL,b => number 2 0"#;
 
 const FAULTS: &str = r#"
 ~^~
@@ -94,6 +116,7 @@ Id,Name~@,ann,x~ => width 1
 Id,Name~1,ann~x,@~1~ => utf8 2
 Id,Name~1,ann~x,bob~ => number 2 0
 Id,Name~,bob~ => number 1 0
+Id,Name~\N,bob~ => number 1 0
 Id,Name~+1,bob~ => number 1 0
 Id,Name~1.0,bob~ => number 1 0
 Id,Name~9223372036854775808,bob~ => number 1 0
@@ -107,5 +130,6 @@ fn texts_of_files(rt: HostRuntime) -> Result<(), Fail> {
     all_are_so(&rt, &Tags, "A~2~1", "2: 2; 1;")?;
     all_are_so(&rt, &Files, ROWS, "")?;
     all_are_so(&rt, &Files, "\u{feff}Id,Name~1,ann", "1: 1 'ann';")?;
+    all_are_so(&rt, &Marks, NULLS, "")?;
     all_are_so(&rt, &Files, FAULTS, "header")
 }

@@ -1,6 +1,7 @@
 //! Schemas.
 //!
-//! A table is its columns, its keys and its links, as in `T: a Int, b Text | 0, 1 0 | 1 > 0: 0;`.
+//! A table is its columns, of which those that may hold NULL have a `?`, its keys and its links, as in
+//! `T: a Int, b Text? | 0, 1 0 | 1 > 0: 0;`.
 
 use super::cases::{Reading, Told, all_are_so};
 use super::faults::write_ddl_fault;
@@ -14,7 +15,8 @@ use std::test::Fail;
 fn write_column(told: &mut String, n: usize, column: &Column) -> Told {
     told.push_str(if n > 0 { ", " } else { " " })?;
     told.push_str(column.name.as_str())?;
-    told.push_str(kind_word(column.kind))
+    told.push_str(kind_word(column.kind))?;
+    told.push_str(if column.nullable { "?" } else { "" })
 }
 
 fn write_columns(told: &mut String, columns: &[Column]) -> Told {
@@ -97,6 +99,8 @@ CREATE TABLE A (a INT NOT NULL, b TEXT NOT NULL REFERENCES `B` (q));~CREATE TABL
 CREATE TABLE A (a INT NOT NULL, b TEXT NOT NULL, foreign key (b, a) references A (b, a), CONSTRAINT c FOREIGN KEY (a, a) REFERENCES A(a, a)); => A: a Int, b Text | | 1 0 > 0: 1 0, 0 0 > 0: 0 0;
 CREATE TABLE A (a INT PRIMARY KEY);CREATE TABLE a (A INT NULL PRIMARY KEY NULL REFERENCES A (a)); => A: a Int | 0 |;a: A Int | 0 | 0 > 0: 0;
 CREATE TABLE INT (INT INT NOT NULL); => INT: INT Int | |;
+CREATE TABLE E (a INT PRIMARY KEY, b TEXT NOT NULL, c INT, d CHAR(3) NULL UNIQUE REFERENCES E (b)); => E: a Int, b Text, c Int?, d Text? | 0, 3 | 3 > 0: 1;
+CREATE TABLE T (a INT, b INT, UNIQUE (a, b), PRIMARY KEY (b)); => T: a Int?, b Int | 0 1, 1 |;
 CREATE TABLE "TABLE" (`IF` INT NOT NULL, "ON" TEXT, PRIMARY KEY (`ON`)); => TABLE: IF Int, ON Text | 1 |;"#;
 
 /// Each text has its fault before a later one.
@@ -108,9 +112,8 @@ CREATE ( check drop => unsupported CHECK
 autoincrement => unsupported AUTOINCREMENT
 if => unsupported IF
 CREATE TABLE A (a INT); CREATE TABLE => syntax
-CREATE TABLE E (a INT PRIMARY KEY, b TEXT NOT NULL, c INT); => nullable E c
-CREATE TABLE A (a INT NOT NULL); CREATE TABLE A (b INT UNIQUE, c INT); => nullable A b
-CREATE TABLE T (a INT UNIQUE REFERENCES U (x)); => nullable T a
+CREATE TABLE A (a INT NOT NULL); CREATE TABLE A (b INT UNIQUE, c INT); => duplicate_table
+CREATE TABLE T (a INT UNIQUE REFERENCES U (x)); => unknown_table
 CREATE TABLE A (a INT NOT NULL, a INT NOT NULL); CREATE TABLE A (b INT NOT NULL); => duplicate_table
 CREATE TABLE A (a INT NOT NULL, a INT NOT NULL REFERENCES B (b)); => duplicate_column
 CREATE TABLE A (a INT NOT NULL, UNIQUE (a, a)); => duplicate_column
@@ -155,7 +158,7 @@ fn texts_of_schemas(rt: HostRuntime) -> Result<(), Fail> {
 
 /// They take time that their length bounds.
 const LONG_TEXTS: &str =
-    r#"CREATE TABLE t (a INT);[[16383 ---------------------------------------------------------------~]]----------------------------------------~ => nullable t a
+    r#"CREATE TABLE t (a INT);[[16383 ---------------------------------------------------------------~]]----------------------------------------~ => t: a Int? | |;
 [[16384 ---------------------------------------------------------------~]]  => {"fault":"limit","limit":1048576,"status":7,"what":"bytes"}~
 [[9000 CREATE TABLE t#(a INT NOT NULL REFERENCES t9(a));]] => {"fault":"limit","limit":64,"status":7,"what":"tables"}~
 CREATE TABLE T ([[9000 c# INT NOT NULL UNIQUE,]]PRIMARY KEY ([[9000 c#,]]c9000)); => unknown_column"#;

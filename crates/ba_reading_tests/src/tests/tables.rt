@@ -87,7 +87,7 @@ fn add_rows(alloc: Global, rows: &mut List<Row>, last: i64) -> Told {
 
 /// What is broken in two rows of NULL and 1, and one of `last` and 1.
 fn broken(alloc: Global, last: i64) -> Result<Option<TablesFault>, AllocError> {
-    let text = "CREATE TABLE T (A INT NOT NULL UNIQUE REFERENCES T (B), B INT NOT NULL);";
+    let text = "CREATE TABLE T (A INT UNIQUE REFERENCES T (B), B INT NOT NULL);";
     let schema = schema_of(alloc, text)?;
     let mut rows = List::new(alloc);
     add_rows(alloc, &mut rows, last)?;
