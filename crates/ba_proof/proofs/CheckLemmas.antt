@@ -17,7 +17,7 @@ use Rattle.ba_kernel.specs.declared.problem.Problem.{Problem}
 use Rattle.ba_kernel.specs.declared.replaying.ReplayFault.TheVariants as replay
 use Rattle.ba_kernel.specs.declared.step.Step.{Step}
 use Rattle.ba_kernel.proofs.ReplayLemmas as lemmas
-use Rattle.ba_proof.specs.Checked.{Checks, HasFault, IsNextFault, IsStrongQuestion, LeavesOpen, open_count}
+use Rattle.ba_proof.specs.Checked.{AcceptedIsStrong, Checks, HasFault, IsNextFault, IsStrongQuestion, LeavesOpen, open_count}
 use Rattle.ba_proof.specs.declared.checking.CheckFault.{CheckFault}
 use Rattle.ba_proof.specs.declared.checking.CheckFault.TheVariants.{NotShown, StillOpen}
 
@@ -106,6 +106,9 @@ pub is_strong : ClosedIsStrong → ProblemIsQuestion → (p : Problem) (steps : 
 is_strong closed question p steps (Ok proof) fits h =
     λ policy c trace q context e. question policy c trace q context (subst StrongAll e (closed p steps h.0.slots fits h.0.runs h.0.closed))
 is_strong closed question p steps (Err e) fits h = tt
+
+pub accepted_strong : AcceptedIsStrong
+accepted_strong policy p asked strong = strong policy asked.context asked.trace asked.query asked.fits.context asked.is
 
 pub is_some_map : {A B : Type 0} (f : A → B) (o : Option A) → is_some (option_map f o) ≡ is_some o
 is_some_map f None = refl

@@ -29,7 +29,8 @@ int_reads n true e = refl
 int_reads n false e = cc e
 
 pub value_reads : (k : Kind) (v : Value) → IsOfKind k v → ValueSpells v → of_kind k (given_of (value_json v)) ≡ Some v
-value_reads k value.Null h s = absurd s
+value_reads IntKind value.Null h s = absurd h
+value_reads TextKind value.Null h s = absurd h
 value_reads IntKind (value.Int (pos n)) h s = int_reads n (nat_lt n (2 ^ 63)) s
 value_reads IntKind (value.Int (negsuc n)) h s = refl
 value_reads TextKind (value.Int n) h s = absurd h

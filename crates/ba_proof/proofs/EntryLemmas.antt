@@ -1,8 +1,8 @@
 -- Entries that were written read back: a query, and a row of its width and kinds.
-use Rattle.std.proofs.Common.{◌≡◌, ◌≢◌, ◌∙◌, ℕ, suc, ◌+◌, ◌==◌, inl, inr, List, [], ◌∷◌, ◌++◌, length, map, true, Option, Some, refl, ap, subst, eq-eqb}
+use Rattle.std.proofs.Common.{◌≡◌, ◌≢◌, ◌∙◌, ℕ, suc, pos, negsuc, ◌+◌, ◌==◌, inl, inr, List, [], ◌∷◌, ◌++◌, length, map, true, cond, Option, Some, None, refl, ap, eq-eqb}
 use Rattle.std.specs.Prelude.{Ok, option_and_then, slice_get}
 use Rattle.std.specs.List.{AllByRecursion, AllZip}
-use Rattle.ba_model.specs.Conform.{IsOfKind}
+use Rattle.serde_json.specs.Data.{Data, unsigned, negative}
 use Rattle.ba_model.specs.Fit.{PartFits, kind_of, kinds_of}
 use Rattle.ba_model.specs.declared.policy.Parameter.{Parameter}
 use Rattle.ba_model.specs.declared.query.Operand.{Operand}
@@ -10,23 +10,44 @@ use Rattle.ba_model.specs.declared.query.Operand.TheVariants.{Val}
 use Rattle.ba_model.specs.declared.query.Part.{Part}
 use Rattle.ba_model.specs.declared.query.Query.{Query}
 use Rattle.ba_model.specs.declared.schema.Kind.{Kind}
+use Rattle.ba_model.specs.declared.schema.Kind.TheVariants.{Int as IntKind, Text as TextKind}
 use Rattle.ba_model.specs.declared.schema.Schema.{Schema}
 use Rattle.ba_model.specs.declared.value.Value.{Value}
+use Rattle.ba_model.specs.declared.value.Value.TheVariants as value
 use Rattle.ba_kernel.specs.Asked.{MayBeOfKind}
 use Rattle.ba_kernel.specs.declared.problem.ProblemEntry.{ProblemEntry}
+use Rattle.ba_script.specs.Contexts.{of_kind}
+use Rattle.ba_script.specs.Script.{given_from}
 use Rattle.ba_sql_print.specs.Printed.{query_text}
 use Rattle.ba_sql_query.specs.Texts.{query_of}
-use Rattle.ba_proof.proofs.ContextLemmas.{longer, value_reads}
+use Rattle.ba_proof.proofs.ContextLemmas.{longer}
 use Rattle.ba_proof.proofs.ShapeLemmas.{items_are}
 use Rattle.ba_proof.specs.ReadBack.{ValueSpells}
-use Rattle.ba_proof.specs.Reading.{entry_at, entry_of, entry_with, head_kind, row_of, row_under, value_at, values_from}
+use Rattle.ba_proof.specs.Says.{SaysValue}
+use Rattle.ba_proof.specs.Reading.{entry_at, entry_of, entry_with, head_kind, row_of, row_under, row_value, value_at, values_from}
 use Rattle.ba_proof.specs.Written.{entry_json, literal_in, literal_json, value_json}
 
 -- ---- values by their kinds
 
-not_null : (k : Kind) (v : Value) → MayBeOfKind k v → ValueSpells v → IsOfKind k v
-not_null k v (inl h) s = h
-not_null k v (inr e) s = absurd (subst ValueSpells e s)
+row_value_reads : (k : Kind) (d : Data) (v : Value) → MayBeOfKind k v → SaysValue d v → row_value k d ≡ Some v
+row_value_reads k d value.Null h s = ap (row_value k) s
+row_value_reads IntKind d (value.Int n) (inl h) s = ap (row_value IntKind) s.1 ∙ ap (λ o. of_kind IntKind (given_from None o)) s.2
+row_value_reads TextKind d (value.Int n) (inl h) s = absurd h
+row_value_reads k d (value.Int n) (inr e) s = cc e
+row_value_reads IntKind d (value.Text t) (inl h) s = absurd h
+row_value_reads TextKind d (value.Text t) (inl h) s = ap (row_value TextKind) s
+row_value_reads k d (value.Text t) (inr e) s = cc e
+
+-- a value that was written is said
+value_says : (v : Value) → ValueSpells v → SaysValue (value_json v) v
+value_says value.Null s = refl
+value_says (value.Int (pos n)) s = (unsigned n, refl, ap (λ b. cond b (Some (pos n)) None) s)
+value_says (value.Int (negsuc n)) s = (negative (negsuc n), refl, refl)
+value_says (value.Text t) s = refl
+
+pub all_say : (vs : List Value) → AllByRecursion ValueSpells vs → AllZip SaysValue (map value_json vs) vs
+all_say [] s = tt
+all_say (v ∷ vs) s = (value_says v s.0, all_say vs s.1)
 
 module _ (schema : Schema) (params : List Parameter) (part : Part) where
   -- from a place on the head's operands have these kinds
@@ -34,18 +55,19 @@ module _ (schema : Schema) (params : List Parameter) (part : Part) where
   KindsFrom place [] = Unit {0}
   KindsFrom place (k ∷ ks) = (head_kind schema params part place ≡ Some k) × KindsFrom (place + 1) ks
 
-  value_there : (place : ℕ) (k : Kind) (v : Value) → head_kind schema params part place ≡ Some k → IsOfKind k v → ValueSpells v
-      → value_at schema params part place (value_json v) ≡ Ok v
+  value_there : (place : ℕ) (k : Kind) (d : Data) (v : Value) → head_kind schema params part place ≡ Some k → MayBeOfKind k v → SaysValue d v
+      → value_at schema params part place d ≡ Ok v
   unfolding value_at
-  value_there place k v at h s = rw (at, value_reads k v h s) refl
+  value_there place k d v at h s = rw (at, row_value_reads k d v h s) refl
 
-  values_read : (place : ℕ) (ks : List Kind) (vs : List Value) → KindsFrom place ks → AllZip MayBeOfKind ks vs → AllByRecursion ValueSpells vs
-      → values_from schema params part place (map value_json vs) ≡ Ok vs
-  values_read place [] [] at h s = refl
-  values_read place [] (v ∷ vs) at h s = absurd h
-  values_read place (k ∷ ks) [] at h s = absurd h
-  values_read place (k ∷ ks) (v ∷ vs) at h s =
-      rw (value_there place k v at.0 (not_null k v h.0 s.0) s.0, values_read (place + 1) ks vs at.1 h.1 s.1) refl
+  values_read : (place : ℕ) (ks : List Kind) (ds : List Data) (vs : List Value) → KindsFrom place ks → AllZip MayBeOfKind ks vs → AllZip SaysValue ds vs
+      → values_from schema params part place ds ≡ Ok vs
+  values_read place [] [] [] at h s = refl
+  values_read place [] (d ∷ ds) [] at h s = absurd s
+  values_read place [] ds (v ∷ vs) at h s = absurd h
+  values_read place (k ∷ ks) ds [] at h s = absurd h
+  values_read place (k ∷ ks) [] (v ∷ vs) at h s = absurd s
+  values_read place (k ∷ ks) (d ∷ ds) (v ∷ vs) at h s = rw (value_there place k d v at.0 h.0 s.0, values_read (place + 1) ks ds vs at.1 h.1 s.1) refl
 
 -- the kinds of a head's operands, from a place on
 kind_at : (f : Operand → Option Kind) (front xs : List Operand) (x : Operand) (n : ℕ) (k : Kind) → n ≡ length front → f x ≡ Some k
@@ -81,22 +103,24 @@ same_width f (x ∷ xs) [] zs P e h = cc e
 same_width f (x ∷ xs) (y ∷ ys) [] P e h = absurd h
 same_width f (x ∷ xs) (y ∷ ys) (z ∷ zs) P e h = ap suc (same_width f xs ys zs P (head_some f x xs y ys e).1 h.1)
 
-length_map : {X Y : Type 0} (f : X → Y) (xs : List X) → length (map f xs) ≡ length xs
-length_map f [] = refl
-length_map f (x ∷ xs) = ap suc (length_map f xs)
+pub zip_length : {X Y : Type 0} (P : X → Y → Type 0) (xs : List X) (ys : List Y) → AllZip P xs ys → length xs ≡ length ys
+zip_length P [] [] h = refl
+zip_length P [] (y ∷ ys) h = absurd h
+zip_length P (x ∷ xs) [] h = absurd h
+zip_length P (x ∷ xs) (y ∷ ys) h = ap suc (zip_length P xs ys h.1)
 
-row_reads : (schema : Schema) (params : List Parameter) (part : Part) (ks : List Kind) (vs : List Value) → map (kind_of schema (kinds_of params) [] part.from) part.head ≡ map Some ks
-    → AllZip MayBeOfKind ks vs → AllByRecursion ValueSpells vs → row_under schema params part (map value_json vs) ≡ Ok vs
+row_reads : (schema : Schema) (params : List Parameter) (part : Part) (ks : List Kind) (ds : List Data) (vs : List Value)
+    → map (kind_of schema (kinds_of params) [] part.from) part.head ≡ map Some ks → AllZip MayBeOfKind ks vs → AllZip SaysValue ds vs → row_under schema params part ds ≡ Ok vs
 unfolding row_under
-row_reads schema params part ks vs e h s =
-    let wide : length (map value_json vs) ≡ length part.head = length_map value_json vs ∙ same_width _ part.head ks vs MayBeOfKind e h in
-    let test : (length (map value_json vs) == length part.head) ≡ true = eq-eqb _ _ wide in
-    rw (test, values_read schema params part 0 ks vs (kinds_there schema params part [] part.head 0 ks refl refl e) h s) refl
+row_reads schema params part ks ds vs e h s =
+    let wide : length ds ≡ length part.head = zip_length SaysValue ds vs s ∙ same_width _ part.head ks vs MayBeOfKind e h in
+    let test : (length ds == length part.head) ≡ true = eq-eqb _ _ wide in
+    rw (test, values_read schema params part 0 ks ds vs (kinds_there schema params part [] part.head 0 ks refl refl e) h s) refl
 
-pub first_part : (schema : Schema) (params : List Parameter) (q : Query) (vs : List Value) (parts : List Part) (ks : List Kind) → q.parts ≡ parts → parts ≢ []
-    → AllByRecursion (PartFits schema (kinds_of params) [] ks) parts → AllZip MayBeOfKind ks vs → AllByRecursion ValueSpells vs → row_of schema params q (map value_json vs) ≡ Ok vs
-first_part schema params q vs [] ks is some fits h s = absurd (some refl)
-first_part schema params q vs (part ∷ parts) ks is some fits h s = rw is (row_reads schema params part ks vs fits.0.head h s)
+pub first_part : (schema : Schema) (params : List Parameter) (q : Query) (ds : List Data) (vs : List Value) (parts : List Part) (ks : List Kind) → q.parts ≡ parts → parts ≢ []
+    → AllByRecursion (PartFits schema (kinds_of params) [] ks) parts → AllZip MayBeOfKind ks vs → AllZip SaysValue ds vs → row_of schema params q ds ≡ Ok vs
+first_part schema params q ds vs [] ks is some fits h s = absurd (some refl)
+first_part schema params q ds vs (part ∷ parts) ks is some fits h s = rw is (row_reads schema params part ks ds vs fits.0.head h s)
 
 -- ---- entries
 

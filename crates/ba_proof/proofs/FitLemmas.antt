@@ -1,11 +1,11 @@
 -- What is read fits: a context its parameters, a row its query.
-use Rattle.std.proofs.Common.{◌≡◌, ◌∙◌, ℕ, suc, ◌+◌, ◌≤◌, ◌==◌, inl, List, [], ◌∷◌, length, map, All, Bool, true, false, cond, nat_lt, Option, Some, None, option_map, refl, sym, ap, subst, arith, eqb-true}
-use Rattle.std.specs.Prelude.{Result, Ok, Err, option_and_then, slice_get, ⊤}
+use Rattle.std.proofs.Common.{◌≡◌, ◌∙◌, ℕ, suc, ◌+◌, ◌≤◌, ◌==◌, inl, inr, List, [], ◌∷◌, length, map, All, Bool, true, false, cond, nat_lt, Option, Some, None, option_map, refl, sym, ap, subst, arith, eqb-true}
+use Rattle.std.specs.Prelude.{Result, Ok, Err, is_some, option_and_then, slice_get, ⊤}
 use Rattle.std.proofs.lemmas.Bool.{ltb-false}
 use Rattle.std.specs.List.{AllByRecursion, AllZip}
 use Rattle.std.proofs.lemmas.List.Elements.{All-from_recursion, recursion_from_All}
 use Rattle.serde_json.specs.Data.{Data, Members}
-use Rattle.serde_json.specs.Find.{as_object}
+use Rattle.serde_json.specs.Find.{as_null, as_object}
 use Rattle.ba_model.specs.Conform.{IsOfKind}
 use Rattle.ba_model.specs.Fit.{ContextFits, IsQuery, PartFits, kind_of, kinds_of}
 use Rattle.ba_model.specs.Readings.{◌>>=◌, each}
@@ -22,6 +22,8 @@ use Rattle.ba_model.specs.declared.value.Value.{Value}
 use Rattle.ba_model.specs.declared.value.Value.TheVariants as value
 use Rattle.ba_comply.specs.declared.trace.TraceEntry.{TraceEntry}
 use Rattle.ba_kernel.specs.Asked.{MayBeOfKind, QuestionFits, RecordFits}
+use Rattle.ba_kernel.specs.Problems.{problem_of}
+use Rattle.ba_kernel.specs.declared.problem.Problem.{Problem}
 use Rattle.ba_kernel.specs.declared.step.Step.{Step}
 use Rattle.ba_script.specs.Contexts.{are_declared, context_of, context_with, given_for, of_kind, value_for, values_for, with_rest}
 use Rattle.ba_script.specs.Script.{given_members, given_of}
@@ -29,8 +31,8 @@ use Rattle.ba_script.specs.declared.line.Given.{Given}
 use Rattle.ba_script.specs.declared.line.Given.TheVariants as given
 use Rattle.ba_script.specs.declared.line.Member.{Member}
 use Rattle.ba_proof.proofs.EntryLemmas.{KindsFrom, kinds_there}
-use Rattle.ba_proof.specs.Checked.{IsPolicy}
-use Rattle.ba_proof.specs.Reading.{context_at, entry_with, few_at, head_kind, row_of, row_under, steps_at, too_many, value_at, values_from}
+use Rattle.ba_proof.specs.Checked.{IsAsked, IsPolicy}
+use Rattle.ba_proof.specs.Reading.{context_at, entry_with, few_at, head_kind, row_of, row_under, row_value, steps_at, too_many, value_at, values_from}
 use Rattle.ba_proof.specs.Steps.{step_at}
 use Rattle.ba_proof.specs.Shapes.{as_list, or_bad}
 use Rattle.ba_proof.specs.declared.fault.ProofFault.{ProofFault}
@@ -76,7 +78,7 @@ context_is : (params : List Parameter) (members : List Member) (c : Context) →
 unfolding context_of
 context_is params members c e = values_of_kind members params c.values (declared_values (are_declared params members) (values_for members params) c e)
 
-good : {A : Type 0} (f : ProofField) (o : Option A) (x : A) → or_bad f o ≡ Ok x → o ≡ Some x
+pub good : {A : Type 0} (f : ProofField) (o : Option A) (x : A) → or_bad f o ≡ Ok x → o ≡ Some x
 good f None x e = cc e
 good f (Some y) x e = ap Some (cc e)
 
@@ -90,13 +92,20 @@ context_fits params found c e = object_is params (option_and_then as_object foun
 
 -- ---- rows
 
-bound : {A B F : Type 0} (r : Result A F) (f : A → Result B F) (y : B) → (r >>= f) ≡ Ok y → (x : A) × (r ≡ Ok x) × (f x ≡ Ok y)
+pub bound : {A B F : Type 0} (r : Result A F) (f : A → Result B F) (y : B) → (r >>= f) ≡ Ok y → (x : A) × (r ≡ Ok x) × (f x ≡ Ok y)
 bound (Ok x) f y e = (x, refl, e)
 bound (Err r) f y e = cc e
 
-of_head : (k : Kind) (o : Option Kind) (g : Given) (v : Value) (f : ProofField) → o ≡ Some k → or_bad f (option_and_then (λ kind. of_kind kind g) o) ≡ Ok v → IsOfKind k v
-of_head k None g v f is e = cc is
-of_head k (Some j) g v f is e = let same : j ≡ k = cc is in subst (λ (it : Kind). IsOfKind it v) same (kind_fits j g v (good f (of_kind j g) v e))
+row_value_fits : (k : Kind) (d : Data) (v : Value) → row_value k d ≡ Some v → MayBeOfKind k v
+row_value_fits k d v e = by (is_some (as_null d)) e
+  where
+    by : (b : Bool) → cond b (Some value.Null) (of_kind k (given_of d)) ≡ Some v → MayBeOfKind k v
+    by true h = inr (cc h)
+    by false h = inl (kind_fits k (given_of d) v h)
+
+of_head : (k : Kind) (o : Option Kind) (d : Data) (v : Value) (f : ProofField) → o ≡ Some k → or_bad f (option_and_then (λ kind. row_value kind d) o) ≡ Ok v → MayBeOfKind k v
+of_head k None d v f is e = cc is
+of_head k (Some j) d v f is e = let same : j ≡ k = cc is in subst (λ (it : Kind). MayBeOfKind it v) same (row_value_fits j d v (good f (row_value j d) v e))
 
 values_fit : (schema : Schema) (params : List Parameter) (part : Part) (place : ℕ) (ks : List Kind) (ds : List Data) (vs : List Value) → KindsFrom schema params part place ks
     → length ds ≡ length ks → values_from schema params part place ds ≡ Ok vs → AllZip MayBeOfKind ks vs
@@ -109,7 +118,7 @@ values_fit schema params part place (k ∷ ks) (d ∷ ds) vs at wide e =
     let rest = bound (values_from schema params part (place + 1) ds) (λ ws. Ok (first.0 ∷ ws)) vs first.2 in
     let all : first.0 ∷ rest.0 ≡ vs = cc rest.2 in
     subst (AllZip MayBeOfKind (k ∷ ks)) all
-    (inl (of_head k (head_kind schema params part place) (given_of d) first.0 _ at.0 first.1), values_fit schema params part (place + 1) ks ds rest.0 at.1 (omega (arith, wide)) rest.1)
+    (of_head k (head_kind schema params part place) d first.0 _ at.0 first.1, values_fit schema params part (place + 1) ks ds rest.0 at.1 (omega (arith, wide)) rest.1)
 
 same_length : {X Y : Type 0} (f : X → Option Y) (xs : List X) (ys : List Y) → map f xs ≡ map Some ys → length xs ≡ length ys
 same_length f [] [] e = refl
@@ -117,7 +126,7 @@ same_length f [] (y ∷ ys) e = cc e
 same_length f (x ∷ xs) [] e = cc e
 same_length f (x ∷ xs) (y ∷ ys) e = let rest : map f xs ≡ map Some ys = cc e in ap suc (same_length f xs ys rest)
 
-wide_enough : {A F : Type 0} (b : Bool) (r : Result A F) (e : F) (x : A) → cond b r (Err e) ≡ Ok x → (b ≡ true) × (r ≡ Ok x)
+pub wide_enough : {A F : Type 0} (b : Bool) (r : Result A F) (e : F) (x : A) → cond b r (Err e) ≡ Ok x → (b ≡ true) × (r ≡ Ok x)
 wide_enough true r e x h = (refl, h)
 wide_enough false r e x h = cc h
 
@@ -192,3 +201,15 @@ read_question_fits policy one two three params found c trace q goal e f g same c
     let rows : All (RecordFits policy) trace = subst (λ (it : Policy). All (RecordFits it) trace) f recorded in
     let query : IsQuery policy.schema (kinds_of policy.params) [] q = subst (λ (it : Policy). IsQuery it.schema (kinds_of it.params) [] q) g asked in
     subst (λ (it : Query). QuestionFits policy c trace it) (sym is_q) (question_fits policy found c trace q is read rows query)
+
+-- and so the problem that is made of it is one of a question
+pub read_question_asked : (policy one two three : Policy) (params : List Parameter) (found : Option Data) (c : Context) (trace : List TraceEntry) (q goal : Query) (p : Problem) → one ≡ policy → two ≡ policy
+    → three ≡ policy → params ≡ one.params → context_at params found ≡ Ok c → All (RecordFits two) trace → IsQuery three.schema (kinds_of three.params) [] q → goal ≡ q
+    → p ≡ problem_of policy c trace goal → IsPolicy policy → IsAsked policy p
+read_question_asked policy one two three params found c trace q goal p e f g same context recorded asked is_q made is = record {
+  context = c;
+  trace = trace;
+  query = goal;
+  fits = read_question_fits policy one two three params found c trace q goal e f g same context recorded asked is_q is;
+  is = made;
+}

@@ -11,3 +11,9 @@ pub mod JsonLemmas
 pub mod WriteLemmas
 pub mod ReadLemmas
 pub mod ReadBackLemmas
+pub mod SaidLemmas
+pub mod TermSaid
+pub mod StepSaid
+pub mod QueryLemmas
+pub mod EntrySaid
+pub mod FileSaid

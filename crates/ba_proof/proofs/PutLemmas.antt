@@ -11,7 +11,7 @@ use Rattle.ba_script.specs.Script.{given_members, given_of}
 use Rattle.ba_script.specs.declared.line.Given.{Given}
 use Rattle.ba_script.specs.declared.line.Member.{Member}
 
-same_text : (a b : List ℕ) → bytes_eq a b ≡ true → a ≡ b
+pub same_text : (a b : List ℕ) → bytes_eq a b ≡ true → a ≡ b
 same_text a b e = (bytes_eq-Decides a b).0 e
 
 pub text_itself : (a : List ℕ) → bytes_eq a a ≡ true

@@ -28,7 +28,7 @@ use Rattle.ba_sql_print.specs.Printed.{query_text}
 use Rattle.ba_sql_print.specs.ReadBack.{IsPrintable, PrintedQueryReadsBack}
 use Rattle.ba_sql_query.specs.Texts.{query_of}
 use Rattle.ba_proof.proofs.ContextLemmas.{context_reads}
-use Rattle.ba_proof.proofs.EntryLemmas.{as_entry, entry_reads, first_part}
+use Rattle.ba_proof.proofs.EntryLemmas.{all_say, as_entry, entry_reads, first_part}
 use Rattle.ba_proof.proofs.JsonLemmas.{proof_shallow, proof_whole}
 use Rattle.ba_proof.proofs.ReadLemmas.{text_reads}
 use Rattle.ba_proof.proofs.ShapeLemmas.{items_are}
@@ -36,7 +36,7 @@ use Rattle.ba_proof.proofs.StepLemmas.{HasVersion, all_steps}
 use Rattle.ba_proof.specs.ReadBack.{IsWritable, ReadsBack, RecordSpells, StepSpells, ValueSpells}
 use Rattle.ba_proof.specs.Reading.{context_at, entries_at, entry_at, entry_with, few_at, fields_of, goal_at, is_key, keys_at, proof_at, proof_with, question_at, steps_at, version_at}
 use Rattle.ba_proof.specs.Steps.{step_at}
-use Rattle.ba_proof.specs.Written.{count, entry_json, is_rule, list_json, proof_json, proof_text, step_json, version_of}
+use Rattle.ba_proof.specs.Written.{count, entry_json, is_rule, list_json, proof_json, proof_text, step_json, value_json, version_of}
 use Rattle.ba_proof.specs.declared.version.TheConstants.{LAST_VERSION, RULE_VERSION}
 
 -- ---- lists
@@ -88,7 +88,7 @@ module _ (policy : Policy) (prints : PrintedQueryReadsBack) where
       → each (entry_at policy.schema policy.params) (map (entry_json policy.schema policy.params) (map (as_entry q) rows)) ≡ Ok (map (entry_with q) rows)
   rows_read q [] fits prints_it kinds spells = refl
   rows_read q (row ∷ rows) fits prints_it kinds spells =
-      let values = first_part policy.schema policy.params q row q.parts fits.fits.kinds refl fits.fits.some_part (recursion_from_All (PartFits policy.schema (kinds_of policy.params) [] fits.fits.kinds) q.parts fits.fits.parts) kinds.0 (recursion_from_All ValueSpells row spells.0) in
+      let values = first_part policy.schema policy.params q (map value_json row) row q.parts fits.fits.kinds refl fits.fits.some_part (recursion_from_All (PartFits policy.schema (kinds_of policy.params) [] fits.fits.kinds) q.parts fits.fits.parts) kinds.0 (all_say row (recursion_from_All ValueSpells row spells.0)) in
       rw (entry_reads policy.schema policy.params q row (prints policy.schema policy.params q prints_it) values, rows_read q rows fits prints_it kinds.1 spells.1) refl
 
   trace_reads : (trace : List TraceEntry) → AllByRecursion (RecordFits policy) trace → AllByRecursion (RecordSpells policy) trace
@@ -132,13 +132,13 @@ version_reads all most = by (list_any is_rule all) most
 
 -- ---- the fields
 
-fields_read : (policy : Policy) (d : Data) (ms : Members) (problem : Problem) (all : List Step) (v : ℕ) → few_at (get (codes "steps") d) ≡ Ok tt
+pub fields_read : (policy : Policy) (d : Data) (ms : Members) (problem : Problem) (all : List Step) (v : ℕ) → few_at (get (codes "steps") d) ≡ Ok tt
     → version_at (get (codes "version") d) ≡ Ok v → question_at policy d ≡ Ok problem → steps_at policy.params v (get (codes "steps") d) ≡ Ok all → keys_at ms ≡ Ok tt
     → fields_of policy d ms ≡ Ok (proof_with problem all)
 unfolding fields_of
 fields_read policy d ms problem all v few version question steps keys = rw (few, version, question, steps, keys) refl
 
-question_reads : (policy : Policy) (d : Data) (c : Context) (trace : List TraceEntry) (q : Query) → context_at policy.params (get (codes "context") d) ≡ Ok c
+pub question_reads : (policy : Policy) (d : Data) (c : Context) (trace : List TraceEntry) (q : Query) → context_at policy.params (get (codes "context") d) ≡ Ok c
     → entries_at policy.schema policy.params (get (codes "entries") d) ≡ Ok trace → goal_at policy.schema policy.params (get (codes "goal") d) ≡ Ok q
     → question_at policy d ≡ Ok (problem_of policy c trace q)
 unfolding question_at

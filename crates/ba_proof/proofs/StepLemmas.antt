@@ -1,5 +1,5 @@
 -- Steps that were written read back.
-use Rattle.std.proofs.Common.{◌≡◌, ◌∙◌, ℕ, zero, suc, ◌<◌, List, [], ◌∷◌, length, map, All, Bool, true, false, cond, Some, None, refl, sym, ap, arith, nat_lt, nat_le, ◌^◌, pos, negsuc}
+use Rattle.std.proofs.Common.{◌≡◌, ◌≢◌, ◌∙◌, ℕ, zero, suc, ◌<◌, List, [], ◌∷◌, length, map, All, Bool, true, false, cond, Some, None, refl, sym, ap, arith, nat_lt, nat_le, ◌^◌, pos, negsuc}
 use Rattle.std.specs.Prelude.{Ok, slice_get}
 use Rattle.std.specs.List.{AllByRecursion}
 use Rattle.std.specs.Str.{bytes_eq}
@@ -15,17 +15,19 @@ use Rattle.std.proofs.lemmas.Bool.{lt-ltb}
 use Rattle.ba_model.specs.SchemaFaults.{AreDistinct}
 use Rattle.ba_model.specs.declared.query.Op.{Op}
 use Rattle.ba_model.specs.declared.query.Op.TheVariants.{Eq, Ne, Lt, Le, IsNull, NotNull}
+use Rattle.ba_model.specs.declared.schema.Kind.{Kind}
 use Rattle.ba_model.specs.declared.value.Value.TheVariants as value
+use Rattle.ba_facts.specs.Laws.{kind_of_term}
+use Rattle.ba_facts.specs.declared.branch.Branch.{Branch}
 use Rattle.ba_facts.specs.declared.term.Term.{Term}
 use Rattle.ba_facts.specs.declared.term.Term.TheVariants as term
 use Rattle.ba_facts.specs.declared.term.TermAtom.{TermAtom}
 use Rattle.ba_script.specs.Script.{given_from}
 use Rattle.ba_sql_print.specs.Printed.{param_name}
-use Rattle.ba_sql_print.specs.ReadBack.{IsComparison}
 use Rattle.ba_proof.proofs.ContextLemmas.{name_there}
 use Rattle.ba_proof.proofs.PutLemmas.{text_itself}
 use Rattle.ba_proof.proofs.ShapeLemmas.{items_are}
-use Rattle.ba_proof.specs.ReadBack.{AtomSpells, IsShort, StepSpells, TermSpells}
+use Rattle.ba_proof.specs.ReadBack.{AtomSpells, IsShort, NullIsNoTerm, StepSpells, TermSpells}
 use Rattle.ba_proof.specs.Shapes.{as_short}
 use Rattle.ba_proof.specs.Steps.{atom_at, marked_of, named_of, number_at, numbers_at, op_of, param_of, step_at, term_at, term_given}
 use Rattle.ba_proof.specs.Written.{atom_json, count, is_rule, list_json, op_name, step_json, term_json}
@@ -87,25 +89,35 @@ int_term params n false d e = cc e
 term_reads : (params : List Parameter) (t : Term) → AreDistinct (map (λ q. q.name) params) → TermSpells params t → term_at params (term_json params t) ≡ Ok t
 unfolding term_at marked_of
 term_reads params (term.Unknown n) apart h = rw (number_reads n h) refl
-term_reads params (term.Val value.Null) apart h = absurd h
-term_reads params (term.Val (value.Int (pos n))) apart h = int_term params n (nat_lt n (2 ^ 63)) _ h
+term_reads params (term.Val value.Null) apart h = absurd (h.0 refl)
+term_reads params (term.Val (value.Int (pos n))) apart h = int_term params n (nat_lt n (2 ^ 63)) _ h.1
 term_reads params (term.Val (value.Int (negsuc n))) apart h = refl
 term_reads params (term.Val (value.Text s)) apart h = refl
 term_reads params (term.Param n) apart h = param_reads params n apart h.0 h.1
 term_reads params (term.Var n) apart h = absurd h
 
-op_reads : (op : Op) → IsComparison op → op_of (op_name op) ≡ Ok op
+pub op_reads : (op : Op) → op_of (op_name op) ≡ Ok op
 unfolding op_of
-op_reads Eq h = refl
-op_reads Ne h = refl
-op_reads Lt h = refl
-op_reads Le h = refl
-op_reads IsNull h = absurd h
-op_reads NotNull h = absurd h
+op_reads Eq = refl
+op_reads Ne = refl
+op_reads Lt = refl
+op_reads Le = refl
+op_reads IsNull = refl
+op_reads NotNull = refl
 
 atom_reads : (params : List Parameter) (atom : TermAtom) → AreDistinct (map (λ q. q.name) params) → AtomSpells params atom → atom_at params (atom_json params atom) ≡ Ok atom
 unfolding atom_json
-atom_reads params atom apart h = rw (op_reads atom.op h.op, term_reads params atom.left apart h.left, term_reads params atom.right apart h.right) refl
+atom_reads params atom apart h = rw (op_reads atom.op, term_reads params atom.left apart h.left, term_reads params atom.right apart h.right) refl
+
+-- ---- NULL
+
+no_null : (b : Branch) (t : Term) (kind : Kind) → kind_of_term b t ≡ Some kind → t ≢ term.Val value.Null
+no_null b t kind e same = cc (sym (ap (kind_of_term b) same) ∙ e)
+
+pub null_no_term : NullIsNoTerm
+null_no_term p old new branch atom takes =
+    let passes = takes.leads.passes in
+    (no_null takes.branch atom.left passes.kind passes.sides.left, no_null takes.branch atom.right passes.kind passes.sides.right)
 
 -- ---- steps
 

@@ -10,6 +10,7 @@ use Rattle.ba_model.specs.declared.query.Query.{Query}
 use Rattle.ba_comply.specs.Comply.{Strong}
 use Rattle.ba_comply.specs.declared.trace.TraceEntry.{TraceEntry}
 use Rattle.ba_model.specs.RuleFaults.{RuleFits}
+use Rattle.ba_kernel.specs.Asked.{QuestionFits}
 use Rattle.ba_kernel.specs.Courses.{Runs, Slots}
 use Rattle.ba_kernel.specs.Problems.{problem_of}
 use Rattle.ba_kernel.specs.Replays.{Closes, MayWantMemory, RefusesAt}
@@ -46,6 +47,18 @@ Checks p steps (Err (Fault fault)) = HasFault p steps fault
 abbrev pub IsStrongQuestion : Problem → Type 0
 IsStrongQuestion p = (policy : Policy) (c : Context) (trace : List TraceEntry) (q : Query) → ContextFits (kinds_of policy.params) c →
     p ≡ problem_of policy c trace q → Strong policy c trace q
+
+-- it is the problem of a question: of a context, recorded rows and a query that fit the policy
+pub record IsAsked (policy : Policy) (p : Problem) : Type 0 where
+  pub context : Context
+  pub trace : List TraceEntry
+  pub query : Query
+  pub fits : QuestionFits policy context trace query
+  pub is : p ≡ problem_of policy context trace query
+
+-- and where a check accepts a proof of it, that question is strongly compliant
+abbrev pub AcceptedIsStrong : Type 0
+AcceptedIsStrong = (policy : Policy) (p : Problem) (asked : IsAsked policy p) → IsStrongQuestion p → Strong policy asked.context asked.trace asked.query
 
 -- a policy as its reader ensures: its schema's tables, rules and views are checked
 pub record IsPolicy (policy : Policy) : Type 0 where

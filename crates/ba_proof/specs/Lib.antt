@@ -4,3 +4,4 @@ pub mod Reading
 pub mod Written
 pub mod Checked
 pub mod ReadBack
+pub mod Says

@@ -1,5 +1,5 @@
 -- A written proof file reads back as what was written.
-use Rattle.std.specs.Prelude.{◌≡◌, ℕ, ◌<◌, ◌≤◌, ◌^◌, IsTrue, List, All, length, Ok}
+use Rattle.std.specs.Prelude.{◌≡◌, ◌≢◌, ℕ, ◌<◌, ◌≤◌, ◌^◌, IsTrue, List, All, length, Ok}
 use Rattle.ba_lex.specs.Spelling.{fits}
 use Rattle.ba_model.specs.Limits.{most_steps}
 use Rattle.ba_model.specs.declared.policy.Context.{Context}
@@ -13,18 +13,19 @@ use Rattle.ba_facts.specs.declared.term.Term.{Term}
 use Rattle.ba_facts.specs.declared.term.Term.TheVariants as term
 use Rattle.ba_facts.specs.declared.term.TermAtom.{TermAtom}
 use Rattle.ba_kernel.specs.Asked.{QuestionFits}
+use Rattle.ba_kernel.specs.Courses.{Slots, Takes}
 use Rattle.ba_kernel.specs.Problems.{problem_of}
 use Rattle.ba_kernel.specs.declared.problem.Problem.{Problem}
 use Rattle.ba_kernel.specs.declared.step.Step.{Step}
 use Rattle.ba_kernel.specs.declared.step.Step.TheVariants as steps
-use Rattle.ba_sql_print.specs.ReadBack.{IsComparison, IsPrintable}
+use Rattle.ba_sql_print.specs.ReadBack.{IsPrintable}
 use Rattle.ba_proof.specs.Reading.{proof_of}
 use Rattle.ba_proof.specs.Written.{version_of}
 use Rattle.ba_proof.specs.declared.version.TheConstants.{LAST_VERSION}
 
--- a whole number has 64 bits; NULL isn't read
+-- a whole number has 64 bits
 abbrev pub ValueSpells : Value → Type 0
-ValueSpells Null = ⊥
+ValueSpells Null = Unit {0}
 ValueSpells (Int n) = IsTrue (fits n)
 ValueSpells (Text s) = Unit {0}
 
@@ -32,15 +33,19 @@ ValueSpells (Text s) = Unit {0}
 abbrev pub IsShort : ℕ → Type 0
 IsShort n = n < 2 ^ 32
 
--- no variable, and only parameters of the policy
+-- no variable, not NULL, and only parameters of the policy
 abbrev pub TermSpells : List Parameter → Term → Type 0
 TermSpells params (term.Unknown n) = IsShort n
-TermSpells params (term.Val v) = ValueSpells v
+TermSpells params (term.Val v) = (v ≢ Null) × ValueSpells v
 TermSpells params (term.Param n) = (n < length params) × IsShort n
 TermSpells params (term.Var n) = ⊥
 
+-- a step that is accepted has no NULL among its terms
+abbrev pub NullIsNoTerm : Type 0
+NullIsNoTerm = (p : Problem) (old new : Slots) (branch : ℕ) (atom : TermAtom) → Takes p old (steps.Split branch atom) new → (atom.left ≢ term.Val Null) × (atom.right ≢ term.Val Null)
+
+-- of a comparison, or of IS NULL or IS NOT NULL
 pub record AtomSpells (params : List Parameter) (atom : TermAtom) : Type 0 where
-  pub op : IsComparison atom.op
   pub left : TermSpells params atom.left
   pub right : TermSpells params atom.right
 
@@ -59,8 +64,8 @@ pub record RecordSpells (policy : Policy) (it : TraceEntry) : Type 0 where
   pub query : IsPrintable policy.schema policy.params it.query
   pub rows : All (All ValueSpells) it.rows
 
--- A question and steps that can be written and read: its queries can be printed, its numbers have their bits, there is no NULL, and the version is one that
--- is read.
+-- A question and steps that can be written and read: its queries can be printed, its numbers have their bits, the steps' terms are spelled, and the version is
+-- one that is read. Rows may hold NULL.
 pub record IsWritable (policy : Policy) (c : Context) (trace : List TraceEntry) (q : Query) (all : List Step) : Type 0 where
   pub fits : QuestionFits policy c trace q
   pub context : All ValueSpells c.values

@@ -1,8 +1,8 @@
 -- What a proof file is, over the reading of its bytes as JSON: fields are tested one after another.
-use Rattle.std.specs.Prelude.{ℕ, ◌+◌, ◌&&◌, ◌||◌, ◌==◌, Bool, true, false, List, [], ◌∷◌, codes, length, nat_le, nat_lt, Option, Some, None, option_and_then, slice_get, Result, Ok, Err, ⊤, if◌then◌else◌}
+use Rattle.std.specs.Prelude.{ℕ, ◌+◌, ◌&&◌, ◌||◌, ◌==◌, Bool, true, false, List, [], ◌∷◌, codes, length, nat_le, nat_lt, Option, Some, None, is_some, option_and_then, slice_get, Result, Ok, Err, ⊤, if◌then◌else◌}
 use Rattle.std.specs.Str.{bytes_eq, is_utf8}
 use Rattle.serde_json.specs.Data.{Data, Members, no_members, member}
-use Rattle.serde_json.specs.Find.{as_object, get}
+use Rattle.serde_json.specs.Find.{as_null, as_object, get}
 use Rattle.serde_json.specs.Read.{read}
 use Rattle.ba_model.specs.Fit.{kind_of, kinds_of}
 use Rattle.ba_model.specs.Readings.{◌>>=◌, each, widened}
@@ -15,6 +15,7 @@ use Rattle.ba_model.specs.declared.query.Query.{Query}
 use Rattle.ba_model.specs.declared.schema.Kind.{Kind}
 use Rattle.ba_model.specs.declared.schema.Schema.{Schema}
 use Rattle.ba_model.specs.declared.value.Value.{Value}
+use Rattle.ba_model.specs.declared.value.Value.TheVariants.{Null}
 use Rattle.ba_comply.specs.declared.trace.TraceEntry.{TraceEntry}
 use Rattle.ba_kernel.specs.Problems.{problem_of}
 use Rattle.ba_kernel.specs.declared.problem.Problem.{Problem}
@@ -54,16 +55,20 @@ query_at it schema params d = text_at it d >>= λ text. widened (λ (fault : Rea
 unfoldable pub goal_at : Schema → List Parameter → Option Data → Result Query ProofFault
 goal_at schema params found = or_bad field.Goal found >>= query_at field.Goal schema params
 
--- ---- entries: a query and a row of its width and kinds
+-- ---- entries: a query and a row of its width and kinds, which may hold NULL
 
 -- the kind of the head's operand at a place
 abbrev pub head_kind : Schema → List Parameter → Part → ℕ → Option Kind
 head_kind schema params part place = option_and_then (kind_of schema (kinds_of params) [] part.from) (slice_get part.head place)
 
--- the value at a place of a row, of the kind of the head's operand there
+-- NULL of null, else the value of the kind that is given, if it is one
+abbrev pub row_value : Kind → Data → Option Value
+row_value kind d = if is_some (as_null d) then Some Null else of_kind kind (given_of d)
+
+-- the value at a place of a row: NULL, or of the kind of the head's operand there
 unfoldable pub value_at : Schema → List Parameter → Part → ℕ → Data → Result Value ProofFault
 value_at schema params part place d =
-    or_bad field.Entries (option_and_then (λ kind. of_kind kind (given_of d)) (head_kind schema params part place))
+    or_bad field.Entries (option_and_then (λ kind. row_value kind d) (head_kind schema params part place))
 
 -- those from a place on
 abbrev pub values_from : Schema → List Parameter → Part → ℕ → List Data → Result (List Value) ProofFault

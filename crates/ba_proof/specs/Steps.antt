@@ -6,7 +6,7 @@ use Rattle.serde_json.specs.Data.{Data}
 use Rattle.ba_model.specs.Readings.{◌>>=◌, each}
 use Rattle.ba_model.specs.declared.policy.Parameter.{Parameter}
 use Rattle.ba_model.specs.declared.query.Op.{Op}
-use Rattle.ba_model.specs.declared.query.Op.TheVariants.{Eq, Ne, Lt, Le}
+use Rattle.ba_model.specs.declared.query.Op.TheVariants.{Eq, Ne, Lt, Le, IsNull, NotNull}
 use Rattle.ba_model.specs.declared.value.Value.TheVariants as value
 use Rattle.ba_facts.specs.declared.term.Term.{Term}
 use Rattle.ba_facts.specs.declared.term.Term.TheVariants.{Unknown, Val, Param}
@@ -54,7 +54,7 @@ term_given params (given.Int n) d = Ok (Val (value.Int n))
 term_given params (given.Text s) d = Ok (Val (value.Text s))
 term_given params given.Other d = list_at Steps d >>= pair_of params
 
--- a whole number, a text, an unknown or a parameter
+-- a whole number, a text, an unknown or a parameter; NULL is no term
 unfoldable pub term_at : List Parameter → Data → Result Term ProofFault
 term_at params d = term_given params (given_of d) d
 
@@ -64,7 +64,9 @@ op_of s =
     else (if bytes_eq s (codes "<>") then Ok Ne
     else (if bytes_eq s (codes "<") then Ok Lt
     else (if bytes_eq s (codes "<=") then Ok Le
-    else bad Steps)))
+    else (if bytes_eq s (codes "is null") then Ok IsNull
+    else (if bytes_eq s (codes "is not null") then Ok NotNull
+    else bad Steps)))))
 
 abbrev pub atom_with : Op → Term → Term → TermAtom
 atom_with op left right = record { op = op; left = left; right = right }

@@ -23,7 +23,7 @@ pub enum CheckFault {
 
 /// The proof, if it is one: each step is accepted, one after another from the start of the problem,
 /// and in the end no branch is open. Then the problem's question is strongly compliant under its
-/// context and after its rows.
+/// context and after its rows; what [`crate::read_proof`] gives has one.
 ///
 /// Else `NotShown` tells the first step that isn't accepted and the first of its tests that fails,
 /// or `StillOpen` that all are accepted and how many branches are open. Nothing is searched for:

@@ -4,7 +4,7 @@ ghost use Rattle.serde_json.specs.View.{view, members_view};
 ghost use Rattle.ba_model.specs.Fit.{IsQuery, kinds_of};
 ghost use Rattle.ba_model.specs.Readings.{Gives, each};
 ghost use Rattle.ba_kernel.specs.Asked.{RecordFits};
-ghost use Rattle.ba_proof.specs.Reading.{entries_at, entry_at, entry_form, entry_of, entry_with, head_kind, query_at, row_of, row_under, value_at, values_from};
+ghost use Rattle.ba_proof.specs.Reading.{entries_at, entry_at, entry_form, entry_of, entry_with, head_kind, query_at, row_of, row_under, row_value, value_at, values_from};
 
 use crate::fault::{ProofFault, ProofField, bad};
 use crate::shapes::{as_list, list_at, text_at};
@@ -13,7 +13,7 @@ use ba_model::{Failure, Kind, List, Part, Policy, Query, Row, Shared, Value, ope
 use ba_script::{given_value, of_kind};
 use ba_sql_query::read_query;
 use serde_json::{Map, Value as Json};
-use std::alloc::Global;
+use std::alloc::{AllocError, Global};
 
 /// The query that a text is.
 pub(crate) fn query_at(
@@ -51,6 +51,17 @@ fn head_kind(policy: &Policy, part: &Part, place: usize) -> Option<Kind>
     }
 }
 
+/// A row's value where its query's head has the kind: NULL, or one of that kind, if it is one.
+fn row_value(alloc: Global, kind: Kind, item: &Json) -> Result<Option<Value>, AllocError>
+    ensures { IfOk result (λ value. value ≡ row_value kind (view item.now)) }
+{
+    if item.is_null() {
+        return Ok(Some(Value::Null));
+    }
+    let given = given_value(alloc, item)?;
+    of_kind(alloc, kind, &given)
+}
+
 #[tactic(auto, unfolding(crate::specs::Reading::value_at))]
 fn value_at(
     alloc: Global,
@@ -65,8 +76,7 @@ fn value_at(
     let Some(kind) = head_kind(policy, part, place) else {
         return bad(ProofField::Entries);
     };
-    let given = given_value(alloc, item)?;
-    let value = of_kind(alloc, kind, &given)?;
+    let value = row_value(alloc, kind, item)?;
     match value {
         Some(value) => Ok(value),
         None => bad(ProofField::Entries),

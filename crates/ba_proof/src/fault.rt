@@ -11,7 +11,7 @@ pub enum ProofField {
     Version,
     /// A value of its kind for each parameter of the policy, and no other name.
     Context,
-    /// Queries, each with a row of its width and kinds.
+    /// Queries, each with a row of its width and kinds, which may hold NULL.
     Entries,
     /// The question.
     Goal,

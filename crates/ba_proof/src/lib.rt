@@ -9,6 +9,7 @@ mod checking;
 mod entries;
 mod fault;
 mod fields;
+pub mod laws;
 mod proof;
 mod read;
 mod shapes;

@@ -7,7 +7,7 @@ ghost use Rattle.ba_model.specs.SchemaFaults.{AreTables};
 ghost use Rattle.ba_model.specs.Limits.{most_steps};
 ghost use Rattle.ba_model.specs.RuleFaults.{RuleFits};
 ghost use Rattle.ba_kernel.specs.Courses.{ProblemFits};
-ghost use Rattle.ba_proof.specs.Checked.{IsPolicy};
+ghost use Rattle.ba_proof.specs.Checked.{IsAsked, IsPolicy};
 ghost use Rattle.ba_proof.specs.Reading.{fields_of, proof_at, proof_of, question_at};
 
 use crate::entries::entries_at;
@@ -27,6 +27,7 @@ fn question_at(
 ) -> Result<Problem, Failure<ProofFault>>
     ensures exact { Gives result (question_at policy.now (view value.now)) }
     ensures fits { IsPolicy policy.now → IfOk result ProblemFits }
+    ensures asked { IsPolicy policy.now → IfOk result (IsAsked policy.now) }
     ensures vars { IfOk result (λ problem. problem.vars ≡ []) }
 {
     let context = context_at(alloc, policy.params.as_slice(), value.get("context"))?;
@@ -47,6 +48,7 @@ fn fields_of(
     ensures exact { Gives result
         (fields_of policy.now (view value.now) (members_view members.now.entries)) }
     ensures fits { IsPolicy policy.now → IfOk result (λ proof. ProblemFits proof.problem) }
+    ensures asked { IsPolicy policy.now → IfOk result (λ proof. IsAsked policy.now proof.problem) }
     ensures vars { IfOk result (λ proof. proof.problem.vars ≡ []) }
     ensures few { IfOk result (λ proof. length proof.steps ≤ most_steps) }
 {
@@ -65,6 +67,7 @@ fn proof_at(
 ) -> Result<Proof, Failure<ProofFault>>
     ensures exact { Gives result (proof_at policy.now (view value.now)) }
     ensures fits { IsPolicy policy.now → IfOk result (λ proof. ProblemFits proof.problem) }
+    ensures asked { IsPolicy policy.now → IfOk result (λ proof. IsAsked policy.now proof.problem) }
     ensures vars { IfOk result (λ proof. proof.problem.vars ≡ []) }
     ensures few { IfOk result (λ proof. length proof.steps ≤ most_steps) }
 {
@@ -74,16 +77,20 @@ fn proof_at(
     }
 }
 
-/// The proof that a file is, for a policy: the problem of its question, after its rows, under its context, and its steps.
+/// The proof that a file is, for a policy: the problem of its question, after its rows, under its
+/// context, and its steps.
 ///
-/// The file is one JSON object with exactly the keys `context`, `entries`, `goal`, `steps` and `version`, as the format's description says.
-/// An object's key that comes twice has its last value.
+/// The file is one JSON object with exactly the keys `context`, `entries`, `goal`, `steps` and
+/// `version`, as the format's description says. An object's key that comes twice has its last
+/// value. A row may hold `null`, which is NULL; a context and a step's terms may not.
 ///
-/// Faults, of which the first of this order is told: `BadJson`; `TooLong`, where there are more steps than [`ba_model::MAX_STEPS`];
-/// `BadField` with the first field of [`ProofField`]'s order that isn't there or isn't what it has to be. A parameter that the policy lacks
-/// is a bad field where it stands. `NoMemory` leaves nothing behind.
+/// Faults, of which the first of this order is told: `BadJson`; `TooLong`, where there are more
+/// steps than [`ba_model::MAX_STEPS`]; `BadField` with the first field of [`ProofField`]'s order
+/// that isn't there or isn't what it has to be. A parameter that the policy lacks is a bad field
+/// where it stands. `NoMemory` leaves nothing behind.
 ///
-/// Nothing is said of the steps but that they are steps: [`crate::check`] takes them.
+/// Nothing is said of the steps but that they are steps: [`crate::check`] takes them. What a file
+/// says, apart from how it is read, is a relation ([`crate::laws::proof_is_exact`]).
 #[tactic(auto, unfolding(crate::specs::Reading::proof_of))]
 pub fn read_proof(
     alloc: Global,
@@ -93,6 +100,8 @@ pub fn read_proof(
     ensures exact { Gives result (proof_of policy.now bytes.now) }
     // What is read can be checked, where the policy is one that was read.
     ensures fits { IsPolicy policy.now → IfOk result (λ proof. ProblemFits proof.problem) }
+    // And it is about a question: one that fits the policy, of which its problem is.
+    ensures asked { IsPolicy policy.now → IfOk result (λ proof. IsAsked policy.now proof.problem) }
     ensures vars { IfOk result (λ proof. proof.problem.vars ≡ []) }
     ensures few { IfOk result (λ proof. length proof.steps ≤ most_steps) }
 {

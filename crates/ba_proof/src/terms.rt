@@ -104,6 +104,7 @@ fn pair_of(params: &[Parameter], items: &[Json]) -> Result<Term, Failure<ProofFa
     marked_of(params, it, value)
 }
 
+/// A whole number, a text, an unknown or a parameter. NULL is no term.
 #[tactic(auto, unfolding(crate::specs::Steps::term_at))]
 fn term_at(alloc: Global, params: &[Parameter], value: &Json) -> Result<Term, Failure<ProofFault>>
     ensures { Gives result (term_at params.now (view value.now)) }
@@ -131,6 +132,10 @@ fn op_of(name: &str) -> Result<Op, Failure<ProofFault>>
         Ok(Op::Lt)
     } else if name == "<=" {
         Ok(Op::Le)
+    } else if name == "is null" {
+        Ok(Op::IsNull)
+    } else if name == "is not null" {
+        Ok(Op::NotNull)
     } else {
         bad(ProofField::Steps)
     }
@@ -153,7 +158,7 @@ fn atom_of(
     Ok(TermAtom { op, left, right })
 }
 
-/// A comparison of two terms.
+/// A comparison of two terms, or IS NULL or IS NOT NULL of one, whose right side stands as it is.
 pub(crate) fn atom_at(
     alloc: Global,
     params: &[Parameter],

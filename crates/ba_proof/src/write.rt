@@ -382,13 +382,19 @@ fn proof_json(alloc: Global, problem: &Problem, steps: &List<Step>) -> Result<Js
     Ok(Json::Object(members))
 }
 
-/// The proof file of a question's problem and of steps: one compact JSON object, without blanks and a line end.
+/// The proof file of a question's problem and of steps: one compact JSON object, without blanks and
+/// a line end.
 ///
-/// The problem is one of [`ba_kernel::Problem::of`]: its assumptions are the parameters' values, and its rows are literals. The version is 2
-/// where a step is by an inclusion rule, else 1. A variable, which no such problem has, would be written as `null`.
+/// The problem is one of [`ba_kernel::Problem::of`]: its assumptions are the parameters' values,
+/// and its rows are literals, of which NULL is written as `null`. The version is 2 where a step is
+/// by an inclusion rule, else 1. A variable as a term of a step, which no such problem has, and
+/// NULL as one, which no step has that is accepted, would be written as `null` too, which is no
+/// term.
 ///
-/// What is written reads back as the problem and the steps where the queries have texts of at most 65,536 bytes and names that can be
-/// spelled, there is no NULL, and the steps are of a version that is read. The only error is want of memory, which leaves nothing behind.
+/// What is written reads back as the problem and the steps where the queries have texts of at most
+/// 65,536 bytes and names that can be spelled, the steps' terms are literals other than NULL,
+/// unknowns and parameters of the policy, and the steps are of a version that is read. The only
+/// error is want of memory, which leaves nothing behind.
 pub fn write_proof(
     alloc: Global,
     problem: &Problem,

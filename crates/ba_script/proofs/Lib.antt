@@ -3,6 +3,7 @@ pub mod FitLemmas
 pub mod FormLemmas
 pub mod LineLemmas
 pub mod MeaningLemmas
+pub mod NullLemmas
 pub mod OpenLemmas
 pub mod SaysLemmas
 pub mod ScriptLemmas

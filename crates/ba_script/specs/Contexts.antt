@@ -30,7 +30,7 @@ abbrev pub given_for : List ℕ → List Member → Option Given
 given_for name [] = None
 given_for name (m ∷ ms) = if is_called name m then Some m.value else given_for name ms
 
--- the value of the kind that is given, if it is one
+-- the value of the kind that is given, if it is one; null is of no kind
 abbrev pub of_kind : Kind → Given → Option Value
 of_kind IntKind (Int n) = Some (value.Int n)
 of_kind IntKind (Text s) = None

@@ -41,7 +41,7 @@ given_from (Some s) n = Text s
 given_from None (Some n) = Int n
 given_from None None = Other
 
--- a text, a whole number of 64 bits with a sign, or anything else
+-- a text, a whole number of 64 bits with a sign, or anything else, as null is
 abbrev pub given_of : Data → Given
 given_of d = given_from (as_str d) (option_and_then as_i64 (as_number d))
 

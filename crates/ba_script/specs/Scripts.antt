@@ -1,5 +1,5 @@
 -- What a script means, apart from how it is read.
-use Rattle.std.specs.Prelude.{◌≡◌, ℕ, ◌+◌, ◌<◌, ◌≤◌, ◌↔◌, List, [], ◌∷◌, ◌++◌, length, All, Bool, false, count_by, Ok, Err}
+use Rattle.std.specs.Prelude.{◌≡◌, ℕ, ◌+◌, ◌<◌, ◌≤◌, ◌↔◌, List, [], ◌∷◌, ◌++◌, length, All, Bool, false, count_by, Some, slice_get, Ok, Err}
 use Rattle.std.specs.Str.{bytes_eq}
 use Rattle.ba_model.specs.Fit.{ContextFits, kinds_of}
 use Rattle.ba_model.specs.declared.policy.Context.{Context}
@@ -9,7 +9,7 @@ use Rattle.ba_model.specs.declared.limits.Counted.TheVariants as what
 use Rattle.ba_script.specs.Contexts.{IsContext}
 use Rattle.ba_script.specs.Lines.{script_lines}
 use Rattle.ba_script.specs.Reading.{begun, published, script_of}
-use Rattle.ba_script.specs.Script.{IsJson, Spells}
+use Rattle.ba_script.specs.Script.{IsJson, Spells, given_members}
 use Rattle.ba_script.specs.declared.entry.Script.{Script}
 use Rattle.ba_script.specs.declared.entry.ScriptEntry.{ScriptEntry}
 use Rattle.ba_script.specs.declared.entry.ScriptEntry.TheVariants as entry
@@ -19,7 +19,8 @@ use Rattle.ba_script.specs.declared.fault.LineFault.TheVariants as why
 use Rattle.ba_script.specs.declared.line.Member.{Member}
 use Rattle.ba_script.specs.declared.line.ScriptLine.{ScriptLine}
 use Rattle.ba_script.specs.declared.line.ScriptLine.TheVariants as line
-use Rattle.serde_json.specs.Data.{Data}
+use Rattle.serde_json.specs.Data.{Data, Members, null}
+use Rattle.serde_json.specs.Find.{get_member}
 
 -- the entry is a question under the name, or of another name, or of none
 abbrev pub Leaves : List ℕ → ScriptEntry → Type 0
@@ -158,3 +159,9 @@ pub record IsScript (params : List Parameter) (script : Script) : Type 0 where
 pub record ScriptIsExact : Type 0 where
   pub reads : (params : List Parameter) (bytes : List ℕ) (script : Script) → (script_of params bytes ≡ Ok script) ↔ ReadsScript params bytes script
   pub refuses : (params : List Parameter) (bytes : List ℕ) (f : ScriptFault) → (script_of params bytes ≡ Err f) ↔ IsNoScript params bytes f
+
+-- a begin line under a free name whose context gives a parameter null says nothing, for its context
+abbrev pub NullIsNoContext : Type 0
+NullIsNoContext = (params : List Parameter) (before : List ScriptEntry) (n number : ℕ) (param : Parameter) (name : List ℕ) (members : Members)
+    → slice_get params number ≡ Some param → get_member param.name members ≡ Some null → IsFree before name
+    → SaysNone params before n (line.Begin name (given_members members)) (BadLine n why.Context)

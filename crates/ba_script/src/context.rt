@@ -53,7 +53,8 @@ fn text_value(alloc: Global, text: &Str) -> Result<Value, AllocError>
     Value::text(alloc, copy)
 }
 
-/// The value of the kind that is given, if it is one.
+/// The value of the kind that is given, if it is one. What is neither a text nor a whole number of
+/// 64 bits, as `null`, is of no kind: a parameter is never NULL.
 pub fn of_kind(alloc: Global, kind: Kind, given: &Given) -> Result<Option<Value>, AllocError>
     ensures { IfOk result (λ value. value ≡ of_kind kind given.now) }
 {

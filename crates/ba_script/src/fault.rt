@@ -13,7 +13,8 @@ pub enum LineFault {
     Begun,
     /// It asks or ends a request whose name isn't open.
     Unbegun,
-    /// Its context lacks a parameter, has another name, or a value of another kind.
+    /// Its context lacks a parameter, has another name, or a value that isn't of its parameter's
+    /// kind, as `null` never is.
     Context,
 }
 

@@ -15,7 +15,7 @@ pub enum Given {
     /// A whole number from -2^63 to 2^63 - 1, written without a point or an exponent, and not `-0`.
     Int(i64),
     Text(Str),
-    /// Anything else, which is a value of no kind.
+    /// Anything else, `null` too, which is a value of no kind.
     Other,
 }
 
@@ -165,7 +165,7 @@ pub fn read_members(alloc: Global, members: &Map<String, Value>) -> Result<List<
     Ok(list)
 }
 
-/// A text, a whole number of 64 bits with a sign, or anything else.
+/// A text, a whole number of 64 bits with a sign, or anything else, as `null` is.
 pub fn given_value(alloc: Global, value: &Value) -> Result<Given, AllocError>
     ensures { IfOk result (λ it. it ≡ given_of (view value.now)) }
 {

@@ -135,6 +135,7 @@ what_name what.Templates = codes "templates"
 abbrev pub count : ℕ → Data
 count n = number (unsigned n)
 
+-- NULL is null, a whole number that number, a text that string
 abbrev pub value_json : Value → Data
 value_json value.Null = null
 value_json (value.Int n) = number (of_integer n)
@@ -145,6 +146,10 @@ row_json row = array (items_of (map value_json row))
 
 abbrev pub rows_json : List (List Value) → Data
 rows_json rows = array (items_of (map row_json rows))
+
+-- rows that are printed alike are the same: NULL, numbers and texts are told apart
+abbrev pub RowsAreTold : Type 0
+RowsAreTold = (xs ys : List (List Value)) → rows_json xs ≡ rows_json ys → xs ≡ ys
 
 -- the object of an answer
 abbrev pub answer_json : List ℕ → ℕ → List ℕ → List (List Value) → ℕ → Data

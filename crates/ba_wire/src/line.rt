@@ -57,7 +57,7 @@ pub enum Line<'a> {
         publish: &'a Str,
         version: u32,
     },
-    /// A question's answer: its rows, in order.
+    /// A question's answer: its rows, in order. NULL is printed as `null`.
     Answer {
         by: By,
         line: u64,

@@ -16,7 +16,7 @@ fn push_int(out: &mut Writer, n: i64) -> Result<(), AllocError>
     out.i64(n)
 }
 
-/// Writes a value.
+/// Writes a value: NULL as `null`, a whole number in digits, a text as a JSON string.
 fn push_value(out: &mut Writer, value: &Value) -> Result<(), AllocError>
     ensures { OnOk result (Adds (value_json value.now) out.old out.new) }
 {
