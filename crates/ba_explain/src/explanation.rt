@@ -73,7 +73,10 @@ where
                 told: Some(String::new(alloc)),
             })
         }
-        None => complaint_of(rt, asked, files.files().asked(), &outcome, sink.text()),
+        None => {
+            let names = files.files().asked();
+            complaint_of(rt, asked.words, asked.prefix, names, &outcome, sink.text())
+        }
     }
 }
 
@@ -86,22 +89,16 @@ fn status_of(told: &io::Result<()>, status: u8) -> u8 {
 }
 
 // Says why a run has no journal: its fault line, and what is told of that.
-fn complaint_of<R: Files + AllocGlobal>(
+pub(crate) fn complaint_of<R: Files + AllocGlobal>(
     rt: &R,
-    asked: &Asked<'_>,
+    words: &[String],
+    prefix: &str,
     names: &[String],
     outcome: &Outcome,
     line: &str,
 ) -> Result<Ended, AllocError> {
     let lacking = lacking(outcome);
-    let why = notice(
-        rt,
-        asked.words,
-        asked.prefix,
-        names,
-        &outcome.detail,
-        lacking,
-    )?;
+    let why = notice(rt, words, prefix, names, &outcome.detail, lacking)?;
     let told = format!(in rt.alloc(); "{line}{why}\n")?;
     Ok(Ended::of(outcome, Some(told)))
 }

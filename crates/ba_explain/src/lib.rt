@@ -1,10 +1,12 @@
 //! Runs the top call, and tells what became of it: why it ended so, and in words why each question
-//! was answered or not, from the evidence in the journal.
+//! was answered or not, from the evidence in the journal; or what the linter finds of a policy.
 #![tactic(auto)]
 
 mod ended;
 mod explanation;
+mod findings;
 
 pub use ba_why::{Telling, USUAL_COLUMNS, Wanted};
 pub use ended::{Ended, run_words};
 pub use explanation::{Asked, explain};
+pub use findings::{BadWords, lint_words};

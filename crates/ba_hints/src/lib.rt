@@ -16,9 +16,13 @@ mod sight;
 mod walk;
 mod words;
 
-pub use hint::{Hint, Spot};
-pub use policy::policy_hint;
+pub use grammar::{POLICY, QUERY, SCHEMA, Stage, Step, Term, When};
+pub use hint::{Hint, Spot, listed};
+pub use policy::{end_of, policy_hint};
 pub use query::question_hint;
 pub use rows::{key_hint, link_hint, rows_hint};
-pub use schema::schema_hint;
+pub use schema::{schema_hint, tokens_in};
 pub use script::script_hint;
+pub use sight::{Sight, Sources};
+pub use walk::{State, Taken, Walk, take_tokens};
+pub use words::Words;

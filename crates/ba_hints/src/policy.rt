@@ -27,8 +27,8 @@ fn twice_hint(
     Ok(words.hint(bytes.len(), place, text))
 }
 
-// The place of the `;` at or behind a token.
-fn end_of(words: &Words<'_>, from: usize) -> usize {
+/// The place of the `;` at or behind a token, or that behind the last token.
+pub fn end_of(words: &Words<'_>, from: usize) -> usize {
     for (at, token) in words.tokens.iter().enumerate().skip(from) {
         if is_sign(&token.lexeme, Sign::Semicolon) {
             return at;

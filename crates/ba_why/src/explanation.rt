@@ -18,16 +18,6 @@ pub struct Telling {
     pub columns: usize,
 }
 
-// The bytes that were read as the script, behind the schema and the policy.
-fn script_in<'a>(kept: &'a [Held], names: &Names) -> &'a [u8] {
-    for held in kept {
-        if held.name.as_str() == names.script.as_str() {
-            return &held.bytes;
-        }
-    }
-    &[]
-}
-
 /// Writes why each question that is wanted was answered or not, with an empty line between two, by
 /// what the run kept of its files and by its journal.
 ///
@@ -41,11 +31,9 @@ pub fn tell_all<W: Write>(
     telling: Telling,
     out: &mut W,
 ) -> io::Result<()> {
-    let [schema, policy, rest @ ..] = kept else {
+    let Some(given) = Given::of_kept(alloc, kept, names)? else {
         return Ok(());
     };
-    let script = script_in(rest, names);
-    let given = Given::read(alloc, &schema.bytes, &policy.bytes, script)?;
     match telling.wanted {
         Wanted::All => tell_each(alloc, &given, journal, telling.columns, out),
         Wanted::Line(line) => tell_line(alloc, &given, journal, telling.columns, line, out),

@@ -3,10 +3,12 @@ ghost use Rattle.std.specs.Prelude.{◌≡◌, [], IfOk};
 ghost use Rattle.ba_kernel.specs.Drafts.{IsChecked};
 ghost use Rattle.ba_model.specs.SchemaFaults.{AreTables};
 
+use crate::words::Names;
 use ba_kernel::laws::checked_links_fit;
-use ba_model::{Policy, Schema, Shared};
+use ba_model::{Context, Policy, Schema, Shared};
+use ba_outside::Held;
 use ba_policy::read_policy;
-use ba_script::{Script, read_script};
+use ba_script::{Script, ScriptEntry, read_script};
 use ba_sql_ddl::read_schema;
 use std::alloc::{AllocError, Global};
 use std::marker::Model;
@@ -29,7 +31,31 @@ impl Model for Given {
     ghost invariant = { λ it. IsChecked it.policy };
 }
 
+// The bytes that were read as the script, behind the schema and the policy.
+fn script_in<'a>(kept: &'a [Held], names: &Names) -> &'a [u8] {
+    for held in kept {
+        if held.name.as_str() == names.script.as_str() {
+            return &held.bytes;
+        }
+    }
+    &[]
+}
+
 impl Given {
+    /// What a run read, by what it kept of its files, if it read a schema and a policy.
+    pub fn of_kept(
+        alloc: Global,
+        kept: &[Held],
+        names: &Names,
+    ) -> Result<Option<Given>, AllocError> {
+        let [schema, policy, rest @ ..] = kept else {
+            return Ok(None);
+        };
+        let script = script_in(rest, names);
+        let given = Given::read(alloc, &schema.bytes, &policy.bytes, script)?;
+        Ok(Some(given))
+    }
+
     /// What these bytes are, as the run read them. They have readings, so that an error is want of memory.
     pub fn read(
         alloc: Global,
@@ -60,6 +86,24 @@ impl Given {
     /// The script.
     pub fn script(&self) -> &Script {
         &self.script
+    }
+
+    /// The context of a request that asks at a place of the script.
+    pub fn context_at(&self, request: u32, at: usize) -> Option<&Context> {
+        for place in (0..at).rev() {
+            if let Some(
+                ScriptEntry::Begin {
+                    request: begun,
+                    context,
+                    ..
+                },
+            ) = self.script.entries.find(place)
+                && *begun == request
+            {
+                return Some(context);
+            }
+        }
+        None
     }
 }
 

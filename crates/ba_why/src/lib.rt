@@ -17,5 +17,6 @@ mod unread;
 mod words;
 
 pub use explanation::{Telling, tell_all};
+pub use given::Given;
 pub use page::USUAL_COLUMNS;
 pub use words::{Names, Wanted};

@@ -75,8 +75,8 @@ fn text_in<R: Files + AllocGlobal>(rt: &R, folder: &str, name: &str) -> io::Resu
     fs::read_to_string(rt, path.as_str())
 }
 
-// The text of a folder's file, where there is such a file.
-fn text_if_there<R: Files + AllocGlobal>(
+/// The text of a folder's file, where there is such a file.
+pub fn text_if_there<R: Files + AllocGlobal>(
     rt: &R,
     folder: &str,
     name: &str,

@@ -6,13 +6,16 @@
 //! The folder holds a folder for each topic, and that a folder for each of its cases: the input files,
 //! `words` (a word on each line, without the program's name), `expected` (the bytes that the run must
 //! write) and `status` (the status that it must end with). It may have `hint`, the line on why the run
-//! ends so that must be told, and `why`, the reasons of all its questions in words. Names in its words
+//! ends so that must be told, and `why`, the reasons of all its questions in words. Or it has `lint`: in
+//! its first line the words of the linter, then what it must tell, and the status. Names in its words
 //! are relative to it.
 #![tactic(auto)]
 
 mod case;
+mod lint;
 
 use case::{Case, End};
+use lint::{is_of_lint, lint_case};
 use std::process::ExitCode;
 use std::rt::Files;
 use std::sync::Wait;
@@ -127,17 +130,46 @@ where
     Ok(false)
 }
 
-// Runs the case of that name, and gives whether it ended as it must.
+// Tells what the linter finds in the case, where it says what that must be, and gives whether it is.
+fn passes_lint<R>(rt: &R, place: &str, name: &str) -> io::Result<bool>
+where
+    R: Files + AllocGlobal + Print + Threads + Wait + Sync + Clone + Drop,
+{
+    let Some(end) = lint_case(rt, place)? else {
+        return Ok(true);
+    };
+    if end.told == end.wanted {
+        println!(rt; "ok {name} by lint")?;
+        return Ok(true);
+    }
+    println!(rt; "{name} differs: the linter tells something else")?;
+    tell_line(rt, "lint, ", &end.wanted, &end.told)?;
+    Ok(false)
+}
+
+// Tries the case of that name, and gives whether it ended as it must.
 fn passes<R>(rt: &R, folder: &str, name: &str) -> io::Result<bool>
 where
     R: Files + AllocGlobal + Print + Threads + Wait + Sync + Clone + Drop,
 {
     let place = format!(in rt.alloc(); "{folder}/{name}")?;
-    let case = Case::read(rt, place.as_str())?;
-    let end = case.run(rt, place.as_str(), "")?;
+    let is_linted = passes_lint(rt, place.as_str(), name)?;
+    if is_of_lint(rt, place.as_str())? {
+        return Ok(is_linted);
+    }
+    Ok(passes_run(rt, place.as_str(), name)? && is_linted)
+}
+
+// Runs the case of that name, and gives whether it ended as it must.
+fn passes_run<R>(rt: &R, place: &str, name: &str) -> io::Result<bool>
+where
+    R: Files + AllocGlobal + Print + Threads + Wait + Sync + Clone + Drop,
+{
+    let case = Case::read(rt, place)?;
+    let end = case.run(rt, place, "")?;
     let is_same = tells(rt, name, &case.wanted, &end, end == case.wanted)?;
-    let is_told = tells_why(rt, place.as_str(), name, &case)?;
-    Ok(passes_by_many(rt, place.as_str(), name, &case)? && is_same && is_told)
+    let is_told = tells_why(rt, place, name, &case)?;
+    Ok(passes_by_many(rt, place, name, &case)? && is_same && is_told)
 }
 
 // Runs each case of the folder and gives how many passed and how many failed.

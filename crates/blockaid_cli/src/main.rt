@@ -2,17 +2,20 @@
 //! policy P lets through, and blocks the others. `blockaid check --schema S --policy P --proof F`: says whether the proof F is accepted.
 //! `blockaid gen --seed N --requests R`: serves a generated workload, and prints the summary; with `--print` prints its script.
 //! `blockaid why run --schema S ..`: tells in words why each question of a run was answered or not.
+//! `blockaid lint --schema S --policy P`: tells where a policy may show too much or too little.
 //! Where its status isn't 0, one line on standard error says why. Where the environment has `BLOCKAID_PROGRESS=1`, lines of
 //! standard error tell how far the script is served.
 #![tactic(auto)]
 
 ghost use Rattle.std.specs.Prelude.{◌≡◌};
 
+mod findings;
 mod progress;
 mod reasons;
 
 use ba_explain::{Ended, run_words};
 use ba_outside::StdSink;
+use findings::tell_findings;
 use progress::Progress;
 use reasons::explain_words;
 use std::alloc::{AllocError, Global};
@@ -84,6 +87,7 @@ fn main(rt: HostRuntime) -> ExitCode {
     };
     let status = match words.as_slice() {
         [first, rest @ ..] if first.as_str() == "why" => explain_words(&rt, rest),
+        [first, rest @ ..] if first.as_str() == "lint" => tell_findings(&rt, rest),
         all => run(&rt, rt.stdout(), all),
     };
     ExitCode::from(status)

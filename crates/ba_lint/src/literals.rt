@@ -1,0 +1,95 @@
+//! Literals of views that stand in no row.
+
+use crate::columns::column_name;
+use crate::finding::Finding;
+use crate::report::Report;
+use crate::written::ViewText;
+use ba_model::{Atom, Op, Operand, Part, Row, RowSet, Same, Value};
+use ba_place::{WORD_CHARS, shown};
+use std::alloc::{AllocError, Global};
+
+fn has_value(row: &Row, column: u32, value: &Value) -> bool {
+    match row.find(column as usize) {
+        Some(it) => it.same(value),
+        None => false,
+    }
+}
+
+// Whether a row of a table has a value in a column, by their numbers.
+fn is_in_rows(rows: &RowSet, table: u32, column: u32, value: &Value) -> bool {
+    let Some(rows) = rows.tables.find(table as usize) else {
+        return false;
+    };
+    for row in rows.as_slice() {
+        if has_value(row, column, value) {
+            return true;
+        }
+    }
+    false
+}
+
+// A value as a literal.
+fn literal_text(alloc: Global, value: &Value) -> Result<String, AllocError> {
+    match value {
+        Value::Null => String::from_str(alloc, "NULL"),
+        Value::Int(number) => number.to_string(alloc),
+        Value::Text(text) => {
+            let front = shown(alloc, text.as_bytes(), WORD_CHARS)?;
+            format!(in alloc; "'{front}'")
+        }
+    }
+}
+
+// Finds that no row has a literal that is compared with a column.
+fn find_compared(
+    report: &mut Report,
+    text: &ViewText<'_>,
+    part: &Part,
+    rows: &RowSet,
+    side: &Operand,
+    other: &Operand,
+) -> Result<(), AllocError> {
+    let (Operand::Col(place, column), Operand::Val(value)) = (side, other) else {
+        return Ok(());
+    };
+    let (Some(table), Some(number)) = (text.table(part, *place), part.from.find(*place as usize))
+    else {
+        return Ok(());
+    };
+    if is_in_rows(rows, *number, *column, value) {
+        return Ok(());
+    }
+    let literal = literal_text(report.alloc, value)?;
+    let finding = Finding::NoRow {
+        view: text.name(),
+        table: table.name.as_str(),
+        column: column_name(table, *column),
+        literal: literal.as_str(),
+    };
+    report.add(text.file(), text.value_spot(value), &finding)
+}
+
+// Whether a condition says that two sides are equal or that they differ.
+fn tells_same(atom: &Atom) -> bool {
+    match atom.op {
+        Op::Eq | Op::Ne => true,
+        _ => false,
+    }
+}
+
+/// Finds literals that a part of a view compares with columns by `=` or `<>`, and that no row has
+/// there.
+pub fn find_literals(
+    report: &mut Report,
+    text: &ViewText<'_>,
+    part: &Part,
+    rows: &RowSet,
+) -> Result<(), AllocError> {
+    for atom in part.conds.as_slice() {
+        if tells_same(atom) {
+            find_compared(report, text, part, rows, &atom.left, &atom.right)?;
+            find_compared(report, text, part, rows, &atom.right, &atom.left)?;
+        }
+    }
+    Ok(())
+}
