@@ -27,12 +27,18 @@ pub enum Term {
     Constraint,
     Not,
     Null,
+    RuleKey,
+    WithinKey,
     ParamKey,
     ViewKey,
     Int,
     Text,
     Open,
     Close,
+    /// The bracket before a query of a rule.
+    QueryOpen,
+    /// The bracket that matches it.
+    QueryClose,
     Comma,
     Dot,
     Star,
@@ -106,12 +112,14 @@ impl Term {
             Term::Constraint => "CONSTRAINT",
             Term::Not => "NOT",
             Term::Null => "NULL",
+            Term::RuleKey => "RULE",
+            Term::WithinKey => "WITHIN",
             Term::ParamKey => "PARAM",
             Term::ViewKey => "VIEW",
             Term::Int => "INT",
             Term::Text => "TEXT",
-            Term::Open => "\"(\"",
-            Term::Close => "\")\"",
+            Term::Open | Term::QueryOpen => "\"(\"",
+            Term::Close | Term::QueryClose => "\")\"",
             Term::Comma => "\",\"",
             Term::Dot => "\".\"",
             Term::Star => "\"*\"",
@@ -203,6 +211,12 @@ pub enum Stage {
     AimOpen,
     AimItem,
     AimNext,
+    Rule,
+    LeftWords,
+    LeftEnd,
+    Within,
+    RightWords,
+    RightEnd,
     Policy,
     Param,
     CreateView,
@@ -240,8 +254,9 @@ impl Step {
     pub fn when(&self) -> When {
         match (self.0, self.1) {
             (_, Term::Select | Term::NewTable) => When::Begins,
-            (Stage::Cond, Term::Open) => When::Opens,
-            (Stage::Tested, Term::Close) => When::Closes,
+            (Stage::Cond | Stage::LeftWords | Stage::RightWords, Term::Open) => When::Opens,
+            (Stage::Tested | Stage::LeftWords | Stage::RightWords, Term::Close) => When::Closes,
+            (_, Term::QueryClose) => When::Outside,
             (_, Term::Where) => When::Where,
             (Stage::Tested, Term::Comma | Term::Cross | Term::Inner | Term::Join) => When::Before,
             (Stage::Tested, Term::Union | Term::Semicolon | Term::End) => When::Outside,
@@ -342,8 +357,9 @@ pub const QUERY: [Step; 87] = [
 ];
 
 /// The steps over a schema.
-pub const SCHEMA: [Step; 58] = [
+pub const SCHEMA: [Step; 71] = [
     Step(Stage::Schema, Term::Create, Stage::Create),
+    Step(Stage::Schema, Term::RuleKey, Stage::Rule),
     Step(Stage::Schema, Term::End, Stage::Done),
     Step(Stage::Create, Term::TableKey, Stage::CreateTable),
     Step(Stage::CreateTable, Term::NewTable, Stage::TableOpen),
@@ -401,6 +417,18 @@ pub const SCHEMA: [Step; 58] = [
     Step(Stage::AimNext, Term::Comma, Stage::AimItem),
     Step(Stage::AimNext, Term::Close, Stage::ItemEnd),
     Step(Stage::TableEnd, Term::Semicolon, Stage::Schema),
+    Step(Stage::Rule, Term::QueryOpen, Stage::LeftWords),
+    Step(Stage::LeftWords, Term::Open, Stage::LeftWords),
+    Step(Stage::LeftWords, Term::Close, Stage::LeftWords),
+    Step(Stage::LeftWords, Term::QueryClose, Stage::LeftEnd),
+    Step(Stage::LeftWords, Term::Any, Stage::LeftWords),
+    Step(Stage::LeftEnd, Term::WithinKey, Stage::Within),
+    Step(Stage::Within, Term::QueryOpen, Stage::RightWords),
+    Step(Stage::RightWords, Term::Open, Stage::RightWords),
+    Step(Stage::RightWords, Term::Close, Stage::RightWords),
+    Step(Stage::RightWords, Term::QueryClose, Stage::RightEnd),
+    Step(Stage::RightWords, Term::Any, Stage::RightWords),
+    Step(Stage::RightEnd, Term::Semicolon, Stage::Schema),
 ];
 
 /// The steps over a policy.

@@ -4,6 +4,7 @@ use crate::grammar::{SCHEMA, Stage, Term};
 use crate::hint::{Hint, listed};
 use crate::lex::lex_hint;
 use crate::query::stop_hint;
+use crate::rule::{open_hint, rule_hint};
 use crate::walk::take_tokens;
 use crate::words::Words;
 use ba_grammar::is_keyword;
@@ -27,6 +28,7 @@ fn is_counted(words: &Words<'_>, what: Counted, at: usize) -> bool {
         Counted::Tables => words.is(at, Term::NewTable),
         Counted::Columns => words.is(at, Term::NewColumn),
         Counted::Links => words.is(at, Term::Target),
+        Counted::Rules => words.is(at, Term::RuleKey),
         Counted::Views => words.is(at, Term::View),
         Counted::Params => words.is(at, Term::Param),
         Counted::Keys => words.is(at, Term::Primary) || words.is(at, Term::Unique),
@@ -41,6 +43,7 @@ fn counted_text(what: Counted) -> &'static str {
         Counted::Columns => "columns of a table",
         Counted::Links => "links of a table",
         Counted::Keys => "keys of a table",
+        Counted::Rules => "rules",
         Counted::Views => "views",
         _ => "parameters",
     }
@@ -58,7 +61,7 @@ pub fn count_hint(
     let mut count = 0u64;
     let mut group = 0;
     for at in 0..words.taken.len() {
-        if words.group(at) != group && !matches!(&what, Counted::Tables) {
+        if words.group(at) != group && !matches!(&what, Counted::Tables | Counted::Rules) {
             count = 0;
         }
         group = words.group(at);
@@ -193,7 +196,7 @@ fn tables_hint(
     Hint::plain(alloc, general_text(fault))
 }
 
-// A hint on the first of the words that spells one that isn't supported.
+// A hint on the first of the words outside of the queries of rules that spells one that isn't supported.
 fn unsupported_hint(
     alloc: Global,
     bytes: &[u8],
@@ -202,7 +205,8 @@ fn unsupported_hint(
 ) -> Result<Hint, AllocError> {
     let text = format!(in alloc; "{word} isn't supported")?;
     for (at, token) in words.tokens.iter().enumerate() {
-        if is_keyword(&token.lexeme, word) {
+        let is_in_query = at < words.taken.len() && words.is(at, Term::Any);
+        if !is_in_query && is_keyword(&token.lexeme, word) {
             return Ok(words.hint(bytes.len(), Some(at), text));
         }
     }
@@ -227,8 +231,13 @@ fn fault_hint(
         DdlFault::Syntax if walk.is_whole => {
             Hint::plain(alloc, "its words aren't those of a schema")
         }
-        DdlFault::Syntax => stop_hint(alloc, &SCHEMA, bytes, &words, &walk.state),
+        DdlFault::Syntax => match open_hint(alloc, bytes, &words)? {
+            Some(hint) => Ok(hint),
+            None => stop_hint(alloc, &SCHEMA, bytes, &words, &walk.state),
+        },
         DdlFault::Schema(fault) => tables_hint(alloc, bytes, &words, *fault),
+        DdlFault::TooMany { what, limit } => count_hint(alloc, bytes, &words, *what, *limit),
+        DdlFault::Rule(number, _) => rule_hint(alloc, bytes, &words, *number),
     }
 }
 

@@ -157,8 +157,8 @@ fn stands(term: Term, tokens: &[Token]) -> bool {
     match term {
         Term::End => false,
         Term::Any => true,
-        Term::Open => is_sign(lexeme, Sign::LeftParen),
-        Term::Close => is_sign(lexeme, Sign::RightParen),
+        Term::Open | Term::QueryOpen => is_sign(lexeme, Sign::LeftParen),
+        Term::Close | Term::QueryClose => is_sign(lexeme, Sign::RightParen),
         Term::Comma => is_sign(lexeme, Sign::Comma),
         Term::Dot => is_sign(lexeme, Sign::Dot),
         Term::Star => is_sign(lexeme, Sign::Star),

@@ -5,11 +5,10 @@ use Rattle.std.proofs.lemmas.List.Elements.{All-append, All-cons, All-nil}
 use Rattle.std.specs.List.{All, AllZip}
 use Rattle.std.specs.Option.{option_to_list}
 use Rattle.std.specs.Prelude.{IfSome}
-use Rattle.ba_model.specs.RuleFaults.{RuleFits}
+use Rattle.ba_model.specs.RuleFaults.{AreRules}
 use Rattle.ba_proof.specs.Checked.{IsPolicy}
 use Rattle.ba_proof.specs.declared.proof.Proof.{Proof}
 use Rattle.ba_model.specs.SchemaFaults.{AreTables}
-use Rattle.ba_model.specs.declared.schema.Rule.{Rule}
 use Rattle.ba_kernel.specs.Tests as kernel
 use Rattle.ba_model.specs.Conform.{RowFits}
 use Rattle.ba_model.specs.Fit.{PolicyFits}
@@ -33,7 +32,7 @@ use Rattle.ba_script.specs.declared.entry.Script.{Script}
 use Rattle.ba_script.specs.declared.entry.ScriptEntry.{ScriptEntry}
 use Rattle.ba_script.specs.declared.entry.ScriptEntry.TheVariants as said
 use Rattle.ba_sql_ddl.specs.Reading.{schema_of}
-use Rattle.ba_tables.specs.Broken.{checked}
+use Rattle.ba_tables.specs.Checked.{checked}
 use Rattle.ba_tables.specs.TableSet.{TableSet}
 use Rattle.ba_input.specs.Inputs.{IsInput, RowsOfTables}
 use Rattle.ba_input.specs.Published.{IsSetOf}
@@ -44,14 +43,11 @@ use Rattle.ba_wire.specs.declared.fault.Fault.{Fault}
 use Rattle.ba_input.specs.declared.task.Task.TheVariants as task
 use Rattle.ba_input.specs.declared.task.Told.TheVariants.{Lines, Summary}
 
-no_rule : (s : Schema) (rules : List Rule) → rules ≡ [] → All (RuleFits s) rules
-no_rule s rules none = subst (All (RuleFits s)) (sym none) (All-nil (RuleFits s))
-
 -- what was read belongs together
 pub input_fits : (policy : Policy) (tables : TableSet) (script : Script) (sets : List TableSet) (workers budget : ℕ) → PolicyFits policy → IsSetOf policy.schema tables → IsScript policy.params script
-    → All (IsSetOf policy.schema) sets → length sets ≡ published script.entries → (0 < workers) × (workers ≤ most_workers) → budget ≤ most_budget → AreTables policy.schema.tables → policy.schema.rules ≡ []
+    → All (IsSetOf policy.schema) sets → length sets ≡ published script.entries → (0 < workers) × (workers ≤ most_workers) → budget ≤ most_budget → AreTables policy.schema.tables → AreRules policy.schema
     → IsInput (record { policy = policy; tables = tables; script = script; published = sets; workers = workers; budget = budget; loaded = []; orders = 1 })
-input_fits policy tables script sets workers budget fits set is all count many few tables_are none = record {
+input_fits policy tables script sets workers budget fits set is all count many few tables_are rules = record {
   policy = fits;
   schema = set.schema_is;
   conform = set.conform;
@@ -61,7 +57,7 @@ input_fits policy tables script sets workers budget fits set is all count many f
   workers = many;
   budget = few;
   tables_are = tables_are;
-  rules = no_rule policy.schema policy.schema.rules none;
+  rules = rules.fit;
   none_loaded = refl;
   one_order = refl;
 }
@@ -242,10 +238,10 @@ pub check_err : (names : ProofNames) (s t : FilesSeen) (e : Stop Fault) → Foll
 check_err names s t e follows = then_err (proof_reading_of names) (λ z. done (task.Check z)) s t e follows
 
 -- a policy that was read for a schema that was read
-pub policy_is : (policy : Policy) → PolicyFits policy → AreTables policy.schema.tables → policy.schema.rules ≡ [] → IsPolicy policy
-policy_is policy fits tables none = record {
+pub policy_is : (policy : Policy) → PolicyFits policy → AreTables policy.schema.tables → AreRules policy.schema → IsPolicy policy
+policy_is policy fits tables rules = record {
   tables = tables;
-  rules = no_rule policy.schema policy.schema.rules none;
+  rules = rules.fit;
   views = fits;
 }
 

@@ -36,11 +36,11 @@ use Rattle.ba_script.specs.declared.fault.ScriptFault.TheVariants.{BadLine, TooM
 use Rattle.ba_sql_ddl.specs.Reading.{schema_of}
 use Rattle.ba_sql_ddl.specs.declared.fault.DdlFault.{DdlFault}
 use Rattle.ba_sql_ddl.specs.declared.fault.DdlFault.TheVariants as ddl
-use Rattle.ba_tables.specs.Broken.{checked}
+use Rattle.ba_tables.specs.Checked.{checked}
 use Rattle.ba_tables.specs.TableFile.{rows_of_file}
 use Rattle.ba_tables.specs.TableSet.{TableSet}
 use Rattle.ba_tables.specs.declared.broken.TablesFault.{TablesFault}
-use Rattle.ba_tables.specs.declared.broken.TablesFault.TheVariants.{KeyBroken, LinkBroken}
+use Rattle.ba_tables.specs.declared.broken.TablesFault.TheVariants.{KeyBroken, LinkBroken, RuleBroken}
 use Rattle.ba_tables.specs.declared.fault.TableFault.{TableFault}
 use Rattle.ba_tables.specs.declared.fault.TableFault.TheVariants as table_fault
 use Rattle.ba_input.specs.Path.{path_of}
@@ -106,6 +106,8 @@ ddl_is file (ddl.Lex it) = lex_is file it
 ddl_is file (ddl.Unsupported word) = tt
 ddl_is file ddl.Syntax = tt
 ddl_is file (ddl.Schema it) = schema_is file it
+ddl_is file (ddl.TooMany it limit) = tt
+ddl_is file (ddl.Rule rule it) = tt
 
 policy_is : (file : List ℕ) (e : PolicyFault) → IsRefusal (policy_refusal file e)
 unfolding policy_refusal
@@ -128,6 +130,7 @@ broken_is : (set : List ℕ) (schema : Schema) (e : TablesFault) → IsRefusal (
 unfolding broken_refusal
 broken_is set schema (KeyBroken it key first second) = tt
 broken_is set schema (LinkBroken it link row) = tt
+broken_is set schema (RuleBroken rule row) = tt
 
 script_is : (file : List ℕ) (e : ScriptFault) → IsRefusal (script_refusal file e)
 unfolding script_refusal

@@ -22,7 +22,7 @@ use Rattle.ba_script.specs.declared.entry.Script.{Script}
 use Rattle.ba_script.specs.declared.entry.ScriptEntry.{ScriptEntry}
 use Rattle.ba_script.specs.declared.entry.ScriptEntry.TheVariants as said
 use Rattle.ba_sql_ddl.specs.Reading.{schema_of}
-use Rattle.ba_tables.specs.Broken.{checked}
+use Rattle.ba_tables.specs.Checked.{checked}
 use Rattle.ba_tables.specs.TableFile.{rows_of_file}
 use Rattle.ba_tables.specs.TableSet.{TableSet}
 use Rattle.ba_input.specs.Path.{path_of}

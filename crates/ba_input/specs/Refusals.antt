@@ -21,7 +21,7 @@ use Rattle.ba_sql_ddl.specs.declared.fault.DdlFault.TheVariants as ddl
 use Rattle.ba_sql_query.specs.declared.fault.ReadQueryFault.{ReadQueryFault}
 use Rattle.ba_sql_query.specs.declared.fault.ReadQueryFault.TheVariants as query
 use Rattle.ba_tables.specs.declared.broken.TablesFault.{TablesFault}
-use Rattle.ba_tables.specs.declared.broken.TablesFault.TheVariants.{KeyBroken, LinkBroken}
+use Rattle.ba_tables.specs.declared.broken.TablesFault.TheVariants.{KeyBroken, LinkBroken, RuleBroken}
 use Rattle.ba_tables.specs.declared.fault.TableFault.{TableFault}
 use Rattle.ba_tables.specs.declared.fault.TableFault.TheVariants as table
 use Rattle.ba_input.specs.Path.{path_of}
@@ -67,6 +67,8 @@ ddl_refusal file (ddl.Lex fault) = lex_fault file fault
 ddl_refusal file (ddl.Unsupported word) = text_fault file (query.Unsupported word)
 ddl_refusal file ddl.Syntax = text_fault file query.Syntax
 ddl_refusal file (ddl.Schema fault) = schema_fault file fault
+ddl_refusal file (ddl.TooMany it limit) = Limit it limit
+ddl_refusal file (ddl.Rule rule fault) = Input file (reason.Rule rule fault)
 
 -- ---- the policy
 
@@ -91,10 +93,11 @@ table_refusal file (table.TooMany limit) = Limit what.Rows limit
 abbrev pub file_of_table : List ℕ → Schema → ℕ → List ℕ
 file_of_table set schema number = path_of set (unwrap_or (option_map (λ it. it.name) (slice_get schema.tables number)) [])
 
--- a broken key or link is told of its table's file
+-- a broken key or link is told of its table's file, a broken rule of the set
 unfoldable pub broken_refusal : List ℕ → Schema → TablesFault → Fault
 broken_refusal set schema (KeyBroken it key first second) = Input (file_of_table set schema it) (reason.Key key first second)
 broken_refusal set schema (LinkBroken it link row) = Input (file_of_table set schema it) (reason.Link link row)
+broken_refusal set schema (RuleBroken rule row) = Input set (reason.RuleRow rule row)
 
 -- ---- the script
 

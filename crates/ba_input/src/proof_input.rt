@@ -1,7 +1,8 @@
 //! Reads what a check is of.
-ghost use Rattle.std.specs.Prelude.{◌≡◌, [], IfOk};
+ghost use Rattle.std.specs.Prelude.{◌≡◌, IfOk};
 ghost use Rattle.ba_model.specs.Fit.{PolicyFits};
 ghost use Rattle.ba_model.specs.Readings.{widened};
+ghost use Rattle.ba_model.specs.RuleFaults.{AreRules};
 ghost use Rattle.ba_model.specs.SchemaFaults.{AreTables};
 ghost use Rattle.ba_plan.specs.Follows.{Follows, Gives};
 ghost use Rattle.ba_proof.specs.Reading.{proof_of};
@@ -35,7 +36,7 @@ fn proof_at(
 ) -> Result<Proof, Stop<Fault>>
     requires views { PolicyFits policy.now }
     requires tables { AreTables policy.now.schema.tables }
-    requires rules { policy.now.schema.rules ≡ [] }
+    requires rules { AreRules policy.now.schema }
     ensures reads { Gives result
         (widened (proof_refusal file.now) (proof_of policy.now bytes.now)) }
     ensures checkable { IfOk result IsCheckable }
@@ -60,7 +61,7 @@ fn read_last<F: Files>(
 ) -> Result<Proof, Stop<Fault>>
     requires views { PolicyFits policy.now }
     requires tables { AreTables policy.now.schema.tables }
-    requires rules { policy.now.schema.rules ≡ [] }
+    requires rules { AreRules policy.now.schema }
     ensures follows { Follows (proof_plan name.now policy.now)
         (F.seen files.old) (F.seen files.new) result }
     ensures checkable { IfOk result IsCheckable }

@@ -99,6 +99,11 @@ pub(crate) fn ddl_refusal(file: Str, fault: DdlFault) -> Fault
         DdlFault::Unsupported(word) => text_fault(file, ReadQueryFault::Unsupported(word)),
         DdlFault::Syntax => text_fault(file, ReadQueryFault::Syntax),
         DdlFault::Schema(fault) => schema_fault(file, fault),
+        DdlFault::TooMany { what, limit } => Fault::Limit { what, limit },
+        DdlFault::Rule(rule, fault) => Fault::Input {
+            file,
+            reason: Reason::Rule { rule, fault },
+        },
     }
 }
 
@@ -153,7 +158,7 @@ fn file_of_table(alloc: Global, set: &str, schema: &Schema, number: u32) -> Resu
     Ok(Str::from_string(path(alloc, set, name)?))
 }
 
-/// A broken key or link is told of its table's file.
+/// A broken key or link is told of its table's file, a broken rule of the set.
 #[tactic(auto, unfolding(crate::specs::Refusals::broken_refusal))]
 pub(crate) fn broken_refusal(
     alloc: Global,
@@ -176,6 +181,10 @@ pub(crate) fn broken_refusal(
         TablesFault::LinkBroken { table, link, row } => Ok(Fault::Input {
             file: file_of_table(alloc, set, schema, table)?,
             reason: Reason::Link { link, row },
+        }),
+        TablesFault::RuleBroken { rule, row } => Ok(Fault::Input {
+            file: Str::new(alloc, set)?,
+            reason: Reason::RuleRow { rule, row },
         }),
     }
 }

@@ -4,6 +4,7 @@ ghost use Rattle.std.specs.Option.{option_to_list};
 ghost use Rattle.ba_model.specs.Conform.{RowFits};
 ghost use Rattle.ba_model.specs.Fit.{PolicyFits};
 ghost use Rattle.ba_model.specs.Readings.{widened};
+ghost use Rattle.ba_model.specs.RuleFaults.{AreRules};
 ghost use Rattle.ba_model.specs.SchemaFaults.{AreTables};
 ghost use Rattle.ba_model.specs.Limits.{most_budget, most_workers};
 ghost use Rattle.ba_plan.specs.Follows.{Follows, Gives};
@@ -11,7 +12,7 @@ ghost use Rattle.ba_policy.specs.Reading.{policy_of};
 ghost use Rattle.ba_script.specs.Reading.{published, published_by, script_of};
 ghost use Rattle.ba_script.specs.Scripts.{IsScript};
 ghost use Rattle.ba_sql_ddl.specs.Reading.{schema_of};
-ghost use Rattle.ba_tables.specs.Broken.{checked};
+ghost use Rattle.ba_tables.specs.Checked.{checked};
 ghost use Rattle.ba_tables.specs.TableFile.{rows_of_file};
 ghost use Rattle.ba_input.specs.Inputs.{IsInput, RowsOfTables};
 ghost use Rattle.ba_input.specs.Published.{IsSetOf};
@@ -53,7 +54,7 @@ pub(crate) fn schema_at(
 ) -> Result<Shared<Schema>, Stop<Fault>>
     ensures reads { Gives result (widened (ddl_refusal file.now) (schema_of bytes.now)) }
     ensures tables { IfOk result (λ schema. AreTables schema.tables) }
-    ensures rules { IfOk result (λ schema. schema.rules ≡ []) }
+    ensures rules { IfOk result AreRules }
 {
     match read_schema(alloc, bytes.as_slice()) {
         Ok(schema) => Ok(Shared::new(alloc, schema)?),
@@ -127,15 +128,14 @@ fn script_at(
     }
 }
 
-// The tables, where no key and no link is broken.
+// The tables, where no key, no link and no rule is broken.
 fn checked_at(
     alloc: Global,
     set: &str,
     schema: &Shared<Schema>,
     rows: RowSet,
 ) -> Result<Shared<Tables>, Stop<Fault>>
-    requires fit { RowsOfTables schema.now.tables rows.tables }
-    requires rules { schema.now.rules ≡ [] }
+    requires { RowsOfTables schema.now.tables rows.tables }
     ensures reads { Gives result
         (widened (broken_refusal set.now schema.now) (checked schema.now rows)) }
     ensures set { IfOk result (IsSetOf schema.now) }
@@ -184,14 +184,13 @@ fn read_rows<F: Files>(
     Ok(lists)
 }
 
-// The rows of a table set, which break no key and no link.
+// The rows of a table set, which break no key, no link and no rule.
 fn read_tables<F: Files>(
     alloc: Global,
     files: &mut F,
     set: &str,
     schema: &Shared<Schema>,
 ) -> Result<Shared<Tables>, Stop<Fault>>
-    requires rules { schema.now.rules ≡ [] }
     ensures follows { Follows (tables_plan set.now schema.now)
         (F.seen files.old) (F.seen files.new) result }
     ensures set { IfOk result (IsSetOf schema.now) }
@@ -208,7 +207,6 @@ fn read_set<F: Files>(
     schema: &Shared<Schema>,
     entry: &ScriptEntry,
 ) -> Result<Option<Shared<Tables>>, Stop<Fault>>
-    requires rules { schema.now.rules ≡ [] }
     ensures follows { Follows (set_plan schema.now entry.now)
         (F.seen files.old) (F.seen files.new) result }
     ensures set { IfOk result (λ found. IfSome found (IsSetOf schema.now)) }
@@ -241,7 +239,6 @@ fn read_sets<F: Files>(
     schema: &Shared<Schema>,
     entries: &[ScriptEntry],
 ) -> Result<List<Shared<Tables>>, Stop<Fault>>
-    requires rules { schema.now.rules ≡ [] }
     ensures follows { Follows (sets_plan schema.now entries.now [])
         (F.seen files.old) (F.seen files.new) result }
     ensures sets { IfOk result (All (IsSetOf schema.now)) }
@@ -269,7 +266,7 @@ fn read_published<F: Files>(
     requires tables { IsSetOf policy.schema tables }
     requires script { IsScript policy.params script }
     requires tables_are { AreTables policy.schema.tables }
-    requires rules { policy.schema.rules ≡ [] }
+    requires rules { AreRules policy.schema }
     requires workers { (0 < workers) × (workers ≤ most_workers) }
     requires budget { budget ≤ most_budget }
     ensures follows { Follows (published_plan workers budget policy tables script)
@@ -303,7 +300,7 @@ fn read_rest<F: Files>(
     requires policy { PolicyFits policy }
     requires tables { IsSetOf policy.schema tables }
     requires tables_are { AreTables policy.schema.tables }
-    requires rules { policy.schema.rules ≡ [] }
+    requires rules { AreRules policy.schema }
     requires workers { (0 < workers) × (workers ≤ most_workers) }
     requires budget { budget ≤ most_budget }
     ensures follows { Follows (script_plan name.now workers budget policy tables)

@@ -1,9 +1,13 @@
-//! Files that have no reading.
+//! Files that have no reading, and sets of tables that break a rule.
+ghost use Rattle.std.specs.Prelude.{IfOk, IfSome};
+ghost use Rattle.ba_model.specs.RuleFaults.{AreRules};
 
 use crate::files::{Found, read_again};
 use crate::proof::field_text;
-use ba_hints::{Hint, key_hint, link_hint, policy_hint, rows_hint, schema_hint, script_hint};
-use ba_model::{Counted, Failure, Policy, Schema, Shared, Table};
+use ba_hints::{
+    Hint, key_hint, link_hint, policy_hint, rows_hint, rule_hint, schema_hint, script_hint,
+};
+use ba_model::{Counted, Failure, Policy, Row, Schema, Shared, Table};
 use ba_policy::read_policy;
 use ba_sql_ddl::read_schema;
 use ba_wire::Reason;
@@ -81,7 +85,9 @@ impl<R: Files + AllocGlobal> Reads<'_, R> {
     }
 
     // The schema, if it can be read again.
-    fn schema(&self) -> Result<Option<Shared<Schema>>, AllocError> {
+    fn schema(&self) -> Result<Option<Shared<Schema>>, AllocError>
+        ensures { IfOk result (λ found. IfSome found AreRules) }
+    {
         let alloc = self.rt.alloc();
         let Some(name) = self.asked.first() else {
             return Ok(None);
@@ -169,6 +175,23 @@ impl<R: Files + AllocGlobal> Reads<'_, R> {
                     "what was read of it can't be read again to tell more",
                 )?;
                 hint.line(alloc, file, &[])
+            }
+        }
+    }
+
+    /// What is told of a set of tables of which a row breaks the rule of a number.
+    pub fn rule_text(&self, set: &str, rule: u32, row: &Row) -> Result<String, AllocError> {
+        let alloc = self.rt.alloc();
+        let hint = match self.schema()? {
+            Some(schema) => rule_hint(alloc, &schema, rule, row)?,
+            None => None,
+        };
+        match hint {
+            Some(hint) => hint.line(alloc, set, &[]),
+            None => {
+                let text = format!(in alloc; "rule {rule} is broken")?;
+                let hint = Hint::plain(alloc, text.as_str())?;
+                hint.line(alloc, set, &[])
             }
         }
     }

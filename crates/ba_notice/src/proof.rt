@@ -7,13 +7,13 @@ use std::alloc::{AllocError, Global};
 /// What a field of a proof's file has to be.
 pub fn field_text(field: &str) -> &'static str {
     match field {
-        "version" => "version must be 1",
+        "version" => "version must be 1 or 2",
         "context" => {
             "context must give every parameter of the policy a value of its kind, and no other name"
         }
         "entries" => "each of entries must be a query and a row of its width and kinds",
         "goal" => "goal must be a question that is read",
-        "steps" => "each of steps must have the form of a step",
+        "steps" => "each of steps must have the form of a step, and one by a rule needs version 2",
         _ => "the keys must be context, entries, goal, steps and version, and no others",
     }
 }

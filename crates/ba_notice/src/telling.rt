@@ -67,12 +67,15 @@ fn unread_text<R: Files + AllocGlobal>(
     hint.line(alloc, file, &[])
 }
 
-// What is told of a file that has no reading.
+// What is told of a file that has no reading, or of a set of tables that breaks a rule.
 fn input_text<R: Files + AllocGlobal>(
     reads: &Reads<'_, R>,
     file: &str,
     reason: &Reason,
 ) -> Result<String, AllocError> {
+    if let Reason::RuleRow { rule, row } = reason {
+        return reads.rule_text(file, *rule, row);
+    }
     let part = Part::of_reason(reads.asked.len(), reason);
     match part {
         Part::Proof => reads.proof_text(file, reason),

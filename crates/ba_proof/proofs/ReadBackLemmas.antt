@@ -37,7 +37,7 @@ use Rattle.ba_proof.specs.ReadBack.{IsWritable, ReadsBack, RecordSpells, StepSpe
 use Rattle.ba_proof.specs.Reading.{context_at, entries_at, entry_at, entry_with, few_at, fields_of, goal_at, is_key, keys_at, proof_at, proof_with, question_at, steps_at, version_at}
 use Rattle.ba_proof.specs.Steps.{step_at}
 use Rattle.ba_proof.specs.Written.{count, entry_json, is_rule, list_json, proof_json, proof_text, step_json, value_json, version_of}
-use Rattle.ba_proof.specs.declared.version.TheConstants.{LAST_VERSION, RULE_VERSION}
+use Rattle.ba_proof.specs.declared.version.TheConstants.{RULE_VERSION}
 
 -- ---- lists
 
@@ -122,13 +122,13 @@ have_versions all = by (list_any is_rule all) refl
     by true e = versions RULE_VERSION all refl
     by false e = no_versions 1 all e
 
-version_reads : (all : List Step) → version_of all ≤ LAST_VERSION → version_at (Some (count (version_of all))) ≡ Ok (version_of all)
+version_reads : (all : List Step) → version_at (Some (count (version_of all))) ≡ Ok (version_of all)
 unfolding version_at
-version_reads all most = by (list_any is_rule all) most
+version_reads all = by (list_any is_rule all)
   where
-    by : (b : Bool) → cond b RULE_VERSION 1 ≤ LAST_VERSION → version_at (Some (count (cond b RULE_VERSION 1))) ≡ Ok (cond b RULE_VERSION 1)
-    by true h = absurd (omega (arith, h))
-    by false h = refl
+    by : (b : Bool) → version_at (Some (count (cond b RULE_VERSION 1))) ≡ Ok (cond b RULE_VERSION 1)
+    by true = refl
+    by false = refl
 
 -- ---- the fields
 
@@ -194,7 +194,7 @@ data_reads prints policy c trace q all w =
     let question = question_reads policy (proof_json p all) c (singles trace) q (context_field policy.params _ c values) (entries_read policy _ (singles trace) recorded)
     (goal_reads policy q (query_text policy.schema policy.params q) (prints policy.schema policy.params q w.goal)) in
     fields_read policy (proof_json p all) _ p all (version_of all) (few_read (map (step_json policy.params) all) (subst (λ n. n ≤ most_steps) (sym (length_map (step_json policy.params) all)) w.few))
-    (version_reads all w.version) (question ∙ ap Ok (same_problem policy c trace q)) (steps_read policy.params (version_of all) _ all taken) (keys_read _ _ _ _ _)
+    (version_reads all) (question ∙ ap Ok (same_problem policy c trace q)) (steps_read policy.params (version_of all) _ all taken) (keys_read _ _ _ _ _)
 
 pub reads_back : PrintedQueryReadsBack → (p : Problem) (all : List Step) (bytes : List ℕ) → IsUtf8 bytes → read bytes ≡ Some (proof_json p all) → ReadsBack p all bytes
 reads_back prints p all bytes text reading policy c trace q w e =

@@ -20,8 +20,6 @@ use Rattle.ba_kernel.specs.declared.step.Step.{Step}
 use Rattle.ba_kernel.specs.declared.step.Step.TheVariants as steps
 use Rattle.ba_sql_print.specs.ReadBack.{IsPrintable}
 use Rattle.ba_proof.specs.Reading.{proof_of}
-use Rattle.ba_proof.specs.Written.{version_of}
-use Rattle.ba_proof.specs.declared.version.TheConstants.{LAST_VERSION}
 
 -- a whole number has 64 bits
 abbrev pub ValueSpells : Value → Type 0
@@ -64,8 +62,8 @@ pub record RecordSpells (policy : Policy) (it : TraceEntry) : Type 0 where
   pub query : IsPrintable policy.schema policy.params it.query
   pub rows : All (All ValueSpells) it.rows
 
--- A question and steps that can be written and read: its queries can be printed, its numbers have their bits, the steps' terms are spelled, and the version is
--- one that is read. Rows may hold NULL.
+-- A question and steps that can be written and read: its queries can be printed, its numbers have their bits, and the steps' terms are spelled.
+-- Rows may hold NULL, and steps may be by rules.
 pub record IsWritable (policy : Policy) (c : Context) (trace : List TraceEntry) (q : Query) (all : List Step) : Type 0 where
   pub fits : QuestionFits policy c trace q
   pub context : All ValueSpells c.values
@@ -73,7 +71,6 @@ pub record IsWritable (policy : Policy) (c : Context) (trace : List TraceEntry) 
   pub goal : IsPrintable policy.schema policy.params q
   pub few : length all ≤ most_steps
   pub steps : All (StepSpells policy.params) all
-  pub version : version_of all ≤ LAST_VERSION
 
 -- the bytes are read as this problem and these steps, where they are those of a question that can be written
 abbrev pub ReadsBack : Problem → List Step → List ℕ → Type 0

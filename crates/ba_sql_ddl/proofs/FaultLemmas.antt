@@ -13,10 +13,13 @@ use Rattle.ba_model.specs.declared.failure.Failure.{Failure}
 use Rattle.ba_model.specs.declared.schema.Schema.{Schema}
 use Rattle.ba_model.specs.declared.schema.Table.{Table}
 use Rattle.ba_sql_ddl.specs.Check.{are_distinct, checked, columns_distinct, first_fault, schema, too_many}
+use Rattle.ba_sql_ddl.specs.Inclusions.{with_rules}
 use Rattle.ba_sql_ddl.specs.Numbers.{same_name}
+use Rattle.ba_sql_ddl.specs.Written.{InclusionText}
 use Rattle.ba_sql_ddl.specs.declared.fault.DdlFault.{DdlFault}
 use Rattle.ba_sql_ddl.specs.declared.fault.DdlFault.TheVariants.{Schema as SchemaFaulty}
 use Rattle.ba_sql_ddl.proofs.CheckLemmas.{columns_tell, names_told, columns_told, table_names_tell}
+use Rattle.ba_sql_ddl.proofs.InclusionLemmas.{with_tables}
 
 -- what a fault of a rank lacks
 abbrev Level : List Table → ℕ → Type 0
@@ -107,27 +110,27 @@ told tables =
 
 -- ---- a schema that was checked
 
-record IsChecked (s : Schema) : Type 0 where
-  tables : AreTables s.tables
-  rules : s.rules ≡ []
+-- it has no rules yet
+pub record IsChecked (tables : List Table) (s : Schema) : Type 0 where
+  pub none : first_fault tables ≡ None
+  pub tables_are : AreTables tables
+  pub is : s ≡ schema tables
 
-is_checked : (tables : List Table) (s : Schema) → checked tables ≡ Ok s → IsChecked s
+pub is_checked : (tables : List Table) (s : Schema) → checked tables ≡ Ok s → IsChecked tables s
 unfolding checked
 is_checked tables s e = at (first_fault tables) refl
   where
-    same : (t : Schema) → ◌≡◌ {A = Result Schema DdlFault} (Ok t) (Ok s) → t ≡ s
+    same : (t : Schema) → ◌≡◌ {A = Result Schema DdlFault} (Ok t) (Ok s) → s ≡ t
     same t e = cc
 
-    at : (f : Option SchemaFault) → first_fault tables ≡ f → IsChecked s
+    at : (f : Option SchemaFault) → first_fault tables ≡ f → IsChecked tables s
     at (Some f) k = let wrong : ◌≡◌ {A = Result Schema DdlFault} (Err (SchemaFaulty f)) (Ok s) = rw k at e in cc
     at None k =
         let is : ◌≡◌ {A = Result Schema DdlFault} (Ok (schema tables)) (Ok s) = rw k at e in
-        subst IsChecked (same (schema tables) is) (record { tables = subst (λ (o : Option SchemaFault). Told o tables) k (told tables); rules = refl })
+        record { none = k; tables_are = subst (λ (o : Option SchemaFault). Told o tables) k (told tables); is = same (schema tables) is }
 
-pub checked_tables : (tables : List Table) (r : Result Schema (Failure DdlFault)) → Gives r (checked tables) → IfOk r (λ s. AreTables s.tables)
-checked_tables tables (Ok s) e = (is_checked tables s e).tables
-checked_tables tables (Err f) e = tt
+pub checked_tables : (tables : List Table) (s : Schema) → checked tables ≡ Ok s → AreTables s.tables
+checked_tables tables s e = let c = is_checked tables s e in subst (λ (t : Schema). AreTables t.tables) (sym c.is) c.tables_are
 
-pub checked_rules : (tables : List Table) (r : Result Schema (Failure DdlFault)) → Gives r (checked tables) → IfOk r (λ s. s.rules ≡ [])
-checked_rules tables (Ok s) e = (is_checked tables s e).rules
-checked_rules tables (Err f) e = tt
+pub read_tables : (tables : List Table) (s : Schema) (texts : List InclusionText) (r : Result Schema (Failure DdlFault)) → checked tables ≡ Ok s → Gives r (with_rules s texts) → IfOk r (λ t. AreTables t.tables)
+read_tables tables s texts r e g = with_tables s texts r (checked_tables tables s e) g

@@ -4,8 +4,12 @@ pub mod CheckLemmas
 pub mod FormLemmas
 pub mod TableLemmas
 pub mod NumberLemmas
-pub mod ScanLemmas
 pub mod NullLemmas
 pub mod MeaningLemmas
+pub mod BracketLemmas
+pub mod StatementLemmas
+pub mod TextLemmas
+pub mod ScanLemmas
+pub mod InclusionLemmas
 pub mod FaultLemmas
 pub mod ReadingLemmas

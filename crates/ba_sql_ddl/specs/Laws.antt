@@ -1,25 +1,31 @@
 -- Which schema a file is, in SQL's terms.
-use Rattle.std.specs.Prelude.{◌≡◌, ◌↔◌, ℕ, IsTrue, List, [], All, Contains, ◌⊎◌, Ok, Err, Some, slice_get}
+use Rattle.std.specs.Prelude.{◌≡◌, ◌↔◌, ℕ, ◌<◌, ◌≤◌, IsTrue, List, [], ◌∷◌, ◌++◌, length, All, Contains, ◌⊎◌, Ok, Err, Some, slice_get}
 use Rattle.std.specs.List.{AllZip, flat_map}
 use Rattle.ba_lex.specs.Tokens.{file_tokens_of, lexemes_of}
 use Rattle.ba_lex.specs.declared.token.LexFault.{LexFault}
 use Rattle.ba_lex.specs.declared.token.Lexeme.{Lexeme}
 use Rattle.ba_lex.specs.declared.token.Token.{Token}
+use Rattle.ba_model.specs.RuleFaults.{IsSchema, RuleFits}
 use Rattle.ba_model.specs.SchemaFaults.{AreTables, IsFirstFault}
 use Rattle.ba_model.specs.declared.check_schema.SchemaFault.{SchemaFault}
-use Rattle.ba_model.specs.Limits.{most_text_bytes}
+use Rattle.ba_model.specs.Limits.{most_rules, most_text_bytes}
+use Rattle.ba_model.specs.declared.limits.Counted.{Counted}
+use Rattle.ba_model.specs.declared.limits.Counted.TheVariants.{Rules}
 use Rattle.ba_model.specs.declared.schema.Column.{Column}
 use Rattle.ba_model.specs.declared.schema.Link.{Link}
+use Rattle.ba_model.specs.declared.schema.Rule.{Rule}
 use Rattle.ba_model.specs.declared.schema.Schema.{Schema}
 use Rattle.ba_model.specs.declared.schema.Table.{Table}
+use Rattle.ba_sql_ddl.specs.Inclusions.{IsRuleOf, Refuses}
 use Rattle.ba_sql_ddl.specs.Meaning.{LinkText, columns_in, draft_of, keys_in, kind_of, links_in, names_in, primary_names}
 use Rattle.ba_sql_ddl.specs.Reading.{schema_of}
-use Rattle.ba_sql_ddl.specs.Scan.{IsFirstUnsupported, IsSupported}
-use Rattle.ba_sql_ddl.specs.Written.{AreWritten}
-use Rattle.ba_sql_ddl.specs.declared.fault.DdlFault.TheVariants.{Lex, Unsupported, Syntax, Schema as SchemaFaulty}
+use Rattle.ba_sql_ddl.specs.Scan.{AreSupported, HasFirst}
+use Rattle.ba_sql_ddl.specs.Written.{AreStatements, InclusionText, StatementText, inclusions_in, tables_in}
+use Rattle.ba_sql_ddl.specs.declared.fault.DdlFault.TheVariants.{Lex, Unsupported, Syntax, Schema as SchemaFaulty, TooMany, Rule as RuleFault}
 use Rattle.ba_sql_ddl.specs.declared.written.ColumnRule.TheVariants.{NotNull}
 use Rattle.ba_sql_ddl.specs.declared.written.ColumnText.{ColumnText}
 use Rattle.ba_sql_ddl.specs.declared.written.TableText.{TableText}
+use Rattle.ba_sql_query.specs.declared.fault.ReadQueryFault.{ReadQueryFault}
 
 -- ---- words
 
@@ -29,12 +35,12 @@ pub record AreWords (bytes : List ℕ) (words : List Lexeme) : Type 0 where
   pub read : file_tokens_of most_text_bytes bytes ≡ Ok tokens
   pub say : words ≡ lexemes_of tokens
 
--- the file's words are these tables, and no word is unsupported
-pub record IsWrittenSchema (bytes : List ℕ) (texts : List TableText) : Type 0 where
+-- the file's words are these statements, and none outside of the queries of rules is unsupported
+pub record IsWrittenSchema (bytes : List ℕ) (statements : List StatementText) : Type 0 where
   pub words : List Lexeme
   pub are : AreWords bytes words
-  pub supported : All IsSupported words
-  pub written : AreWritten texts words
+  pub supported : AreSupported words
+  pub written : AreStatements statements words
 
 -- ---- names
 
@@ -75,33 +81,65 @@ pub record IsTableOf (texts : List TableText) (t : TableText) (table : Table) : 
   pub keys : AllZip (AreNumbersOf (names_in t.items)) (flat_map keys_in t.items) table.keys
   pub links : AllZip (IsLink texts t) (flat_map links_in t.items) table.links
 
--- the file is a written schema, the schema's tables are those written, well formed and within the limits, and it has no rules
+-- ---- schemas
+
+-- the schema of tables alone, over which rules are read
+abbrev pub of_tables : List Table → Schema
+of_tables tables = record { tables = tables; rules = [] }
+
+-- the file is a written schema; the schema's tables are those written, its rules are those that their words read as over the tables, in the order of the text;
+-- it is well formed and within the limits
 pub record ReadsSchema (bytes : List ℕ) (schema : Schema) : Type 0 where
-  pub texts : List TableText
-  pub written : IsWrittenSchema bytes texts
-  pub tables : AllZip (IsTableOf texts) texts schema.tables
-  pub well_formed : AreTables schema.tables
-  pub rules : schema.rules ≡ []
+  pub statements : List StatementText
+  pub written : IsWrittenSchema bytes statements
+  pub tables : AllZip (IsTableOf (tables_in statements)) (tables_in statements) schema.tables
+  pub rules : AllZip (IsRuleOf (of_tables schema.tables)) (inclusions_in statements) schema.rules
+  pub well_formed : IsSchema schema
 
 -- ---- faults
 
 pub record HasUnsupported (bytes : List ℕ) (word : List ℕ) : Type 0 where
   pub words : List Lexeme
   pub are : AreWords bytes words
-  pub first : IsFirstUnsupported word words
+  pub first : HasFirst word words
 
--- the words are supported, and no tables are written so
+-- the words are supported, and no statements are written so
 pub record HasNoForm (bytes : List ℕ) : Type 0 where
   pub words : List Lexeme
   pub are : AreWords bytes words
-  pub supported : All IsSupported words
-  pub none : (texts : List TableText) → ¬ AreWritten texts words
+  pub supported : AreSupported words
+  pub none : (statements : List StatementText) → ¬ AreStatements statements words
 
 -- the tables meant have the fault as their first; a name that isn't there has a number that isn't
 pub record HasSchemaFault (bytes : List ℕ) (fault : SchemaFault) : Type 0 where
-  pub texts : List TableText
-  pub written : IsWrittenSchema bytes texts
-  pub first : IsFirstFault fault (draft_of texts)
+  pub statements : List StatementText
+  pub written : IsWrittenSchema bytes statements
+  pub first : IsFirstFault fault (draft_of (tables_in statements))
+
+-- the tables have no fault, and there are more than most_rules rules
+pub record HasTooMany (bytes : List ℕ) (what : Counted) (limit : ℕ) : Type 0 where
+  pub statements : List StatementText
+  pub written : IsWrittenSchema bytes statements
+  pub tables : AreTables (draft_of (tables_in statements))
+  pub many : most_rules < length (inclusions_in statements)
+  pub of_rules : what ≡ Rules
+  pub most : limit ≡ most_rules
+
+-- the tables have no fault, and there aren't too many rules; those before the one of this number are rules of the tables, and it has the fault
+pub record HasRuleFault (bytes : List ℕ) (number : ℕ) (fault : ReadQueryFault) : Type 0 where
+  pub statements : List StatementText
+  pub written : IsWrittenSchema bytes statements
+  pub tables : AreTables (draft_of (tables_in statements))
+  pub few : length (inclusions_in statements) ≤ most_rules
+  pub before : List InclusionText
+  pub text : InclusionText
+  pub after : List InclusionText
+  pub are : inclusions_in statements ≡ before ++ text ∷ after
+  pub numbered : number ≡ length before
+  pub rules : List Rule
+  pub read : AllZip (IsRuleOf (of_tables (draft_of (tables_in statements)))) before rules
+  pub fit : All (RuleFits (of_tables (draft_of (tables_in statements)))) rules
+  pub refused : Refuses (of_tables (draft_of (tables_in statements))) text fault
 
 -- ---- the laws
 
@@ -122,3 +160,9 @@ SyntaxReading = (bytes : List ℕ) → (schema_of bytes ≡ Err Syntax) ↔ HasN
 
 abbrev pub SchemaFaultReading : Type 0
 SchemaFaultReading = (bytes : List ℕ) (fault : SchemaFault) → (schema_of bytes ≡ Err (SchemaFaulty fault)) ↔ HasSchemaFault bytes fault
+
+abbrev pub TooManyReading : Type 0
+TooManyReading = (bytes : List ℕ) (what : Counted) (limit : ℕ) → (schema_of bytes ≡ Err (TooMany what limit)) ↔ HasTooMany bytes what limit
+
+abbrev pub RuleFaultReading : Type 0
+RuleFaultReading = (bytes : List ℕ) (number : ℕ) (fault : ReadQueryFault) → (schema_of bytes ≡ Err (RuleFault number fault)) ↔ HasRuleFault bytes number fault

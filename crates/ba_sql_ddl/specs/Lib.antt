@@ -1,8 +1,10 @@
+pub mod Brackets
 pub mod Written
 pub mod Reader
 pub mod Scan
 pub mod Numbers
 pub mod Meaning
 pub mod Check
+pub mod Inclusions
 pub mod Reading
 pub mod Laws

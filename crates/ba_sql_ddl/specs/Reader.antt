@@ -1,11 +1,13 @@
--- Tables read from the left.
-use Rattle.std.specs.Prelude.{ℕ, zero, suc, ℤ, Bool, ◌||◌, List, [], ◌∷◌, length, Option, Some, None, Result, Ok, Err, codes, if◌then◌else◌}
+-- Tables, and inclusion rules, read from the left.
+use Rattle.std.specs.Prelude.{ℕ, zero, suc, ℤ, Bool, ◌||◌, ◌&&◌, List, [], ◌∷◌, length, Option, Some, None, Result, Ok, Err, codes, if◌then◌else◌}
 use Rattle.ba_model.specs.Readings.{◌>>=◌}
 use Rattle.ba_grammar.specs.Front.{Read, all, begins, is_keyword, is_sign, listed, name_at, number_at, past, syntax}
 use Rattle.ba_grammar.specs.declared.error.Syntax.{Syntax}
 use Rattle.ba_lex.specs.declared.token.Lexeme.{Lexeme}
 use Rattle.ba_lex.specs.declared.token.Sign.TheVariants.{LeftParen, RightParen, Semicolon, Comma}
-use Rattle.ba_sql_ddl.specs.Written.{reserved}
+use Rattle.ba_sql_ddl.specs.Brackets.{from_close, inside}
+use Rattle.ba_sql_ddl.specs.Written.{InclusionText, StatementText, WrittenSchema, reserved, text_in, with_inclusion, with_statement, with_table}
+use Rattle.ba_sql_ddl.specs.Written.StatementText.{inclusion as an_inclusion, table as a_table}
 use Rattle.ba_sql_ddl.specs.declared.written.ColumnRule.{ColumnRule}
 use Rattle.ba_sql_ddl.specs.declared.written.ColumnRule.TheVariants.{NotNull, Null, PrimaryKey, Unique, References}
 use Rattle.ba_sql_ddl.specs.declared.written.ColumnText.{ColumnText}
@@ -175,5 +177,58 @@ table_at words = do
   rest ← past (is_sign Semicolon) rest
   Ok (record { name = name.0; items = items.0 }, rest)
 
-abbrev pub tables_at : List Lexeme → Result (List TableText) Syntax
-tables_at words = all table_at (length words) words
+-- ---- an inclusion rule
+
+-- the words behind RULE "("
+unfoldable pub behind_rule : List Lexeme → Option (List Lexeme)
+behind_rule [] = None
+behind_rule (x ∷ []) = None
+behind_rule (x ∷ y ∷ rest) = if is_keyword (codes "RULE") x && is_sign LeftParen y then Some rest else None
+
+-- the words behind ")" WITHIN "("
+unfoldable pub behind_within : List Lexeme → Option (List Lexeme)
+behind_within [] = None
+behind_within (x ∷ []) = None
+behind_within (x ∷ y ∷ []) = None
+behind_within (x ∷ y ∷ z ∷ rest) = if is_sign RightParen x && (is_keyword (codes "WITHIN") y && is_sign LeftParen z) then Some rest else None
+
+-- the words behind ")" ";"
+unfoldable pub behind_end : List Lexeme → Option (List Lexeme)
+behind_end [] = None
+behind_end (x ∷ []) = None
+behind_end (x ∷ y ∷ rest) = if is_sign RightParen x && is_sign Semicolon y then Some rest else None
+
+abbrev pub or_syntax : Option (List Lexeme) → Result (List Lexeme) Syntax
+or_syntax None = Err syntax
+or_syntax (Some rest) = Ok rest
+
+unfoldable pub inclusion_at : List Lexeme → Read InclusionText
+inclusion_at words = do
+  left ← or_syntax (behind_rule words)
+  right ← or_syntax (behind_within (from_close left))
+  rest ← or_syntax (behind_end (from_close right))
+  Ok (record { left = inside left; right = inside right }, rest)
+
+-- ---- statements
+
+unfoldable pub statement_at : List Lexeme → Read StatementText
+statement_at words =
+    if begins (is_keyword (codes "RULE")) words then (inclusion_at words >>= λ i. Ok (an_inclusion i.0, i.1))
+    else (table_at words >>= λ t. Ok (a_table t.0, t.1))
+
+-- the same, added to what was read before
+abbrev pub inclusion_added : WrittenSchema → List Lexeme → Read WrittenSchema
+inclusion_added w words = inclusion_at words >>= λ i. Ok (with_inclusion w i.0, i.1)
+
+abbrev pub table_added : WrittenSchema → List Lexeme → Read WrittenSchema
+table_added w words = table_at words >>= λ t. Ok (with_table w t.0, t.1)
+
+abbrev pub statement_added : WrittenSchema → List Lexeme → Read WrittenSchema
+statement_added w words = statement_at words >>= λ s. Ok (with_statement w s.0, s.1)
+
+abbrev pub statements_at : List Lexeme → Result (List StatementText) Syntax
+statements_at words = all statement_at (length words) words
+
+-- all of the words as statements: the tables and the inclusion rules
+unfoldable pub text_at : List Lexeme → Result WrittenSchema Syntax
+text_at words = statements_at words >>= λ ss. Ok (text_in ss)

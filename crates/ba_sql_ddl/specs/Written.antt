@@ -1,10 +1,13 @@
--- The grammar of schemas: which words spell a written table.
-use Rattle.std.specs.Prelude.{◌≢◌, ℕ, ℤ, List, [], ◌∷◌, ◌++◌, map, All, Option, Some, None, codes}
+-- The grammar of schemas: which words spell a written table, and which an inclusion rule.
+use Rattle.std.specs.Prelude.{◌≡◌, ◌≢◌, ℕ, ℤ, List, [], ◌∷◌, ◌++◌, map, All, Option, Some, None, codes}
 use Rattle.std.specs.List.{flat_map}
 use Rattle.ba_grammar.specs.Items.{AreSpelled, Item, with_commas}
 use Rattle.ba_grammar.specs.Items.Item.{keyword, name, number, sign}
 use Rattle.ba_lex.specs.declared.token.Lexeme.{Lexeme}
 use Rattle.ba_lex.specs.declared.token.Sign.TheVariants.{LeftParen, RightParen, Semicolon}
+use Rattle.ba_sql_ddl.specs.Brackets.{AreBalanced}
+use Rattle.ba_sql_ddl.specs.declared.statement.Inclusion.{Inclusion}
+use Rattle.ba_sql_ddl.specs.declared.statement.SchemaText.{SchemaText}
 use Rattle.ba_sql_ddl.specs.declared.written.ColumnRule.{ColumnRule}
 use Rattle.ba_sql_ddl.specs.declared.written.ColumnRule.TheVariants.{NotNull, Null, PrimaryKey, Unique, References}
 use Rattle.ba_sql_ddl.specs.declared.written.ColumnText.{ColumnText}
@@ -113,7 +116,92 @@ pub record IsTable (t : TableText) : Type 0 where
   pub some : t.items ≢ []
   pub each : All IsItem t.items
 
--- the words are these tables, one after the other
-pub record AreWritten (tables : List TableText) (words : List Lexeme) : Type 0 where
-  pub each : All IsTable tables
-  pub spelled : AreSpelled (flat_map table_items tables) words
+-- ---- inclusion rules
+
+-- an inclusion rule as it is written: the words of its two queries
+pub record InclusionText : Type 0 where
+  pub left : List Lexeme
+  pub right : List Lexeme
+
+-- the words begin with these items, and the rest stands behind them
+pub record Begins (items : List Item) (words rest : List Lexeme) : Type 0 where
+  pub front : List Lexeme
+  pub spelled : AreSpelled items front
+  pub are : words ≡ front ++ rest
+
+-- RULE "("
+abbrev pub rule_opens : List Item
+rule_opens = keyword (codes "RULE") ∷ sign LeftParen ∷ []
+
+-- ")" WITHIN "("
+abbrev pub within_opens : List Item
+within_opens = sign RightParen ∷ keyword (codes "WITHIN") ∷ sign LeftParen ∷ []
+
+-- ")" ";"
+abbrev pub rule_ends : List Item
+rule_ends = sign RightParen ∷ sign Semicolon ∷ []
+
+-- RULE "(" left ")" WITHIN "(" right ")" ";" and then the rest; the words of each query go to the bracket that matches the one before them
+pub record IsInclusion (text : InclusionText) (words rest : List Lexeme) : Type 0 where
+  pub middle : List Lexeme
+  pub back : List Lexeme
+  pub opens : Begins rule_opens words (text.left ++ middle)
+  pub left : AreBalanced text.left
+  pub within : Begins within_opens middle (text.right ++ back)
+  pub right : AreBalanced text.right
+  pub ends : Begins rule_ends back rest
+
+-- ---- statements
+
+-- a statement as it is written
+pub data StatementText : Type 0 where
+  table : TableText → StatementText
+  inclusion : InclusionText → StatementText
+
+-- the statement stands at the front of the words, and the rest behind it
+abbrev pub IsStatement : StatementText → List Lexeme → List Lexeme → Type 0
+IsStatement (table t) words rest = IsTable t × Begins (table_items t) words rest
+IsStatement (inclusion i) words rest = IsInclusion i words rest
+
+-- the words are these statements, one after the other
+abbrev pub AreStatements : List StatementText → List Lexeme → Type 0
+AreStatements [] words = words ≡ []
+AreStatements (s ∷ ss) words = (rest : List Lexeme) × IsStatement s words rest × AreStatements ss rest
+
+-- the tables among statements, in order
+abbrev pub tables_in : List StatementText → List TableText
+tables_in [] = []
+tables_in (table t ∷ ss) = t ∷ tables_in ss
+tables_in (inclusion i ∷ ss) = tables_in ss
+
+-- the inclusion rules among statements, in order
+abbrev pub inclusions_in : List StatementText → List InclusionText
+inclusions_in [] = []
+inclusions_in (table t ∷ ss) = inclusions_in ss
+inclusions_in (inclusion i ∷ ss) = i ∷ inclusions_in ss
+
+-- ---- what the program's values stand for
+
+abbrev pub seen : Inclusion → InclusionText
+seen i = record { left = i.left.now; right = i.right.now }
+
+-- tables and inclusion rules, as they are written
+pub record WrittenSchema : Type 0 where
+  pub tables : List TableText
+  pub inclusions : List InclusionText
+
+abbrev pub seen_text : SchemaText → WrittenSchema
+seen_text text = record { tables = text.tables; inclusions = map seen text.inclusions }
+
+abbrev pub text_in : List StatementText → WrittenSchema
+text_in ss = record { tables = tables_in ss; inclusions = inclusions_in ss }
+
+abbrev pub with_table : WrittenSchema → TableText → WrittenSchema
+with_table w t = record { tables = w.tables ++ t ∷ []; inclusions = w.inclusions }
+
+abbrev pub with_inclusion : WrittenSchema → InclusionText → WrittenSchema
+with_inclusion w i = record { tables = w.tables; inclusions = w.inclusions ++ i ∷ [] }
+
+abbrev pub with_statement : WrittenSchema → StatementText → WrittenSchema
+with_statement w (table t) = with_table w t
+with_statement w (inclusion i) = with_inclusion w i

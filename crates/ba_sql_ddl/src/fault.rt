@@ -4,7 +4,8 @@ ghost use Rattle.ba_sql_ddl.specs.declared.fault.DdlFault.TheVariants as faults;
 
 use ba_grammar::Syntax;
 use ba_lex::LexFault;
-use ba_model::{SchemaFault, Str};
+use ba_model::{Counted, SchemaFault, Str};
+use ba_sql_query::ReadQueryFault;
 
 /// Why a file is no schema. Of several faults the first of this order is told.
 #[derive(Debug, Drop)]
@@ -17,6 +18,11 @@ pub enum DdlFault {
     Syntax,
     /// The tables are no schema.
     Schema(SchemaFault),
+    /// There are more inclusion rules than the limit.
+    TooMany { what: Counted, limit: u64 },
+    /// The inclusion rule of this number, from 0, is the first that has a fault: that of its left
+    /// query, else that of its right one, else that their heads differ in length or kinds.
+    Rule(u32, ReadQueryFault),
 }
 
 impl From<LexFault> for DdlFault {

@@ -1,6 +1,6 @@
 //! Tables read from the left.
-ghost use Rattle.std.specs.Prelude.{◌≡◌, length};
-ghost use Rattle.ba_model.specs.Readings.{Gives, Sees};
+ghost use Rattle.std.specs.Prelude.{◌≡◌};
+ghost use Rattle.ba_model.specs.Readings.{Sees};
 ghost use Rattle.ba_grammar.specs.Front.{begins};
 ghost use Rattle.ba_sql_ddl.specs.Reader as reader;
 
@@ -8,7 +8,7 @@ use crate::written::{
     ColumnRule, ColumnText, Constraint, Name, TableItem, TableRule, TableText, TypeText, TypeWord,
 };
 use ba_grammar::{
-    Element, Syntax, all, begins_with_keyword, begins_with_sign, is_keyword, listed, name, number,
+    Element, Syntax, begins_with_keyword, begins_with_sign, is_keyword, listed, name, number,
     past_keyword, past_sign,
 };
 use ba_lex::{Lexeme, Sign};
@@ -320,8 +320,9 @@ impl Element<Lexeme> for TableItem {
     }
 }
 
+/// `CREATE TABLE name ( item {, item} ) ;`
 #[tactic(auto, unfolding(crate::specs::Reader::table_at))]
-fn table(alloc: Global, words: &[Lexeme]) -> Result<(TableText, &[Lexeme]), Failure<Syntax>>
+pub fn table(alloc: Global, words: &[Lexeme]) -> Result<(TableText, &[Lexeme]), Failure<Syntax>>
     ensures { Sees (λ x. (x.0, x.1.now)) result (reader.table_at words.now) }
 {
     let rest = past_keyword(words, "CREATE")?;
@@ -332,21 +333,4 @@ fn table(alloc: Global, words: &[Lexeme]) -> Result<(TableText, &[Lexeme]), Fail
     let rest = past_sign(rest, Sign::RightParen)?;
     let rest = past_sign(rest, Sign::Semicolon)?;
     Ok((TableText { name, items }, rest))
-}
-
-impl Element<Lexeme> for TableText {
-    ghost use Rattle.ba_sql_ddl.specs.Reader.{table_at};
-
-    ghost read_at = { table_at };
-
-    fn read(alloc: Global, words: &[Lexeme]) -> Result<(TableText, &[Lexeme]), Failure<Syntax>> {
-        table(alloc, words)
-    }
-}
-
-/// All of the words as tables, one after the other.
-pub fn tables(alloc: Global, words: &[Lexeme]) -> Result<List<TableText>, Failure<Syntax>>
-    ensures { Gives result (reader.tables_at words.now) }
-{
-    all::<TableText>(alloc, words)
 }

@@ -1,4 +1,4 @@
--- Rows that fit conform where no key and no link is broken and there are no rules.
+-- Rows that fit conform where no key and no link is broken and the rules hold.
 use Rattle.std.proofs.Common.{◌≡◌, ℕ, zero, suc, ◌+◌, ◌<◌, Bool, true, false, not, ◌&&◌, nat_lt, List, [], ◌∷◌, ◌++◌, length, Option, Some, None, refl, sym, ◌∙◌, arith, append_assoc, length-append, subst}
 use Rattle.std.proofs.lemmas.Bool.Decides.{nat_tests}
 use Rattle.std.proofs.lemmas.List.Elements.{All-cons, All-nil}
@@ -19,9 +19,6 @@ use Rattle.ba_tables.specs.TableSet.{RowsFit}
 use Rattle.ba_tables.specs.declared.broken.TablesFault.TheVariants.{KeyBroken, LinkBroken}
 use Rattle.ba_tables.proofs.AgreeLemmas.{agrees_decides, both, no_null_along, no_null_test}
 use Rattle.ba_tables.proofs.PositionLemmas.{position-none}
-
-none : {X : Type 0} (P : X → Type 0) (xs : List X) → xs ≡ [] → All P xs
-none P xs e = subst (All P) (sym e) (All-nil P)
 
 pub or_none : {X : Type 0} (a b : Option X) → option_or a b ≡ None → (a ≡ None) × (b ≡ None)
 or_none None b e = (refl, e)
@@ -112,9 +109,5 @@ tables_conform number d (table ∷ tables) (rows ∷ lists) h fit =
       tables_conform (number + 1) d tables lists p.1 fit.1,
     )
 
-pub unbroken_conforms : (s : Schema) (d : RowSet) → RowsFit s d → s.rules ≡ [] → broken_table 0 d s.tables d.tables ≡ None → Conforms s d
-unbroken_conforms s d fit no_rules h = record { tables = tables_conform 0 d s.tables d.tables h fit.tables; rules = none (RuleHolds d) s.rules no_rules }
-
--- no broken table, of rows and a schema that are told in other words
-pub none_as : (s t : Schema) (d e : RowSet) → t ≡ s → e ≡ d → broken_table 0 e t.tables e.tables ≡ None → broken_table 0 d s.tables d.tables ≡ None
-none_as s t d e f g h = subst (λ x. broken_table 0 d x.tables d.tables ≡ None) f (subst (λ x. broken_table 0 x t.tables x.tables ≡ None) g h)
+pub unbroken_conforms : (s : Schema) (d : RowSet) → RowsFit s d → broken_table 0 d s.tables d.tables ≡ None → All (RuleHolds d) s.rules → Conforms s d
+unbroken_conforms s d fit h rules = record { tables = tables_conform 0 d s.tables d.tables h fit.tables; rules = rules }

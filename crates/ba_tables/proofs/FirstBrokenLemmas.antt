@@ -1,25 +1,32 @@
--- Checking tells the first broken key or link, and passes where none is broken.
-use Rattle.std.proofs.Common.{◌≡◌, ℕ, ◌+◌, ◌<◌, ◌⊎◌, inl, inr, Bool, true, false, not, List, [], Option, Some, None, Ok, Err, refl, sym, ◌∙◌, arith, subst, nat_lt}
+-- The first broken key or link of the tables, and the first broken rule after them.
+use Rattle.std.proofs.Common.{◌≡◌, ℕ, ◌+◌, ◌<◌, ◌⊎◌, inl, inr, Bool, true, false, not, List, [], Option, Some, None, refl, sym, ap, ◌∙◌, arith, subst, nat_lt}
 use Rattle.std.proofs.lemmas.Bool.Decides.{nat_tests}
 use Rattle.std.specs.List.{list_any, position_from}
+use Rattle.std.specs.Ordering.{is_gt, ordering_reverse}
 use Rattle.std.specs.Prelude.{slice_get}
+use Rattle.std.specs.declared.cmp.Ordering.{Ordering}
+use Rattle.std.specs.declared.cmp.Ordering.TheVariants.{Less, Equal, Greater}
 use Rattle.ba_model.proofs.TestLemmas.{any_decides}
 use Rattle.ba_model.specs.Conform.{Match, NoNull}
 use Rattle.ba_model.specs.Meaning.{rows_of}
+use Rattle.ba_model.specs.Order.{row_cmp}
+use Rattle.ba_model.specs.OrderLaws.{row_total}
 use Rattle.ba_model.specs.declared.schema.Link.{Link}
+use Rattle.ba_model.specs.declared.schema.Rule.{Rule}
 use Rattle.ba_model.specs.declared.schema.Schema.{Schema}
 use Rattle.ba_model.specs.declared.schema.Table.{Table}
 use Rattle.ba_model.specs.declared.value.RowSet.{RowSet}
 use Rattle.ba_model.specs.declared.value.Value.{Value}
-use Rattle.ba_tables.specs.Breaks.{Before, BreaksKey, BreaksLink, IsBroken, IsFirstBroken, IsTableAt, TellsFirstBroken}
-use Rattle.ba_tables.specs.Broken.{agrees, broken_key, broken_link, broken_table, clash_after, clashes, dangles, has_no_null, tables_unless}
-use Rattle.ba_tables.specs.TableSet.{TableSet}
+use Rattle.ba_tables.specs.Breaks.{Before, BreaksKey, BreaksLink, BreaksRule, IsBroken, IsFirstBroken, IsTableAt}
+use Rattle.ba_tables.specs.Broken.{agrees, broken_key, broken_link, broken_table, clash_after, clashes, dangles, has_no_null}
+use Rattle.ba_tables.specs.Rules.{broken_rule, least_breaking}
 use Rattle.ba_tables.specs.declared.broken.TablesFault.{TablesFault}
-use Rattle.ba_tables.specs.declared.broken.TablesFault.TheVariants.{KeyBroken, LinkBroken}
+use Rattle.ba_tables.specs.declared.broken.TablesFault.TheVariants.{KeyBroken, LinkBroken, RuleBroken}
 use Rattle.ba_tables.proofs.AgreeLemmas.{agrees_decides, both, halves, no_null_test, no_null_told}
 use Rattle.ba_tables.proofs.ConformLemmas.{none_clashes}
 use Rattle.ba_tables.proofs.FoundLemmas.{FirstClash, FirstTable, FoundAt, IsQuiet, clash_first, key_first, link_first, no_keys, no_links, no_tables, table_first}
 use Rattle.ba_tables.proofs.PositionLemmas.{position-none}
+use Rattle.ba_tables.proofs.RuleLemmas.{BreaksFirst, FirstRule, breaking_none, breaking_told, no_rules, rule_first}
 
 clash_test : (key : List ℕ) (later earlier : List Value) → NoNull later key → Match later key earlier key → clashes key later earlier ≡ true
 clash_test key later earlier n m = both (has_no_null later key) (agrees later key earlier key) (no_null_test later key n) ((agrees_decides later key earlier key).1 m)
@@ -108,9 +115,10 @@ quiet_key number d table rows k columns first second e at h = no_clash_no_break 
 quiet_link : (number : ℕ) (d : RowSet) (table : Table) (rows : List (List Value)) (k : ℕ) (link : Link) (row : ℕ) → broken_link number 0 d rows table.links ≡ None → slice_get table.links k ≡ Some link → BreaksLink d rows link row → ⊥
 quiet_link number d table rows k link row e at h = no_dangling_no_break d rows link row (no_links number 0 d rows table.links k link e at) h
 
-quiet_fault : (s : Schema) (d : RowSet) (fault : TablesFault) → ((number : ℕ) (table : Table) (rows : List (List Value)) → IsTableAt s d number table rows → IsQuiet (0 + number) d table rows) → IsBroken s d fault → ⊥
-quiet_fault s d (KeyBroken number key first second) q (table, rows, columns, at, is, breaks) = quiet_key (0 + number) d table rows key columns first second (q number table rows at).keys is breaks
-quiet_fault s d (LinkBroken number link row) q (table, rows, it, at, is, breaks) = quiet_link (0 + number) d table rows link it row (q number table rows at).links is breaks
+pub quiet_fault : (s : Schema) (d : RowSet) (fault : TablesFault) → ((number : ℕ) (table : Table) (rows : List (List Value)) → IsTableAt s d number table rows → IsQuiet (0 + number) d table rows) → broken_rule 0 d s.rules ≡ None → IsBroken s d fault → ⊥
+quiet_fault s d (KeyBroken number key first second) q none (table, rows, columns, at, is, breaks) = quiet_key (0 + number) d table rows key columns first second (q number table rows at).keys is breaks
+quiet_fault s d (LinkBroken number link row) q none (table, rows, it, at, is, breaks) = quiet_link (0 + number) d table rows link it row (q number table rows at).links is breaks
+quiet_fault s d (RuleBroken number row) q none (rule, at, breaks) = breaking_none d rule row (no_rules 0 d s.rules number rule none at) breaks
 
 same_table : (s : Schema) (d : RowSet) (n m : ℕ) (table other : Table) (rows list : List (List Value)) → n ≡ m → IsTableAt s d n table rows → IsTableAt s d m other list → (table ≡ other) × (rows ≡ list)
 same_table s d n m table other rows list e a b =
@@ -142,6 +150,7 @@ key_is_first s d n table rows number first second key place key_is clash earlier
         clash_least rows key first second a b clash (subst (λ x. BreaksKey rows x a b) mine (subst (λ x. BreaksKey x columns a b) two breaks)) less
 key_is_first s d n table rows number first second key place key_is clash earlier (LinkBroken t k i) (it, list, link, at, is, breaks) less =
     quiet_link (0 + t) d it list k link i (place.quiet_before t it list less at).links is breaks
+key_is_first s d n table rows number first second key place key_is clash earlier (RuleBroken k r) broken before = absurd before
 
 link_is_first : (s : Schema) (d : RowSet) (n : ℕ) (table : Table) (rows : List (List Value)) (number row : ℕ) (link : Link) → Place s d n table rows → broken_key n 0 rows table.keys ≡ None → slice_get table.links number ≡ Some link
     → FoundAt (dangles link (rows_of d link.target)) 1 rows row
@@ -168,6 +177,7 @@ link_is_first s d n table rows number row link place keys link_is found earlier 
     inside one two (inr (level, less)) =
         let mine = same_element table.links k number other link level (subst (λ x. slice_get x.links k ≡ Some other) one is) link_is in
         dangling_least d rows link row i found (subst (λ x. BreaksLink d rows x i) mine (subst (λ x. BreaksLink d x other i) two breaks)) less
+link_is_first s d n table rows number row link place keys link_is found earlier (RuleBroken k r) broken before = absurd before
 
 pub first_broken : (s : Schema) (d : RowSet) (fault : TablesFault) → broken_table 0 d s.tables d.tables ≡ Some fault → IsFirstBroken s d fault
 first_broken s d fault e = by (table_first 0 d s.tables d.tables fault e)
@@ -204,17 +214,33 @@ first_broken s d fault e = by (table_first 0 d s.tables d.tables fault e)
               first = link_is_first s d h.number h.table h.rows f.number f.row f.link place none link_is f.found (λ n other less there. f.earlier n other (omega arith) there);
             })
 
-fault_told : (s : Schema) (d : RowSet) (o : Option TablesFault) (fault : TablesFault) → tables_unless s d o ≡ Err fault → o ≡ Some fault
-fault_told s d None fault e = cc e
-fault_told s d (Some f) fault e = cc e
+-- ---- rules
 
-none_told : (s : Schema) (d : RowSet) (o : Option TablesFault) (tables : TableSet) → tables_unless s d o ≡ Ok tables → o ≡ None
-none_told s d None tables e = refl
-none_told s d (Some f) tables e = cc e
+not_before : (o p : Ordering) → p ≡ ordering_reverse o → o ≡ Less → is_gt p ≡ false → ⊥
+not_before Less p e f g = let turned : p ≡ Greater = e in cc (sym (ap is_gt turned) ∙ g)
+not_before Equal p e f g = cc f
+not_before Greater p e f g = cc f
 
-pub tells_first_broken : TellsFirstBroken
-tells_first_broken = record {
-  told = λ s d fault e. first_broken s d fault (fault_told s d (broken_table 0 d s.tables d.tables) fault e);
-  passed = λ s d tables e fault.
-      quiet_fault s d fault (λ number table rows at. no_tables 0 d s.tables d.tables number table rows (none_told s d (broken_table 0 d s.tables d.tables) tables e) at.table_is at.rows_are);
-}
+rule_is_first : (s : Schema) (d : RowSet) (n : ℕ) (row : List Value) (rule : Rule) → ((number : ℕ) (table : Table) (rows : List (List Value)) → IsTableAt s d number table rows → IsQuiet (0 + number) d table rows) → slice_get s.rules n ≡ Some rule → BreaksFirst d rule row
+    → ((k : ℕ) (other : Rule) → k < n → slice_get s.rules k ≡ Some other → least_breaking d other ≡ None) → (other : TablesFault) → IsBroken s d other → Before other (RuleBroken n row) → ⊥
+rule_is_first s d n row rule q rule_is least earlier (KeyBroken t k a b) (table, rows, columns, at, is, breaks) before = quiet_key (0 + t) d table rows k columns a b (q t table rows at).keys is breaks
+rule_is_first s d n row rule q rule_is least earlier (LinkBroken t k i) (table, rows, it, at, is, breaks) before = quiet_link (0 + t) d table rows k it i (q t table rows at).links is breaks
+rule_is_first s d n row rule q rule_is least earlier (RuleBroken m r) (other, at, breaks) (inl less) = breaking_none d other r (earlier m other less at) breaks
+rule_is_first s d n row rule q rule_is least earlier (RuleBroken m r) (other, at, breaks) (inr (level, less)) =
+    let same = same_element s.rules m n other rule level at rule_is in
+    not_before (row_cmp r row) (row_cmp row r) (row_total.antisymm row r) less (least.least_is r (subst (λ x. BreaksRule d x r) same breaks))
+
+pub first_rule : (s : Schema) (d : RowSet) (fault : TablesFault) → ((number : ℕ) (table : Table) (rows : List (List Value)) → IsTableAt s d number table rows → IsQuiet (0 + number) d table rows) → broken_rule 0 d s.rules ≡ Some fault → IsFirstBroken s d fault
+first_rule s d fault q e = by (rule_first 0 d s.rules fault e)
+  where
+    by : FirstRule 0 d s.rules fault → IsFirstBroken s d fault
+    by f =
+        let spot = f.place in
+        let at : f.i ≡ f.number_is = omega arith in
+        let rule_is = subst (λ x. slice_get s.rules x ≡ Some f.rule) at f.rule_is in
+        let least = breaking_told d f.rule f.row f.row_is in
+        subst (IsFirstBroken s d) (sym f.fault_is)
+        (record {
+          broken = (f.rule, rule_is, least.breaks);
+          first = rule_is_first s d f.number_is f.row f.rule q rule_is least (λ n other less there. f.earlier n other (omega arith) there);
+        })

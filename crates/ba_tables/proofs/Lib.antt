@@ -1,5 +1,6 @@
 pub mod AgreeLemmas
 pub mod BoundLemmas
+pub mod CheckedLemmas
 pub mod ClashLemmas
 pub mod ConformLemmas
 pub mod FieldLemmas
@@ -9,12 +10,15 @@ pub mod FirstBrokenLemmas
 pub mod FirstLemmas
 pub mod FoundLemmas
 pub mod FrontLemmas
+pub mod GivenLemmas
 pub mod IndexLemmas
+pub mod MissingLemmas
 pub mod NumberLemmas
 pub mod PairLemmas
 pub mod PositionLemmas
 pub mod RecordLemmas
 pub mod RowsLemmas
+pub mod RuleLemmas
 pub mod SpellLemmas
 pub mod TwinLemmas
 pub mod UnbrokenLemmas

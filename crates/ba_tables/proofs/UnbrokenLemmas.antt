@@ -20,9 +20,11 @@ use Rattle.ba_tables.specs.Breaks.{IsBroken}
 use Rattle.ba_tables.specs.Broken.{broken_table}
 use Rattle.ba_tables.specs.TableSet.{ListsFit}
 use Rattle.ba_tables.specs.declared.broken.TablesFault.{TablesFault}
-use Rattle.ba_tables.specs.declared.broken.TablesFault.TheVariants.{KeyBroken, LinkBroken}
+use Rattle.ba_tables.specs.declared.broken.TablesFault.TheVariants.{KeyBroken, LinkBroken, RuleBroken}
 use Rattle.ba_tables.proofs.ConformLemmas.{tables_conform}
 use Rattle.ba_tables.proofs.FirstBrokenLemmas.{first_broken}
+use Rattle.ba_tables.proofs.MissingLemmas.{not_itself, rising_less}
+use Rattle.ba_tables.proofs.RuleLemmas.{there_at}
 
 -- a list of elements that are tested one after another
 pub all_step : {X : Type 0} (P : X → Type 0) (x : X) (xs : List X) (b : Bool) → P x → (IsTrue b ↔ All P xs) → IsTrue b ↔ All P (x ∷ xs)
@@ -31,50 +33,37 @@ all_step P x xs b p d = (λ t. All-cons P x xs p (d.0 t), λ h. d.1 (All-tail P 
 pub all_stop : {X : Type 0} (P : X → Type 0) (x : X) (xs : List X) → (P x → ⊥) → IsTrue false ↔ All P (x ∷ xs)
 all_stop P x xs n = (λ t. cc, λ h. absurd (n (All-head P x xs h)))
 
-Contains-at : {X : Type 0} (xs : List X) (n : ℕ) (x : X) → slice_get xs n ≡ Some x → Contains xs x
-Contains-at [] n x e = cc e
-Contains-at (y ∷ xs) zero x e = (0, omega arith, cc e)
-Contains-at (y ∷ xs) (suc n) x e = let h = Contains-at xs n x e in (suc h.0, omega arith, h.2)
-
 some_is : {X : Type 0} {x y : X} → Some x ≡ Some y → x ≡ y
 some_is e = cc e
 
 -- in a strictly rising list an earlier row is another one
 rising_differs : (rows : List (List Value)) (i j : ℕ) (x y : List Value) → IsStrictlySortedBy row_cmp rows → i < j → slice_get rows i ≡ Some x → slice_get rows j ≡ Some y → x ≢ y
-unfolding IsStrictlySortedBy
-rising_differs [] i j x y up less e f same = cc f
-rising_differs (row ∷ rows) i zero x y up less e f same = absurd (omega arith)
-rising_differs (row ∷ rows) (suc i) (suc j) x y up less e f same = rising_differs rows i j x y up.1 (omega arith) e f same
-rising_differs (row ∷ rows) zero (suc j) x y up less e f same =
-    let above : row_cmp row y ≡ Less = All-contains (λ z. row_cmp row z ≡ Less) rows y (All-from_recursion (λ z. row_cmp row z ≡ Less) rows up.0) (Contains-at rows j y f) in
-    let it : row ≡ x = cc e in
-    let tie : row_cmp x x ≡ Less = subst (λ z. row_cmp x z ≡ Less) (sym same) (subst (λ z. row_cmp z y ≡ Less) it above) in
-    less_than_itself (row_cmp x x) (row_total.antisymm x x) tie
-  where
-    less_than_itself : (o : Ordering) → o ≡ ordering_reverse o → o ≡ Less → ⊥
-    less_than_itself Less e f = cc e
-    less_than_itself Equal e f = cc f
-    less_than_itself Greater e f = cc e
+rising_differs rows i j x y up less e f same = not_itself x (subst (λ z. row_cmp x z ≡ Less) (sym same) (rising_less rows i j x y up less e f))
 
--- tables that conform have no broken key and no broken link
-unbroken : (s : Schema) (d : RowSet) → AllZip (TableConforms d) s.tables d.tables → All (IsStrictlySortedBy row_cmp) d.tables → (fault : TablesFault) → IsBroken s d fault → ⊥
-unbroken s d conform rising (KeyBroken number key first second) (table, rows, columns, at, key_is, breaks) =
+no_element : {X : Type 0} (xs : List X) (n : ℕ) (x : X) → xs ≡ [] → slice_get xs n ≡ Some x → ⊥
+no_element [] n x e at = cc at
+no_element (y ∷ xs) n x e at = cc e
+
+-- tables that conform have no broken key and no broken link, and without rules nothing is broken
+unbroken : (s : Schema) (d : RowSet) → s.rules ≡ [] → AllZip (TableConforms d) s.tables d.tables → All (IsStrictlySortedBy row_cmp) d.tables → (fault : TablesFault) → IsBroken s d fault → ⊥
+unbroken s d none conform rising (KeyBroken number key first second) (table, rows, columns, at, key_is, breaks) =
     let list = AllZip-at (TableConforms d) s.tables d.tables number table conform at.table_is in
     let same : list.0 ≡ rows = some_is (sym list.1 ∙ at.rows_are) in
     let its = subst (TableConforms d table) same list.2 in
-    let holds = All-contains (KeyHolds rows) table.keys columns its.keys (Contains-at table.keys key columns key_is) in
+    let holds = All-contains (KeyHolds rows) table.keys columns its.keys (there_at table.keys key columns key_is) in
     let (i, first_is, earlier_at) = breaks.earlier_is in
     let (j, second_is, later_at) = breaks.later_is in
-    let equal = holds breaks.later breaks.earlier (Contains-at rows j breaks.later later_at) (Contains-at rows i breaks.earlier earlier_at) breaks.no_null breaks.equal in
-    rising_differs rows i j breaks.earlier breaks.later (All-contains (IsStrictlySortedBy row_cmp) d.tables rows rising (Contains-at d.tables number rows at.rows_are)) (omega (arith, first_is, second_is, breaks.before)) earlier_at later_at (sym equal)
-unbroken s d conform rising (LinkBroken number link row) (table, rows, it, at, link_is, breaks) =
+    let equal = holds breaks.later breaks.earlier (there_at rows j breaks.later later_at) (there_at rows i breaks.earlier earlier_at) breaks.no_null breaks.equal in
+    rising_differs rows i j breaks.earlier breaks.later (All-contains (IsStrictlySortedBy row_cmp) d.tables rows rising (there_at d.tables number rows at.rows_are)) (omega (arith, first_is, second_is, breaks.before)) earlier_at later_at (sym equal)
+unbroken s d none conform rising (LinkBroken number link row) (table, rows, it, at, link_is, breaks) =
     let list = AllZip-at (TableConforms d) s.tables d.tables number table conform at.table_is in
     let same : list.0 ≡ rows = some_is (sym list.1 ∙ at.rows_are) in
     let its = subst (TableConforms d table) same list.2 in
-    let holds = All-contains (LinkHolds d rows) table.links it its.links (Contains-at table.links link it link_is) in
+    let holds = All-contains (LinkHolds d rows) table.links it its.links (there_at table.links link it link_is) in
     let (i, row_is, row_at) = breaks.row_is in
-    let (target, there, match) = holds breaks.row (Contains-at rows i breaks.row row_at) breaks.no_null in
+    let (target, there, match) = holds breaks.row (there_at rows i breaks.row row_at) breaks.no_null in
     breaks.no_target target there match
+unbroken s d none conform rising (RuleBroken number row) (rule, at, breaks) = no_element s.rules number rule none at
 
 fit_of : (d : RowSet) (tables : List Table) (lists : List (List (List Value))) → AllZip (TableConforms d) tables lists → ListsFit tables lists
 fit_of d [] [] h = tt
@@ -86,13 +75,17 @@ fit_of d (table ∷ tables) (rows ∷ lists) h = ((h.0).kinds, fit_of d tables l
 pub conform_unfit : (s : Schema) (d : RowSet) → (IsTrue false ↔ ListsFit s.tables d.tables) → IsTrue false ↔ AllZip (TableConforms d) s.tables d.tables
 conform_unfit s d fit = (λ t. cc, λ h. fit.1 (fit_of d s.tables d.tables h))
 
-pub conform_tested : (s : Schema) (d : RowSet) (b : Bool) → ListsFit s.tables d.tables → All (IsStrictlySortedBy row_cmp) d.tables → (IsTrue b ↔ (broken_table 0 d s.tables d.tables ≡ None)) → IsTrue b ↔ AllZip (TableConforms d) s.tables d.tables
-conform_tested s d b fit rising d_none =
-    (λ t. tables_conform 0 d s.tables d.tables (d_none.0 t) fit, λ h. d_none.1 (by (broken_table 0 d s.tables d.tables) refl h))
+-- tables without rules that conform, of strictly rising rows
+pub tables_unbroken : (s : Schema) (d : RowSet) → s.rules ≡ [] → All (IsStrictlySortedBy row_cmp) d.tables → AllZip (TableConforms d) s.tables d.tables → broken_table 0 d s.tables d.tables ≡ None
+tables_unbroken s d none rising h = by (broken_table 0 d s.tables d.tables) refl
   where
-    by : (o : Option TablesFault) → broken_table 0 d s.tables d.tables ≡ o → AllZip (TableConforms d) s.tables d.tables → broken_table 0 d s.tables d.tables ≡ None
-    by None e h = e
-    by (Some fault) e h = absurd (unbroken s d h rising fault (first_broken s d fault e).broken)
+    by : (o : Option TablesFault) → broken_table 0 d s.tables d.tables ≡ o → broken_table 0 d s.tables d.tables ≡ None
+    by None e = e
+    by (Some fault) e = absurd (unbroken s d none h rising fault (first_broken s d fault e).broken)
+
+pub conform_tested : (s : Schema) (d : RowSet) (b : Bool) → s.rules ≡ [] → ListsFit s.tables d.tables → All (IsStrictlySortedBy row_cmp) d.tables → (IsTrue b ↔ (broken_table 0 d s.tables d.tables ≡ None)) → IsTrue b ↔ AllZip (TableConforms d) s.tables d.tables
+conform_tested s d b none fit rising d_none =
+    (λ t. tables_conform 0 d s.tables d.tables (d_none.0 t) fit, λ h. d_none.1 (tables_unbroken s d none rising h))
 
 -- a test of the fit of lists that are told in other words
 pub fit_test : {tables seen : List Table} {lists shown : List (List (List Value))} (b d : Bool) → b ≡ d → seen ≡ tables → shown ≡ lists → (IsTrue b ↔ ListsFit seen shown) → IsTrue d ↔ ListsFit tables lists

@@ -1,5 +1,5 @@
--- The first broken key or link of a schema's tables. Row numbers begin at 1.
-use Rattle.std.specs.Prelude.{ℕ, ◌+◌, Bool, true, false, not, ◌&&◌, List, [], ◌∷◌, ◌++◌, map, length, Option, Some, None, option_map, slice_get, Result, Ok, Err}
+-- The first broken key, link or rule of a schema's tables. Row numbers begin at 1.
+use Rattle.std.specs.Prelude.{ℕ, ◌+◌, Bool, true, false, not, ◌&&◌, List, [], ◌∷◌, ◌++◌, map, length, Option, Some, None, option_map, slice_get}
 use Rattle.std.specs.Cmp.Lexicographic.{pointwise}
 use Rattle.std.specs.List.{list_all, list_any, position_from}
 use Rattle.std.specs.Option.{option_eq, option_or}
@@ -7,12 +7,10 @@ use Rattle.std.specs.Ordering.{eq_by_cmp}
 use Rattle.ba_model.specs.Meaning.{rows_of}
 use Rattle.ba_model.specs.Order.{value_cmp}
 use Rattle.ba_model.specs.declared.schema.Link.{Link}
-use Rattle.ba_model.specs.declared.schema.Schema.{Schema}
 use Rattle.ba_model.specs.declared.schema.Table.{Table}
 use Rattle.ba_model.specs.declared.value.RowSet.{RowSet}
 use Rattle.ba_model.specs.declared.value.Value.{Value}
 use Rattle.ba_model.specs.declared.value.Value.TheVariants.{Null, Int, Text}
-use Rattle.ba_tables.specs.TableSet.{TableSet}
 use Rattle.ba_tables.specs.declared.broken.TablesFault.{TablesFault}
 use Rattle.ba_tables.specs.declared.broken.TablesFault.TheVariants.{KeyBroken, LinkBroken}
 
@@ -62,11 +60,3 @@ broken_table number d [] lists = None
 broken_table number d (table ∷ tables) [] = None
 broken_table number d (table ∷ tables) (rows ∷ lists) =
     option_or (option_or (broken_key number 0 rows table.keys) (broken_link number 0 d rows table.links)) (broken_table (number + 1) d tables lists)
-
-abbrev pub tables_unless : Schema → RowSet → Option TablesFault → Result TableSet TablesFault
-tables_unless schema rows None = Ok (record { schema = schema; rows = rows })
-tables_unless schema rows (Some fault) = Err fault
-
--- the tables, or their first broken key or link
-abbrev pub checked : Schema → RowSet → Result TableSet TablesFault
-checked schema rows = tables_unless schema rows (broken_table 0 rows schema.tables rows.tables)

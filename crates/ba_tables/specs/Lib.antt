@@ -1,9 +1,11 @@
 pub mod Breaks
 pub mod Broken
+pub mod Checked
 pub mod FileFaults
 pub mod Index
 pub mod Left
 pub mod Pairs
+pub mod Rules
 pub mod Spelling
 pub mod TableFile
 pub mod TableSet

@@ -1,4 +1,4 @@
-//! The first broken key or link of tables.
+//! The first broken key or link of tables, and what a broken rule is told by.
 ghost use Rattle.std.specs.Prelude.{◌≡◌, [], All, IfOk, length, option_copied, unwrap_or};
 ghost use Rattle.std.specs.List.{position_from};
 ghost use Rattle.ba_index.specs.Orders.{IsOrderOf};
@@ -15,9 +15,10 @@ use ba_model::{Duplicate, Link, List, Row, RowSet, Table, Value};
 use std::alloc::{AllocError, Global};
 use std::collections::{BTreeMap, BTreeSet};
 
-/// The first broken key or link: tables in the schema's order, and of each its keys before its links. Tables, keys and
-/// links are numbered from 0, rows from 1.
-#[derive(Clone, Copy, Debug, PartialEq, Eq)]
+/// The first broken key, link or rule: tables in the schema's order, and of each its keys before its
+/// links; after all tables the rules in their order. Tables, keys, links and rules are numbered from
+/// 0, rows of a table from 1.
+#[derive(Debug, Drop)]
 pub enum TablesFault {
     /// The rows are equal on the key's columns and have no NULL there. No pair has a lesser second row, and none with this
     /// second row a lesser first one.
@@ -32,6 +33,11 @@ pub enum TablesFault {
         table: u32,
         link: u32,
         row: u64,
+    },
+    /// The row is one of the rule's left query and none of its right query. No lesser row is such.
+    RuleBroken {
+        rule: u32,
+        row: Row,
     },
 }
 

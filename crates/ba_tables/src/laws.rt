@@ -20,7 +20,8 @@ pub fn tells_first_fault()
     ensures too_many { TellsTooMany }
 {}
 
-/// Checking tells the first broken key or link, and passes exactly where none is broken.
+/// Checking tells the first broken key, link or rule, and passes exactly where none is broken; the
+/// database then conforms.
 pub fn tells_first_broken()
     ensures { TellsFirstBroken }
 {}

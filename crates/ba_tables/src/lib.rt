@@ -12,6 +12,7 @@ mod line;
 mod lines;
 mod null;
 mod pairs;
+mod rules;
 mod tables;
 
 pub use broken::{TablesFault, broken_table};

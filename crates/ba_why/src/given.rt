@@ -1,6 +1,7 @@
 //! What the run read: its policy and its script.
-ghost use Rattle.std.specs.Prelude.{◌≡◌, [], IfOk};
+ghost use Rattle.std.specs.Prelude.{◌≡◌, IfOk};
 ghost use Rattle.ba_kernel.specs.Drafts.{IsChecked};
+ghost use Rattle.ba_model.specs.RuleFaults.{AreRules};
 ghost use Rattle.ba_model.specs.SchemaFaults.{AreTables};
 
 use crate::words::Names;
@@ -109,7 +110,7 @@ impl Given {
 
 fn schema_of(alloc: Global, bytes: &[u8]) -> Result<Shared<Schema>, AllocError>
     ensures tables { IfOk result (λ schema. AreTables schema.tables) }
-    ensures rules { IfOk result (λ schema. schema.rules ≡ []) }
+    ensures rules { IfOk result AreRules }
 {
     match read_schema(alloc, bytes) {
         Ok(schema) => Shared::new(alloc, schema),

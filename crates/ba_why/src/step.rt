@@ -2,7 +2,7 @@
 
 use crate::given::Given;
 use crate::scene::Scene;
-use crate::text::{atom_text, columns_text, fact_text, view_name};
+use crate::text::{atom_text, columns_text, fact_text, rule_sql, view_name};
 use ba_facts::{Branch, TermAtom};
 use ba_kernel::{Search, Step};
 use ba_model::{List, Table};
@@ -31,7 +31,12 @@ pub fn cause_text(
         Step::Link { branch, link, fact } => {
             link_text(alloc, given, search.branch(*branch), *link, *fact)
         }
-        Step::Rule { .. } => String::from_str(alloc, "by a rule of the schema "),
+        Step::Rule {
+            branch,
+            rule,
+            facts,
+            ..
+        } => rule_text(alloc, given, search.branch(*branch), *rule, facts),
         Step::View {
             branch,
             view,
@@ -115,6 +120,19 @@ fn link_text(
         return format!(in alloc; "{fact} links by {columns}, so ");
     }
     String::from_str(alloc, "by a link ")
+}
+
+// A rule holds of a row: its two queries, and the facts that give the row.
+fn rule_text(
+    alloc: Global,
+    given: &Given,
+    branch: Option<&Branch>,
+    rule: u32,
+    facts: &List<u32>,
+) -> Result<String, AllocError> {
+    let said = rule_sql(alloc, given.policy(), rule as usize)?;
+    let facts = used_text(alloc, given, branch, facts)?;
+    format!(in alloc; "rule {rule} makes {said}, here one of {facts}, so ")
 }
 
 // A comparison holds in one case, and not in the other.

@@ -1,5 +1,7 @@
 //! Values, rows, tables and views in words.
+ghost use Rattle.std.specs.Prelude.{All};
 ghost use Rattle.ba_model.specs.Fit.{PolicyFits};
+ghost use Rattle.ba_model.specs.RuleFaults.{RuleFits};
 
 use crate::page::{VALUE_BYTES, shown};
 use ba_facts::{Branch, Fact, Lesson, Side, Term, TermAtom};
@@ -98,6 +100,19 @@ pub fn view_sql(alloc: Global, policy: &Policy, number: usize) -> Result<String,
         Some(view) => print_query(alloc, &policy.schema, &policy.params, &view.query),
         None => Ok(String::new(alloc)),
     }
+}
+
+/// What the rule of a number says, with its queries in SQL.
+pub fn rule_sql(alloc: Global, policy: &Policy, number: usize) -> Result<String, AllocError>
+    requires { All (RuleFits policy.now.schema) policy.now.schema.rules }
+{
+    let Some(rule) = policy.schema.rules.find(number) else {
+        return Ok(String::new(alloc));
+    };
+    let none = List::new(alloc);
+    let left = print_query(alloc, &policy.schema, &none, &rule.left)?;
+    let right = print_query(alloc, &policy.schema, &none, &rule.right)?;
+    format!(in alloc; "each row of {left} a row of {right}")
 }
 
 // A term of a branch: its literal, if it is shown to have one, else a name that it has in common with all that are shown equal.

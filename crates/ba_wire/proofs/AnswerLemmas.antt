@@ -71,6 +71,9 @@ added_reads d ts is back reads shallow =
     ∙ (ap (λ us. option_and_then of_json (option_and_then (λ p. json.if_last p.0 p.1) (json.value max_depth us))) (back ∙ (is ∙ sym (append-nil (tree.json_tokens (outline d)))))
     ∙ (ap (λ r. option_and_then of_json (option_and_then (λ p. json.if_last p.0 p.1) r)) (value-json_tokens (outline d) max_depth [] (let same = depth-outline d in omega (arith, same, shallow))) ∙ reads))
 
+pub text_printed : (d : Data) (ts : List Token) (text : List ℕ) → ts ≡ tree.json_tokens (outline d) → text ≡ print ts → text ≡ compact_text d
+text_printed d ts text is printed = printed ∙ (ap print is ∙ print-outline d)
+
 pub line_printed : (d : Data) (ts : List Token) (text : List ℕ) → ts ≡ tree.json_tokens (outline d) → text ≡ print ts ++ 10 ∷ [] → text ≡ json_line d
 line_printed d ts text is printed = printed ∙ ap (λ bytes. bytes ++ 10 ∷ []) (ap print is ∙ print-outline d)
 

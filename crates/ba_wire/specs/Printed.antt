@@ -92,6 +92,19 @@ line_name line_fault.Begun = codes "begun"
 line_name line_fault.Unbegun = codes "unbegun"
 line_name line_fault.Context = codes "context"
 
+-- NULL is null, a whole number that number, a text that string
+abbrev pub value_json : Value → Data
+value_json value.Null = null
+value_json (value.Int n) = number (of_integer n)
+value_json (value.Text s) = string s
+
+abbrev pub row_json : List Value → Data
+row_json row = array (items_of (map value_json row))
+
+-- a row as compact JSON
+abbrev pub row_words : List Value → List ℕ
+row_words row = compact_text (row_json row)
+
 -- numbers in decimal
 unfoldable pub reason_text : Reason → List ℕ
 reason_text (reason.Text it) = fault_words it
@@ -109,6 +122,7 @@ reason_text (reason.Utf8 row) = codes "utf8" ␣ decimal row
 reason_text (reason.Number row column) = codes "number" ␣ decimal row ␣ decimal column
 reason_text (reason.Key key first second) = codes "key" ␣ decimal key ␣ codes "rows" ␣ decimal first ␣ decimal second
 reason_text (reason.Link link row) = codes "link" ␣ decimal link ␣ codes "row" ␣ decimal row
+reason_text (reason.RuleRow rule row) = codes "rule" ␣ decimal rule ␣ codes "row" ␣ row_words row
 reason_text (reason.Line line why) = codes "line" ␣ decimal line ␣ line_name why
 reason_text reason.Json = codes "json"
 reason_text (reason.Field name) = codes "field" ␣ name
@@ -134,15 +148,6 @@ what_name what.Templates = codes "templates"
 
 abbrev pub count : ℕ → Data
 count n = number (unsigned n)
-
--- NULL is null, a whole number that number, a text that string
-abbrev pub value_json : Value → Data
-value_json value.Null = null
-value_json (value.Int n) = number (of_integer n)
-value_json (value.Text s) = string s
-
-abbrev pub row_json : List Value → Data
-row_json row = array (items_of (map value_json row))
 
 abbrev pub rows_json : List (List Value) → Data
 rows_json rows = array (items_of (map row_json rows))

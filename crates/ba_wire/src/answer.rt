@@ -3,10 +3,10 @@ ghost use Rattle.std.specs.Prelude.{◌≡◌, [], ◌∷◌, ◌++◌, IfOk, On
 ghost use Rattle.json.specs.Lex.{tokens};
 ghost use Rattle.json.specs.Print.{print};
 ghost use Rattle.json.specs.Token.{key, number, string};
-ghost use Rattle.ba_wire.specs.Printed.{ReadsBack, answer_json, json_line};
+ghost use Rattle.ba_wire.specs.Printed.{ReadsBack, answer_json, json_line, row_words};
 ghost use Rattle.ba_wire.specs.Appended.{Adds, Puts};
 
-use crate::rows::push_rows;
+use crate::rows::{push_row, push_rows};
 use ba_model::{List, Row, Str};
 use json::Writer;
 use std::alloc::{AllocError, Global};
@@ -48,19 +48,36 @@ fn push_answer(
     out.end_object()
 }
 
+/// The text that was written.
+fn text_of(out: Writer) -> String
+    requires { out.before ≡ [] }
+    ensures text { string_bytes result ≡ print out.tokens }
+    ensures reads { tokens (print out.tokens) ≡ out.tokens }
+{
+    match String::from_utf8(out.into_inner()) {
+        Ok(text) => text,
+        Err(_) => unreachable!(),
+    }
+}
+
+/// The row as compact JSON.
+pub fn row_text(alloc: Global, row: &Row) -> Result<String, AllocError>
+    ensures { IfOk result (λ s. string_bytes s ≡ row_words row.now) }
+{
+    let mut out = Writer::new(Vec::new(alloc));
+    push_row(&mut out, row)?;
+    Ok(text_of(out))
+}
+
 /// The text that was written, with a line feed.
 fn line_of(out: Writer) -> Result<String, AllocError>
     requires { out.before ≡ [] }
     ensures text { IfOk result (λ s. string_bytes s ≡ print out.tokens ++ 10 ∷ []) }
     ensures reads { tokens (print out.tokens) ≡ out.tokens }
 {
-    match String::from_utf8(out.into_inner()) {
-        Ok(mut text) => {
-            text.push('\n')?;
-            Ok(text)
-        }
-        Err(_) => unreachable!(),
-    }
+    let mut text = text_of(out);
+    text.push('\n')?;
+    Ok(text)
 }
 
 /// The line of an answer, with the answer's values copied nowhere but into the text.

@@ -5,11 +5,12 @@ ghost use Rattle.std.specs.Prelude.{◌≡◌, codes, IfOk, string_bytes};
 ghost use Rattle.std.specs.Fmt.{decimal};
 ghost use Rattle.ba_wire.specs.Names.{◌␣◌, fault_words};
 ghost use Rattle.ba_wire.specs.Object.{made};
-ghost use Rattle.ba_wire.specs.Printed.{ReadsBack, line_name, reason_text, what_name, fault_json, fault_bytes};
+ghost use Rattle.ba_wire.specs.Printed.{ReadsBack, line_name, reason_text, row_words, what_name, fault_json, fault_bytes};
 
 use crate::names::fault_words;
+use crate::answer::row_text;
 use crate::object::Object;
-use ba_model::{Counted, Str};
+use ba_model::{Counted, Row, Str};
 use ba_script::LineFault;
 use ba_sql_query::ReadQueryFault;
 use std::alloc::{AllocError, Global};
@@ -47,6 +48,8 @@ pub enum Reason {
     Key { key: u32, first: u64, second: u64 },
     /// A row has no target of a link of its table. Links are numbered from 0.
     Link { link: u32, row: u64 },
+    /// The row of the rule's left query isn't one of its right query. Rules are numbered from 0.
+    RuleRow { rule: u32, row: Row },
     /// A line of the script is none. Lines are numbered from 1.
     Line { line: u64, reason: LineFault },
     /// A proof's file isn't a JSON object.
@@ -128,6 +131,7 @@ impl Reason {
                 format!(in alloc; "key {key} rows {first} {second}")
             }
             Reason::Link { link, row } => format!(in alloc; "link {link} row {row}"),
+            Reason::RuleRow { rule, row } => rule_row_text(alloc, *rule, row),
             Reason::Line { line, reason } => line_text(alloc, *line, *reason),
             Reason::Json => String::from_str(alloc, "json"),
             Reason::Field { name } => format!(in alloc; "field {name}"),
@@ -141,6 +145,14 @@ fn rule_text(alloc: Global, rule: u32, fault: &ReadQueryFault) -> Result<String,
 {
     let words = fault_words(alloc, fault)?;
     format!(in alloc; "rule {rule} {words}")
+}
+
+fn rule_row_text(alloc: Global, rule: u32, row: &Row) -> Result<String, AllocError>
+    ensures { IfOk result (λ text. string_bytes text
+        ≡ codes "rule" ␣ decimal rule ␣ codes "row" ␣ row_words row.now) }
+{
+    let words = row_text(alloc, row)?;
+    format!(in alloc; "rule {rule} row {words}")
 }
 
 fn view_text(alloc: Global, name: &Str, fault: &ReadQueryFault) -> Result<String, AllocError>

@@ -28,7 +28,7 @@ fn push_value(out: &mut Writer, value: &Value) -> Result<(), AllocError>
 }
 
 /// Writes the array of a row's values.
-fn push_row(out: &mut Writer, row: &Row) -> Result<(), AllocError>
+pub fn push_row(out: &mut Writer, row: &Row) -> Result<(), AllocError>
     ensures { OnOk result (Adds (row_json row.now) out.old out.new) }
 {
     out.begin_array()?;

@@ -1,6 +1,7 @@
 //! Users, events and who attends which. A user may see all names, the own attendances, and the events that the user attends.
 ghost use Rattle.std.specs.Prelude.{◌≡◌, []};
 ghost use Rattle.ba_model.specs.Fit.{ContextFits, IsQuery, PolicyFits, kinds_of};
+ghost use Rattle.ba_model.specs.RuleFaults.{AreRules};
 ghost use Rattle.ba_model.specs.SchemaFaults.{AreTables};
 
 use super::Handle;
@@ -32,7 +33,7 @@ pub const USERS: &str = "1,ann 2,bob";
 pub fn policy(rt: &impl Handle) -> Shared<Policy>
     ensures fits { PolicyFits result }
     ensures tables { AreTables result.schema.tables }
-    ensures rules { result.schema.rules ≡ [] }
+    ensures rules { AreRules result.schema }
 {
     let schema = read_schema(rt.alloc(), SCHEMA.as_bytes()).expect(rt, "a schema");
     let schema = Shared::new(rt.alloc(), schema).expect(rt, "memory");
@@ -58,7 +59,6 @@ fn checked(
     events: &[u8],
     attendances: &[u8],
 ) -> Result<Tables, Failure<TablesFault>>
-    requires { schema.now.rules ≡ [] }
 {
     if schema.tables.len() != 3 {
         return Err(Failure::NoMemory);
@@ -78,7 +78,6 @@ fn checked(
 
 /// Tables with these users.
 pub fn tables(rt: &impl Handle, policy: &Policy, users: &str) -> Tables
-    requires { policy.now.schema.rules ≡ [] }
     ensures { result.schema ≡ policy.now.schema }
 {
     let users = file(rt, "UId,Name", users);
@@ -119,8 +118,7 @@ pub fn query(rt: &impl Handle, policy: &Policy, text: &str) -> Shared<Query>
 
 /// The machine with the two users, before any event.
 pub fn machine(rt: &impl Handle, policy: &Shared<Policy>) -> Core
-    requires fits { PolicyFits policy.now }
-    requires rules { policy.now.schema.rules ≡ [] }
+    requires { PolicyFits policy.now }
 {
     let tables = tables(rt, policy, USERS);
     let policy = policy.copy(rt.alloc()).expect(rt, "memory");

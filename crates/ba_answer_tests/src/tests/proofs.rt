@@ -2,6 +2,7 @@
 ghost use Rattle.std.specs.Prelude.{◌≡◌, [], All, IfOk, OnOk};
 ghost use Rattle.ba_kernel.specs.Asked.{QuestionFits, RecordFits};
 ghost use Rattle.ba_model.specs.Fit.{ContextFits, IsQuery, PolicyFits, kinds_of};
+ghost use Rattle.ba_model.specs.RuleFaults.{AreRules};
 ghost use Rattle.ba_model.specs.SchemaFaults.{AreTables};
 
 use super::Handle;
@@ -65,7 +66,7 @@ fn add(
 fn question_fits(policy: &Shared<Policy>, context: &Context, trace: &Trace, query: &Shared<Query>)
     requires policy { PolicyFits policy.now }
     requires tables { AreTables policy.now.schema.tables }
-    requires rules { policy.now.schema.rules ≡ [] }
+    requires rules { AreRules policy.now.schema }
     requires context { ContextFits (kinds_of policy.now.params) context.now }
     requires trace { All (RecordFits policy.now) trace.now }
     requires query { IsQuery policy.now.schema (kinds_of policy.now.params) [] query.now }
@@ -82,7 +83,7 @@ fn proof(
 ) -> Ground
     requires policy { PolicyFits policy.now }
     requires tables { AreTables policy.now.schema.tables }
-    requires rules { policy.now.schema.rules ≡ [] }
+    requires rules { AreRules policy.now.schema }
     requires context { ContextFits (kinds_of policy.now.params) context.now }
     requires trace { All (RecordFits policy.now) trace.now }
     requires query { IsQuery policy.now.schema (kinds_of policy.now.params) [] query.now }
@@ -178,7 +179,7 @@ pub fn first_title(
 ) -> Ground
     requires policy { PolicyFits policy.now }
     requires tables { AreTables policy.now.schema.tables }
-    requires rules { policy.now.schema.rules ≡ [] }
+    requires rules { AreRules policy.now.schema }
     requires own { IsQuery policy.now.schema (kinds_of policy.now.params) [] own.now }
     requires title { IsQuery policy.now.schema (kinds_of policy.now.params) [] title.now }
 {
@@ -197,7 +198,7 @@ fn second_title(
 ) -> Ground
     requires policy { PolicyFits policy.now }
     requires tables { AreTables policy.now.schema.tables }
-    requires rules { policy.now.schema.rules ≡ [] }
+    requires rules { AreRules policy.now.schema }
     requires own { IsQuery policy.now.schema (kinds_of policy.now.params) [] own.now }
     requires title { IsQuery policy.now.schema (kinds_of policy.now.params) [] title.now }
 {

@@ -1,6 +1,7 @@
 //! Questions that are answered by a template.
 ghost use Rattle.std.specs.Prelude.{◌≡◌, []};
 ghost use Rattle.ba_model.specs.Fit.{IsQuery, PolicyFits, kinds_of};
+ghost use Rattle.ba_model.specs.RuleFaults.{AreRules};
 ghost use Rattle.ba_model.specs.SchemaFaults.{AreTables};
 
 use super::Handle;
@@ -19,7 +20,7 @@ fn title_template(
 ) -> Shared<Template>
     requires policy { PolicyFits policy.now }
     requires tables { AreTables policy.now.schema.tables }
-    requires rules { policy.now.schema.rules ≡ [] }
+    requires rules { AreRules policy.now.schema }
     requires own { IsQuery policy.now.schema (kinds_of policy.now.params) [] own.now }
     requires title { IsQuery policy.now.schema (kinds_of policy.now.params) [] title.now }
 {

@@ -90,6 +90,8 @@ pub(super) fn write_ddl_fault(alloc: Global, fault: DdlFault, told: &mut String)
         }
         DdlFault::Syntax => write_text_fault(alloc, ReadQueryFault::Syntax, told),
         DdlFault::Schema(fault) => write_schema_fault(alloc, fault, told),
+        DdlFault::TooMany { what, limit } => write_limit(alloc, what, limit, told),
+        DdlFault::Rule(rule, fault) => write_reason(alloc, Reason::Rule { rule, fault }, told),
     }
 }
 
@@ -131,6 +133,9 @@ pub(super) fn write_broken(alloc: Global, fault: TablesFault, told: &mut String)
         } => write_reason(alloc, Reason::Key { key, first, second }, told),
         TablesFault::LinkBroken { link, row, .. } => {
             write_reason(alloc, Reason::Link { link, row }, told)
+        }
+        TablesFault::RuleBroken { rule, row } => {
+            write_reason(alloc, Reason::RuleRow { rule, row }, told)
         }
     }
 }

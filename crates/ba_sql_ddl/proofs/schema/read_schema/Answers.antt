@@ -1,8 +1,11 @@
-use Rattle.ba_sql_ddl.proofs.FaultLemmas.{checked_rules, checked_tables}
+use Rattle.std.proofs.Common.{map}
+use Rattle.ba_sql_ddl.specs.Written.{seen}
+use Rattle.ba_sql_ddl.proofs.FaultLemmas.{read_tables}
+use Rattle.ba_sql_ddl.proofs.InclusionLemmas.{with_fitting}
 use Rattle.ba_sql_ddl.proofs.schema.read_schema.Goals as goal
 
 pub returns-clause-tables : goal.returns-clause-tables
-returns-clause-tables c = checked_tables c.in_ok-tables.tables c.checked.result c.checked.ensures
+returns-clause-tables c = read_tables c.in_ok-tables.tables c.in_ok-schema.schema (map seen c.in_ok-text.text.inclusions) c.with_rules.result c.in_ok-schema.ensures c.with_rules.ensures
 
 pub returns-clause-rules : goal.returns-clause-rules
-returns-clause-rules c = checked_rules c.in_ok-tables.tables c.checked.result c.checked.ensures
+returns-clause-rules c = with_fitting c.in_ok-schema.schema (map seen c.in_ok-text.text.inclusions) c.with_rules.result c.with_rules.ensures

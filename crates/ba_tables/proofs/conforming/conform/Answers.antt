@@ -1,4 +1,4 @@
-use Rattle.std.proofs.Common.{[], true, false}
+use Rattle.std.proofs.Common.{[], true, false, refl}
 use Rattle.std.proofs.lemmas.Slice.Zip.{AllZip-long}
 use Rattle.std.specs.List.{All}
 use Rattle.ba_model.specs.Conform.{RowFits}
@@ -15,7 +15,7 @@ broken_table-requires c =
 
 pub returns : goal.returns
 returns c =
-    conform_tested (record { tables = c.args.tables.now; rules = [] }) c.args.rows.now c.is_none.result
+    conform_tested (record { tables = c.args.tables.now; rules = [] }) c.args.rows.now c.is_none.result refl
     ((fit_test c.lists_fit.result true c.if-not-lists_fit.false c.as_slice.ensures c.as_slice-2.ensures c.lists_fit.ensures).0 is_true)
     c.requires.rising
     (none_test c.is_none.result (c.in_ok-broken.broken) c.in_ok-broken.ensures c.is_none.ensures)

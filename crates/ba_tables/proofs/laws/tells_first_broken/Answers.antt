@@ -1,4 +1,4 @@
-use Rattle.ba_tables.proofs.FirstBrokenLemmas.{tells_first_broken}
+use Rattle.ba_tables.proofs.CheckedLemmas.{tells_first_broken}
 use Rattle.ba_tables.proofs.laws.tells_first_broken.Goals as goal
 
 pub returns : goal.returns
