@@ -1,7 +1,7 @@
 -- Words in brackets, by the function and as a relation.
 use Rattle.std.proofs.Common.{◌≡◌, ◌≢◌, ℕ, zero, suc, ◌+◌, ◌-◌, ◌<◌, ◌≤◌, Bool, true, false, List, [], ◌∷◌, ◌++◌, length, take, drop, get_or, refl, sym, ap, subst, ◌∙◌, append_assoc, arith}
 use Rattle.std.proofs.lemmas.Bool.{false_from_ne_true, false≢true}
-use Rattle.std.proofs.lemmas.List.{drop_all, drop_more, length-append, take_all, take-append-drop}
+use Rattle.std.proofs.lemmas.List.{drop_all, drop_more, length-append, take-append-drop}
 use Rattle.ba_grammar.specs.Front.{is_sign}
 use Rattle.ba_grammar.proofs.WordLemmas.{sign_spelled, spelled_sign}
 use Rattle.ba_lex.specs.declared.token.Lexeme.{Lexeme}

@@ -1,14 +1,13 @@
 -- Inclusion rules, by the function and as a relation.
-use Rattle.std.proofs.Common.{◌≡◌, ◌≢◌, ℕ, zero, suc, ◌+◌, ◌<◌, ◌≤◌, Bool, true, false, nat_lt, List, [], ◌∷◌, ◌++◌, length, drop, get_or, map, slice_get, All, Option, Some, None, Result, Ok, Err, refl, sym, ap, subst, ◌∙◌, append_assoc, arith}
+use Rattle.std.proofs.Common.{◌≡◌, ℕ, suc, ◌+◌, ◌<◌, ◌≤◌, Bool, true, false, nat_lt, List, [], ◌∷◌, ◌++◌, length, drop, get_or, map, slice_get, All, Option, Some, None, Result, Ok, Err, refl, sym, ap, subst, ◌∙◌, append_assoc, arith}
 use Rattle.std.specs.Prelude.{IfOk}
 use Rattle.std.specs.List.{AllByRecursion, AllZip}
 use Rattle.std.proofs.lemmas.Bool.{false≢true, le-ltb, lt-ltb, ltb-false}
 use Rattle.std.proofs.lemmas.List.{append-nil, drop_all, drop_more, length-append}
 use Rattle.std.proofs.lemmas.List.Elements.{All-from_recursion, recursion_from_All}
 use Rattle.ba_model.proofs.RuleLemmas.{fit_matches, rule_fits, some_first}
-use Rattle.ba_model.specs.Fit.{AtomFits, IsQuery, PartFits, QueryFits, kind_of, kinds_of}
+use Rattle.ba_model.specs.Fit.{AtomFits, IsQuery, PartFits, QueryFits, kind_of}
 use Rattle.ba_model.specs.Limits.{most_rules}
-use Rattle.ba_model.specs.QueryFaults.{parts_match}
 use Rattle.ba_model.specs.Readings.{◌>>=◌, Fails, Gives, widened}
 use Rattle.ba_model.specs.RuleFaults.{AreRules, RuleFits}
 use Rattle.ba_model.specs.SchemaFaults.{AreTables}
@@ -35,7 +34,7 @@ use Rattle.ba_sql_query.specs.Resolve.{names_of}
 use Rattle.ba_sql_query.specs.Texts.{query_of_words}
 use Rattle.ba_sql_query.specs.declared.fault.ReadQueryFault.{ReadQueryFault}
 use Rattle.ba_sql_query.specs.declared.fault.ReadQueryFault.TheVariants.{HeadDiffers}
-use Rattle.ba_sql_ddl.specs.Inclusions.{IsRuleOf, Refuses, and_rules, first_match, heads_match, matched, rule_of, rules_from, rules_of, with_rules}
+use Rattle.ba_sql_ddl.specs.Inclusions.{IsRuleOf, Refuses, and_rules, heads_match, matched, rule_of, rules_from, rules_of, with_rules}
 use Rattle.ba_sql_ddl.specs.Written.{InclusionText, seen}
 use Rattle.ba_sql_ddl.specs.declared.fault.DdlFault.{DdlFault}
 use Rattle.ba_sql_ddl.specs.declared.fault.DdlFault.TheVariants.{TooMany, Rule as RuleFault}
@@ -100,6 +99,7 @@ module _ (s : Schema) (rules : List Rule) where
   query_moved q h = record { fits = fits_moved q h.fits; few_parts = h.few_parts; within = h.within }
 
   rule_moved : (rule : Rule) → RuleFits s rule → RuleFits (and_rules s rules) rule
+  unfolding query_moved fits_moved
   rule_moved rule h = record { left = query_moved rule.left h.left; right = query_moved rule.right h.right; kinds = h.kinds }
 
   each_moved : (rs : List Rule) → AllByRecursion (RuleFits s) rs → AllByRecursion (RuleFits (and_rules s rules)) rs

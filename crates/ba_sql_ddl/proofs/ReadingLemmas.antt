@@ -1,14 +1,13 @@
 -- A file, by the function and in SQL's terms.
-use Rattle.std.proofs.Common.{◌≡◌, ℕ, ◌<◌, ◌≤◌, ◌+◌, zero, Bool, true, false, nat_lt, List, [], ◌∷◌, ◌++◌, length, Option, Some, None, Result, Ok, Err, refl, sym, ap, subst, ◌∙◌, arith}
+use Rattle.std.proofs.Common.{◌≡◌, ℕ, ◌<◌, ◌≤◌, ◌+◌, Bool, true, false, nat_lt, List, [], ◌∷◌, ◌++◌, length, Option, Some, None, Result, Ok, Err, refl, sym, ap, subst, ◌∙◌, arith}
 use Rattle.std.proofs.lemmas.Bool.{ltb-false, ltb-true}
 use Rattle.std.proofs.lemmas.List.Elements.{All-from_recursion, recursion_from_All}
 use Rattle.ba_grammar.specs.declared.error.Syntax.{Syntax as OfGrammar}
 use Rattle.ba_lex.specs.Tokens.{file_tokens_of, lexemes_of}
 use Rattle.ba_lex.specs.declared.token.LexFault.{LexFault}
-use Rattle.ba_lex.specs.declared.token.Lexeme.{Lexeme}
 use Rattle.ba_lex.specs.declared.token.Token.{Token}
 use Rattle.ba_model.specs.Readings.{◌>>=◌}
-use Rattle.ba_model.specs.RuleFaults.{AreRules, IsSchema, RuleFits}
+use Rattle.ba_model.specs.RuleFaults.{RuleFits}
 use Rattle.ba_model.specs.SchemaFaults.{AreTables, IsFirstFault}
 use Rattle.ba_model.specs.declared.check_schema.SchemaFault.{SchemaFault}
 use Rattle.ba_model.specs.Limits.{most_rules, most_text_bytes}
@@ -17,8 +16,8 @@ use Rattle.ba_model.specs.declared.limits.Counted.TheVariants.{Rules}
 use Rattle.ba_model.specs.declared.schema.Rule.{Rule}
 use Rattle.ba_model.specs.declared.schema.Schema.{Schema}
 use Rattle.ba_model.specs.declared.schema.Table.{Table}
-use Rattle.ba_sql_ddl.specs.Check.{checked, first_fault, schema}
-use Rattle.ba_sql_ddl.specs.Inclusions.{Refuses, and_rules, rules_from, rules_of, with_rules}
+use Rattle.ba_sql_ddl.specs.Check.{checked, first_fault}
+use Rattle.ba_sql_ddl.specs.Inclusions.{Refuses, and_rules, rules_from, with_rules}
 use Rattle.ba_sql_ddl.specs.Laws.{AreWords, HasNoForm, HasRuleFault, HasSchemaFault, HasTooMany, HasUnsupported, IsWrittenSchema, ReadsSchema, of_tables}
 use Rattle.ba_sql_ddl.specs.Meaning.{draft_of}
 use Rattle.ba_sql_ddl.specs.Reader.{statements_at, text_at}
@@ -30,7 +29,7 @@ use Rattle.ba_sql_ddl.specs.declared.fault.DdlFault.TheVariants.{Lex, Unsupporte
 use Rattle.ba_sql_query.specs.declared.fault.ReadQueryFault.{ReadQueryFault}
 use Rattle.ba_sql_ddl.proofs.CheckLemmas.{no_fault, the_fault}
 use Rattle.ba_sql_ddl.proofs.FaultLemmas.{Told, told}
-use Rattle.ba_sql_ddl.proofs.InclusionLemmas.{FirstRefused, ReadsAll, are_rules, all_moved, fault_complete as rule_fault_complete, fault_sound as rule_fault_sound, few_rules, few_texts, many_rules, rules_complete, rules_sound}
+use Rattle.ba_sql_ddl.proofs.InclusionLemmas.{FirstRefused, are_rules, all_moved, fault_complete as rule_fault_complete, fault_sound as rule_fault_sound, few_rules, few_texts, many_rules, rules_complete, rules_sound}
 use Rattle.ba_sql_ddl.proofs.MeaningLemmas.{tables_complete, tables_sound}
 use Rattle.ba_sql_ddl.proofs.ScanLemmas.{first_complete, first_sound, supported_complete, supported_sound}
 use Rattle.ba_sql_ddl.proofs.StatementLemmas.{statements_complete, statements_sound}

@@ -1,7 +1,8 @@
 -- The first unsupported word outside of the queries of inclusion rules, by the function and as a relation.
-use Rattle.std.proofs.Common.{◌≡◌, ◌≢◌, ℕ, zero, suc, ◌+◌, ◌-◌, ◌<◌, ◌≤◌, Bool, true, false, List, [], ◌∷◌, ◌++◌, length, map, All, Contains, Option, Some, None, refl, sym, ap, subst, ◌∙◌, arith}
+use Rattle.std.proofs.Common.{◌≡◌, ℕ, zero, suc, ◌+◌, ◌-◌, ◌<◌, ◌≤◌, Bool, true, false, List, [], ◌∷◌, ◌++◌, length, drop, get_or, map, option_map, is_some, All, Contains, Option, Some, None, refl, sym, ap, subst, ◌∙◌, arith}
 use Rattle.std.specs.Char.{to_ascii_lowercase, to_ascii_uppercase}
 use Rattle.std.specs.List.{AllByRecursion, slice_index_or}
+use Rattle.std.proofs.lemmas.Bool.{false≢true}
 use Rattle.std.proofs.lemmas.List.{length-append}
 use Rattle.std.proofs.lemmas.List.Elements.{All-from_recursion, recursion_from_All}
 use Rattle.std.proofs.lemmas.Slice.Eq.{bytes_eq-Decides}
@@ -187,12 +188,12 @@ not_before (Some a) words h = absurd (h a refl)
 
 past_is : (words rest : List Lexeme) → PastQueries words rest → past_queries words ≡ rest
 unfolding past_queries
-past_is _ _ (PastQueries.none {words} no) = not_before (behind_rule words) words (λ left e. no left (rule_sound words left e))
-past_is _ _ (PastQueries.one {words} {left} {rest} opens l no) =
+past_is _ _ (PastQueries.none {words} others) = not_before (behind_rule words) words (λ left e. others left (rule_sound words left e))
+past_is _ _ (PastQueries.one {words} {left} {rest} opens l others) =
     let is : from_close left ≡ rest = left_is left rest l in
     ap (λ (o : Option (List Lexeme)). past_left o words) (rule_complete words left opens)
     ∙ ap (λ (r : List Lexeme). past_right (behind_within r) r) is
-    ∙ not_behind (behind_within rest) rest (λ right e. no right (within_sound rest right e))
+    ∙ not_behind (behind_within rest) rest (λ right e. others right (within_sound rest right e))
 past_is _ _ (PastQueries.two {words} {left} {middle} {right} {rest} opens l within r) =
     let is : from_close left ≡ middle = left_is left middle l in
     ap (λ (o : Option (List Lexeme)). past_left o words) (rule_complete words left opens)
@@ -256,10 +257,10 @@ nothing_left (suc fuel) = refl
 scan_is : (fuel : ℕ) (words outside : List Lexeme) → length words ≤ fuel → AreOutside words outside → scan_from fuel words ≡ first_unsupported outside
 unfolding scan_from
 scan_is fuel _ _ le AreOutside.none = nothing_left fuel
-scan_is zero _ _ le (AreOutside.word {x} {xs} {outside} no h) = absurd (omega (arith, le))
-scan_is (suc fuel) _ _ le (AreOutside.word {x} {xs} {outside} no h) =
+scan_is zero _ _ le (AreOutside.word {x} {xs} {outside} differs h) = absurd (omega (arith, le))
+scan_is (suc fuel) _ _ le (AreOutside.word {x} {xs} {outside} differs h) =
     let below = scan_is fuel xs outside (omega (arith, le)) h in
-    rw (is_no_sign Semicolon x no) (ap (or_later (unsupported_of x)) below)
+    rw (is_no_sign Semicolon x differs) (ap (or_later (unsupported_of x)) below)
 scan_is zero _ _ le (AreOutside.ends {xs} {rest} {outside} p h) = absurd (omega (arith, le))
 scan_is (suc fuel) _ _ le (AreOutside.ends {xs} {rest} {outside} p h) =
     let is : past_queries xs ≡ rest = past_is xs rest p in
@@ -321,3 +322,19 @@ scan_goes_on most i x rest behind next total at lt e h n = record { so_far = rw 
 pub scan_over : (most i : ℕ) (rest : List Lexeme) (total : Option (List ℕ)) → ScanAt most i rest total → most ≤ i → None ≡ total
 unfolding scan_from
 scan_over most i rest total at le = let fuel : most - i ≡ 0 = omega arith in sym (ap (λ (n : ℕ). scan_from n rest) fuel) ∙ at.so_far
+
+-- the same for what the program finds in a word
+
+front : (rest : List Lexeme) (x : Lexeme) → 1 ≤ length rest → x ≡ get_or rest 0 x → rest ≡ x ∷ drop 1 rest
+front [] x le is = absurd (omega (arith, le))
+front (y ∷ ys) x le is = ap (λ (z : Lexeme). z ∷ ys) (sym is)
+
+pub scan_stops : {A : Type 0} (f : A → List ℕ) (o : Option A) (most i : ℕ) (x : Lexeme) (rest : List Lexeme) (total : Option (List ℕ)) → ScanAt most i rest total → i < most → 1 ≤ length rest → x ≡ get_or rest 0 x
+    → option_map f o ≡ unsupported_of x → true ≡ is_some o → option_map f o ≡ total
+scan_stops f None most i x rest total at lt le is e t = absurd (false≢true (sym t))
+scan_stops f (Some a) most i x rest total at lt le is e t = scan_finds most i x rest (drop 1 rest) (f a) total at lt (front rest x le is) (sym e)
+
+pub scan_continues : {A : Type 0} (f : A → List ℕ) (o : Option A) (most i : ℕ) (x : Lexeme) (rest next : List Lexeme) (total : Option (List ℕ)) → ScanAt most i rest total → i < most → 1 ≤ length rest → x ≡ get_or rest 0 x
+    → option_map f o ≡ unsupported_of x → false ≡ is_some o → next ≡ behind_word x (drop 1 rest) → ScanAt most (i + 1) next total
+scan_continues f None most i x rest next total at lt le is e t n = scan_goes_on most i x rest (drop 1 rest) next total at lt (front rest x le is) (sym e) n
+scan_continues f (Some a) most i x rest next total at lt le is e t n = absurd (false≢true t)

@@ -1,6 +1,5 @@
 -- Statements: what is read is written so, and what is written so is read.
-use Rattle.std.proofs.Common.{◌≡◌, ◌≢◌, ℕ, zero, suc, ◌≤◌, Bool, true, false, List, [], ◌∷◌, ◌++◌, length, drop, codes, Option, Some, None, Result, Ok, Err, refl, sym, ap, subst, ◌∙◌, arith}
-use Rattle.std.proofs.lemmas.Bool.{and_from, and_parts}
+use Rattle.std.proofs.Common.{◌≡◌, ◌≢◌, ℕ, zero, suc, ◌≤◌, Bool, true, false, List, [], ◌∷◌, ◌++◌, length, drop, codes, Option, Some, None, Result, Ok, refl, sym, ap, subst, ◌∙◌, arith}
 use Rattle.std.proofs.lemmas.List.{length-append}
 use Rattle.ba_grammar.specs.Front.{Read, all, begins, is_keyword, is_sign}
 use Rattle.ba_grammar.specs.Items.{AreSpelled, Item}
@@ -8,12 +7,11 @@ use Rattle.ba_grammar.specs.Items.Item.{keyword, sign}
 use Rattle.ba_grammar.specs.declared.error.Syntax.{Syntax}
 use Rattle.ba_grammar.proofs.WordLemmas.{Takes, bind_ok, err_ok, keyword_spelled, ok_same, sign_spelled, spelled_keyword, spelled_sign}
 use Rattle.ba_lex.specs.declared.token.Lexeme.{Lexeme}
-use Rattle.ba_lex.specs.declared.token.Lexeme.TheVariants.{Sign as SignWord}
 use Rattle.ba_lex.specs.declared.token.Sign.TheVariants.{LeftParen, RightParen, Semicolon}
 use Rattle.ba_model.specs.Readings.{◌>>=◌}
 use Rattle.ba_sql_ddl.specs.Brackets.{AreBalanced, closing, from_close, inside}
 use Rattle.ba_sql_ddl.specs.Reader.{behind_end, behind_rule, behind_within, inclusion_at, or_syntax, statement_at, statements_at, table_at}
-use Rattle.ba_sql_ddl.specs.Written.{AreStatements, Begins, InclusionText, IsInclusion, IsStatement, IsTable, StatementText, rule_ends, rule_opens, table_items, within_opens}
+use Rattle.ba_sql_ddl.specs.Written.{AreStatements, Begins, InclusionText, IsInclusion, IsStatement, StatementText, rule_ends, rule_opens, table_items, within_opens}
 use Rattle.ba_sql_ddl.specs.Written.StatementText.{inclusion, table}
 use Rattle.ba_sql_ddl.specs.declared.written.TableText.{TableText}
 use Rattle.ba_sql_ddl.proofs.BracketLemmas.{from_close_is, inside_balanced, inside_is, whole}

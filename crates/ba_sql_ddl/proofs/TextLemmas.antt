@@ -1,6 +1,6 @@
 -- The statements of a text, as the loop reads them.
 use Rattle.std.proofs.Common.{◌≡◌, ℕ, ◌+◌, ◌<◌, ◌≤◌, List, [], ◌∷◌, ◌++◌, length, Result, Ok, Err, refl, sym, ap, ◌∙◌}
-use Rattle.ba_grammar.specs.Front.{all, syntax}
+use Rattle.ba_grammar.specs.Front.{syntax}
 use Rattle.ba_grammar.specs.declared.error.Syntax.{Syntax}
 use Rattle.ba_grammar.proofs.SeveralLemmas.{AllAt, all_ends, all_fails, all_goes_on, all_over, all_start}
 use Rattle.ba_lex.specs.declared.token.Lexeme.{Lexeme}

@@ -32,8 +32,8 @@ pub fn behind_rule(words: &[Lexeme]) -> Option<&[Lexeme]>
     ensures { option_map (λ rest. rest.now) result ≡ reader.behind_rule words.now }
 {
     match words {
-        [rule, open, rest @ ..]
-            if is_keyword(rule, "RULE") && is_sign(open, Sign::LeftParen) => Some(rest),
+        [rule, open, rest @ ..] if is_keyword(rule, "RULE") && is_sign(open, Sign::LeftParen) =>
+            Some(rest),
         _ => None,
     }
 }

@@ -9,7 +9,7 @@ returns-then-depth-eq0-clause-at c =
 
 pub loop-at-preserved : goal.loop-at-preserved
 loop-at-preserved c = elim c.if-is_sign.branch [
-  then-is_sign w ↦
+  | then-is_sign w ↦
       close_opens c.args.words.now c.loop-at.depth c.if-is_sign.depth c.loop-at.at c.index-words-at.result c.loop-at.invariant c.loop-at-test.true c.index-words-at.is (sym w.if-is_sign.ensures) w.depth-is
   | else-is_sign+then-is_sign-2+else-depth-eq0 w ↦
       close_closes c.args.words.now c.loop-at.depth c.if-is_sign.depth c.loop-at.at c.index-words-at.result c.loop-at.invariant c.loop-at-test.true c.index-words-at.is (sym w.if-is_sign.ensures) (sym w.if-is_sign-2.ensures) w.if-depth-eq0.false w.depth-is
