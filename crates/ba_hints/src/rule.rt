@@ -151,7 +151,8 @@ pub fn rule_hint(
     words: &Words<'_>,
     number: u32,
 ) -> Result<Hint, AllocError> {
-    let plain = "a query of it isn't read, or its two queries give rows of different lengths or kinds";
+    let plain =
+        "a query of it isn't read, or its two queries give rows of different lengths or kinds";
     let schema = schema_of_tables(alloc, bytes, words)?;
     let hint = match (schema, place_of_rule(words, number)) {
         (Some(schema), Some(at)) => queries_hint(alloc, &schema, bytes, words, at)?,

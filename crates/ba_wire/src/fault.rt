@@ -7,8 +7,8 @@ ghost use Rattle.ba_wire.specs.Names.{◌␣◌, fault_words};
 ghost use Rattle.ba_wire.specs.Object.{made};
 ghost use Rattle.ba_wire.specs.Printed.{ReadsBack, line_name, reason_text, row_words, what_name, fault_json, fault_bytes};
 
-use crate::names::fault_words;
 use crate::answer::row_text;
+use crate::names::fault_words;
 use crate::object::Object;
 use ba_model::{Counted, Row, Str};
 use ba_script::LineFault;

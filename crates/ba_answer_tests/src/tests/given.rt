@@ -58,8 +58,7 @@ fn checked(
     users: &[u8],
     events: &[u8],
     attendances: &[u8],
-) -> Result<Tables, Failure<TablesFault>>
-{
+) -> Result<Tables, Failure<TablesFault>> {
     if schema.tables.len() != 3 {
         return Err(Failure::NoMemory);
     }

@@ -78,6 +78,9 @@ fn memory_of_two_questions(rt: HostRuntime) -> Result<(), Fail> {
     }
     let first = Some((LineKind::Ask, Some(0), Some(0)));
     let second = Some((LineKind::Ask, Some(1), Some(0)));
-    assert_eq!(rt; found.as_slice(), [None, None, first, None, None, second].as_slice());
+    assert_eq!(rt;
+        found.as_slice(),
+        [None, None, first, None, None, second].as_slice()
+    );
     Ok(())
 }
