@@ -3,7 +3,8 @@
 
 Both are `blockaid`, such as out/blockaid of two clones, built in the same way. The parts are `kinds`, `entries`, `compared`, `views` and `hard`,
 whose questions are those of bench/search.py; `answers`, those of bench/bench.py over tables of a thousand rows; `requests`, the lines of
-bench/sessions.py; and `workload`, `gen` with one worker. A script is run with the questions and without them, under valgrind's callgrind;
+bench/sessions.py; `workload`, `gen` with one worker; and `nullable`, the questions of `kinds` by the second program alone, over their own
+schema and over one in which each column that is in no PRIMARY KEY may be NULL. A script is run with the questions and without them, under valgrind's callgrind;
 the difference, by their number, is what one costs. That doesn't depend on what else the machine does, as seconds do. Prints a table in
 Markdown, a line for each question.
 """
@@ -112,6 +113,23 @@ def tell_requests(programs):
             before = found
 
 
+def nullable(schema):
+    """The schema without NOT NULL, but for the columns of its links, which would lead nowhere where they may be NULL."""
+    return re.sub(r"\b(\w+ \w+) NOT NULL(?! REFERENCES)", r"\1", schema)
+
+
+def tell_nullable(program, asks):
+    """A line for each kind of question, over NOT NULL columns and over nullable ones."""
+    for ask in questions.kinds():
+        found = []
+        for schema in (ask.schema, nullable(ask.schema)):
+            with tempfile.TemporaryDirectory() as folder:
+                write_files(folder, ask._replace(schema=schema))
+                one = cost(program, folder, ask, 1)
+                found.append(one if one >= FEW else cost(program, folder, ask, asks))
+        tell(ask.name, *found)
+
+
 def tell_workload(programs):
     """The instructions of a request of `gen`, and the whole of a run of one request."""
     with tempfile.TemporaryDirectory() as folder:
@@ -126,6 +144,7 @@ OTHERS = {
     "answers": tell_answers,
     "requests": lambda programs, asks: tell_requests(programs),
     "workload": lambda programs, asks: tell_workload(programs),
+    "nullable": lambda programs, asks: tell_nullable(programs[-1], asks),
 }
 
 
