@@ -14,8 +14,8 @@ both_fit (s ∷ []) first second e a b = absurd (omega arith)
 both_fit (s ∷ t ∷ []) first second e a b = (a, (b, tt))
 both_fit (s ∷ t ∷ u ∷ rest) first second e a b = absurd (omega arith)
 
-pub check-requires-clause-fit : goal.check-requires-clause-fit
-check-requires-clause-fit c =
+pub check-requires : goal.check-requires-clause-fit
+check-requires c =
     record {
       tables = rw (c.in_ok-schema.ensures, c.from_vec-tables.ensures, c.in_ok-vec.ensures.items)
           (both_fit c.in-Ok.schema.tables c.in-Ok-read_table.first c.in-Ok-read_table-2.second (sym c.len.ensures ∙ c.if-len-ne2.false) c.in-Ok-read_table.ensures.fits c.in-Ok-read_table-2.ensures.fits);
