@@ -2,7 +2,7 @@ use Rattle.std.proofs.Common.{◌≡◌, ◌∙◌, arith, length}
 use Rattle.ba_answer_tests.proofs.TableLemmas.{rows_fit}
 use Rattle.ba_answer_tests.proofs.tests.given.checked.Goals as goal
 
-pub check-requires : goal.check-requires-clause-fit
+pub check-requires : goal.check-requires
 check-requires c =
     let three : length c.deref.result.now.tables ≡ 3 = omega arith in
     rows_fit c.args.schema.now c.deref.result.now c.deref-2.result.now c.deref-3.result.now c.deref-4.result.now c.in-Ok.first c.in-Ok-read_table.second

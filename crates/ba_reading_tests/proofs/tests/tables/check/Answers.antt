@@ -14,7 +14,7 @@ both_fit (s ∷ []) first second e a b = absurd (omega arith)
 both_fit (s ∷ t ∷ []) first second e a b = (a, (b, tt))
 both_fit (s ∷ t ∷ u ∷ rest) first second e a b = absurd (omega arith)
 
-pub check-requires : goal.check-requires-clause-fit
+pub check-requires : goal.check-requires
 check-requires c =
     record {
       tables = rw (c.in_ok-schema.ensures, c.from_vec-tables.ensures, c.in_ok-vec.ensures.items)
