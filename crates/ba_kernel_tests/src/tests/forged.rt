@@ -5,7 +5,8 @@ use std::test::Fail;
 
 /// One change a line: versions, keys, the fields in turn, steps.
 const CHANGES: &str = "\"version\":1 => \"version\":0 => field version
-\"version\":1 => \"version\":2 => field version
+\"version\":1 => \"version\":2 => accepted 3
+\"version\":1 => \"version\":3 => field version
 \"version\":1 => \"version\":1.0 => field version
 \"version\":1 => \"version\":\"1\" => field version
 ,\"version\":1 =>  => field version
@@ -21,7 +22,7 @@ const CHANGES: &str = "\"version\":1 => \"version\":0 => field version
 \"row\":[2,5,100] => \"row\":[2,5] => field entries
 \"row\":[2,5,100] => \"row\":[2,5,100,1] => field entries
 \"row\":[2,5,100] => \"row\":[2,5,\"100\"] => field entries
-\"row\":[2,5,100] => \"row\":[2,5,null] => field entries
+\"row\":[2,5,100] => \"row\":[2,5,null] => accepted 3
 \"row\":[2,5,100] => \"row\":{} => field entries
 \"row\":[2,5,100] => \"row\":[2,5,100],\"s\":1 => field entries
 \"row\":[2,5,100] => \"rows\":[2,5,100] => field entries
@@ -43,7 +44,8 @@ const CHANGES: &str = "\"version\":1 => \"version\":0 => field version
 [\"entry\",0,0] => [\"goal\",0,0,[\"0\"]] => field steps
 [\"entry\",0,0] => [\"goal\",0,0,0] => field steps
 [\"entry\",0,0] => [\"split\",0,[\"=\",[\"p\",\"Other\"],1]] => field steps
-[\"entry\",0,0] => [\"split\",0,[\"is null\",[\"u\",0],[\"u\",0]]] => field steps
+[\"entry\",0,0] => [\"split\",0,[\"is null\",[\"u\",0],[\"u\",0]]] => step 1: fact
+[\"entry\",0,0] => [\"split\",0,[\"is null\",[\"u\",0],[\"u\",1]]] => step 0: rule
 [\"entry\",0,0] => [\"split\",0,[\"=\",[\"u\",0],null]] => field steps
 [\"entry\",0,0] => [\"split\",0,[\"=\",[\"v\",0],1]] => field steps
 [\"entry\",0,0] => [\"entry\",7,0] => step 0: branch
