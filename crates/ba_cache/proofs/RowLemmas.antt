@@ -7,7 +7,7 @@ use Rattle.std.specs.Map.{lookup, lookup_entry, remove_entry}
 use Rattle.std.specs.Option.{option_map_or, unwrap_or}
 use Rattle.std.specs.Prelude.{All, Contains}
 use Rattle.lru.specs.LruCache.{lru_cache, promoted, put_entries}
-use Rattle.ba_kernel.specs.Tests.{Proof}
+use Rattle.ba_kernel.specs.SearchStates.{Proof}
 use Rattle.ba_model.proofs.ElementLemmas.{Contains-nil}
 use Rattle.ba_template.specs.declared.shapes.Shape.{Shape}
 use Rattle.ba_cache.specs.Rows.{HasOther, IsSound, IsAdded, IsKnown, IsOther, Looks, Row, Stands, kept, latest, shape_of_template}

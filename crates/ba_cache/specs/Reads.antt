@@ -1,6 +1,6 @@
 -- What callers see of a shelf.
 use Rattle.std.specs.Prelude.{ℕ, ◌-◌, ◌^◌, List, Result, Ok, Err, min, vec_len, vec_capacity}
-use Rattle.ba_kernel.specs.Tests.{Proof}
+use Rattle.ba_kernel.specs.SearchStates.{Proof}
 use Rattle.ba_template.specs.declared.shapes.Shape.{Shape}
 use Rattle.ba_cache.specs.Rows.{Row}
 use Rattle.ba_cache.specs.declared.call.Admit.{Admit as Answer}

@@ -2,7 +2,7 @@
 use Rattle.std.specs.Prelude.{◌≡◌, ◌≢◌, ℕ, ◌-◌, Bool, true, false, List, [], ◌∷◌, ◌++◌, All, Contains, count_by, drop, length, take, ◌⊎◌}
 use Rattle.ba_model.specs.Limits.{most_alike, most_shapes}
 use Rattle.ba_kernel.specs.Problems.{StrongAll}
-use Rattle.ba_kernel.specs.Tests.{Proof}
+use Rattle.ba_kernel.specs.SearchStates.{Proof}
 use Rattle.ba_template.specs.Shapes.{shape_of}
 use Rattle.ba_template.specs.Templates.{IsTemplate}
 use Rattle.ba_template.specs.declared.shapes.Shape.{Shape}

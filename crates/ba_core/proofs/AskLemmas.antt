@@ -6,7 +6,7 @@ use Rattle.ba_comply.specs.Comply.{Strong}
 use Rattle.ba_core.specs.Steps.{IsServed}
 use Rattle.ba_core.specs.declared.opened.Opened.{Opened}
 use Rattle.ba_kernel.specs.Problems.{ProblemIsQuestion, StrongAll, problem_of}
-use Rattle.ba_kernel.specs.Tests.{Proof}
+use Rattle.ba_kernel.specs.SearchStates.{Proof}
 use Rattle.ba_kernel.specs.declared.problem.Problem.{Problem}
 use Rattle.ba_model.specs.Fit.{ContextFits, kinds_of}
 use Rattle.ba_model.specs.declared.policy.Policy.{Policy}

@@ -16,7 +16,7 @@ use Rattle.ba_core.specs.State.{IsOpenRequest, IsState, IsVersion}
 use Rattle.ba_core.specs.declared.opened.Answered.{Answered}
 use Rattle.ba_core.specs.declared.opened.Opened.{Opened}
 use Rattle.ba_facts.proofs.Elements.{get_append_old}
-use Rattle.ba_kernel.specs.Tests.{Proof}
+use Rattle.ba_kernel.specs.SearchStates.{Proof}
 use Rattle.ba_model.specs.Conform.{Conforms}
 use Rattle.ba_model.specs.Fit.{ContextFits, kinds_of}
 use Rattle.ba_model.specs.Meaning.{IsAnswer}

@@ -6,7 +6,7 @@ use Rattle.std.specs.Ordering.{nat_cmp}
 use Rattle.ba_comply.specs.Comply.{Records}
 use Rattle.ba_core.specs.declared.opened.Answered.{Answered}
 use Rattle.ba_core.specs.declared.opened.Opened.{Opened}
-use Rattle.ba_kernel.specs.Tests.{Proof}
+use Rattle.ba_kernel.specs.SearchStates.{Proof}
 use Rattle.ba_model.specs.Conform.{Conforms}
 use Rattle.ba_model.specs.Fit.{ContextFits, PolicyFits, kinds_of}
 use Rattle.ba_model.specs.declared.policy.Policy.{Policy}

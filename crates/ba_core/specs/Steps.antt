@@ -14,7 +14,7 @@ use Rattle.ba_core.specs.declared.event.Ground.TheVariants.{Cover, Template, Pro
 use Rattle.ba_core.specs.declared.opened.Opened.{Opened}
 use Rattle.ba_direct.specs.Cover.{Covered, IsCover}
 use Rattle.ba_kernel.specs.Problems.{problem_of}
-use Rattle.ba_kernel.specs.Tests as kernel
+use Rattle.ba_kernel.specs.SearchStates as kernel
 use Rattle.ba_model.specs.Meaning.{IsAnswer}
 use Rattle.ba_model.specs.declared.policy.Context.{Context}
 use Rattle.ba_model.specs.declared.policy.Policy.{Policy}
@@ -84,7 +84,7 @@ pub record IsRecorded (old : State) (k : ℕ) (query : Query) (rows : List (List
   pub log : new.log ≡ old.log ++ record { request = k; query = query; rows = rows } ∷ []
   pub rest : new ≡ record old { requests = new.requests; log = new.log }
 
-pub record IsAnswered (old : State) (k : ℕ) (query : Query) (why : Ground) (rows : List (List Value)) (new : State) : Type 0 where
+pub record AnswersAsk (old : State) (k : ℕ) (query : Query) (why : Ground) (rows : List (List Value)) (new : State) : Type 0 where
   pub released : IsReleased old k query why rows
   pub recorded : IsRecorded old k query rows new
 
@@ -148,7 +148,7 @@ Refuses old (events.End k) fault = RefusesEnd old k fault
 
 -- what a question that isn't refused is replied to with; a block changes nothing
 abbrev pub Asks : State → ℕ → Query → Ground → Asked → State → Type 0
-Asks old k query why (Answer rows) new = IsAnswered old k query why rows new
+Asks old k query why (Answer rows) new = AnswersAsk old k query why rows new
 Asks old k query why Blocked new = IsBlocked old k query why × (new ≡ old)
 
 -- the event takes the old state to the new one, with this reply; a refusal changes nothing

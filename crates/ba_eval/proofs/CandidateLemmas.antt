@@ -19,7 +19,7 @@ use Rattle.ba_model.specs.declared.value.RowSet.{RowSet}
 use Rattle.ba_model.specs.declared.value.Value.{Value}
 use Rattle.ba_model.specs.declared.value.Value.TheVariants.{Null, Int, Text}
 use Rattle.ba_eval.proofs.HeadLemmas.{one_head}
-use Rattle.ba_eval.specs.Index.{known, key_of, same_number, value_in, AreCandidates, AreEqual, HasKey, HaveKey, HaveKeyIfAny, HaveNumbers, IsOutside, IsEntry, IsKey, IsMade, IsTie, IsWithin, MeetsDue, MeetsWithin, StandsAt, Ties}
+use Rattle.ba_eval.specs.Index.{known, key_of, same_number, value_in, AreCandidates, AreEqual, HasKey, HaveKey, HaveKeyIfAny, HaveNumbers, IsOutside, IsEntry, IsKey, IsMade, IsTie, IsWithin, MeetsSettled, MeetsWithin, StandsAt, Ties}
 use Rattle.ba_eval.specs.declared.place.Entry.{Entry}
 use Rattle.ba_eval.specs.declared.tie.Tie.{Tie}
 
@@ -214,7 +214,7 @@ module _ (c : Context) (part : Part) (chosen : List (List Value)) (ties : List T
   abbrev pub g : Tie → Option Value
   g tie = known (value_of c chosen tie.other.now)
 
-  pub tied : (row : List Value) → MeetsDue c part chosen row → BothKeys (f row) g ties
+  pub tied : (row : List Value) → MeetsSettled c part chosen row → BothKeys (f row) g ties
   tied row due = keys_from (f row) g ties (λ tie h.
       let s = sound tie h in
       let e = tie_met c chosen row s.0 tie s.2 (due s.0 s.1 (inr (tie, s.2))) in
@@ -238,13 +238,13 @@ module _ (bounded : Bool) (c : Context) (d : RowSet) (part : Part) (chosen : Lis
   in_table : (number : ℕ) (row : List Value) → slice_get (rows_of d table) number ≡ Some row → slice_get rows number ≡ Some row
   in_table number row e = subst (λ rows. slice_get rows number ≡ Some row) (sym rows_are) e
 
-  meets : (row : List Value) → MeetsDue c part chosen row → MeetsWithin c (length chosen) row part.conds
+  meets : (row : List Value) → MeetsSettled c part chosen row → MeetsWithin c (length chosen) row part.conds
   meets row due k x below w =
       let atom = get_or part.conds k x in
       within_met c chosen row atom w (due atom (Contains-get_or part.conds k x below) (inl w))
 
   module _ (key : List Value) (key_is : map (g c part chosen ties is.ties_are.sound) ties ≡ map Some key) (found : List Entry) (have : HaveKey entries key found) where
-    due_met : (entry : Entry) (row : List Value) → MeetsWithin c (length chosen) row part.conds → HasKey ties row (key_of entry) → key_of entry ≡ key → MeetsDue c part chosen row
+    due_met : (entry : Entry) (row : List Value) → MeetsWithin c (length chosen) row part.conds → HasKey ties row (key_of entry) → key_of entry ≡ key → MeetsSettled c part chosen row
     due_met entry row within has same atom there (inl w) = within_holds c chosen row atom w (All-contains (λ x. IsWithin (length chosen) x → AreEqual (value_in c row x.left) (value_in c row x.right)) part.conds atom within there w)
     due_met entry row within has same atom there (inr (tie, is_tie)) =
         let own = is.ties_are.complete atom tie there is_tie in

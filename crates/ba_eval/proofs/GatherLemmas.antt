@@ -14,7 +14,7 @@ use Rattle.ba_model.specs.declared.query.Part.{Part}
 use Rattle.ba_model.specs.declared.value.RowSet.{RowSet}
 use Rattle.ba_model.specs.declared.value.Value.{Value}
 use Rattle.ba_eval.proofs.SearchLemmas.{FromRow, adds_more, adds_same, from_row, row_from}
-use Rattle.ba_eval.specs.Index.{AreCandidates, ArePlaces, IsDue, IsOutside, IsPlace, MeetsDue, StandsAt, StandsWithin}
+use Rattle.ba_eval.specs.Index.{AreCandidates, ArePlaces, IsSettledAt, IsOutside, IsPlace, MeetsSettled, StandsAt, StandsWithin}
 use Rattle.ba_eval.specs.Search.{Adds, BySome, GivesFrom}
 use Rattle.ba_eval.specs.declared.place.Place.{Place}
 
@@ -64,12 +64,12 @@ outside_within n (Var m) h = tt
 own_within : (n k : ℕ) (x : Operand) → x ≡ Col n k → StandsWithin (n + 1) x
 own_within n k x e = subst (StandsWithin (n + 1)) (sym e) (let h : n < n + 1 = omega arith in h)
 
-pub due_left : (n : ℕ) (atom : Atom) → IsDue n atom → StandsWithin (n + 1) atom.left
+pub due_left : (n : ℕ) (atom : Atom) → IsSettledAt n atom → StandsWithin (n + 1) atom.left
 due_left n atom (inl w) = at_within n atom.left w.left
 due_left n atom (inr (tie, is)) =
     elim is.sides [ inl t ↦ own_within n tie.column atom.left t.own_is | inr t ↦ outside_within n atom.left t.outside ]
 
-pub due_right : (n : ℕ) (atom : Atom) → IsDue n atom → StandsWithin (n + 1) atom.right
+pub due_right : (n : ℕ) (atom : Atom) → IsSettledAt n atom → StandsWithin (n + 1) atom.right
 due_right n atom (inl w) = at_within n atom.right w.right
 due_right n atom (inr (tie, is)) =
     elim is.sides [ inl t ↦ outside_within n atom.right t.outside | inr t ↦ own_within n tie.column atom.right t.own_is ]
@@ -79,7 +79,7 @@ one_longer xs x = length-append xs (x ∷ [])
 
 module _ (c : Context) (d : RowSet) (part : Part) (from : List ℕ) (chosen : List (List Value)) where
   -- a row from which the part gives something makes true what it settles
-  pub due_of_given : (row r : List Value) → FromRow c d part from chosen row r → MeetsDue c part chosen row
+  pub due_of_given : (row r : List Value) → FromRow c d part from chosen row r → MeetsSettled c part chosen row
   due_of_given row r (more, are, g) atom there due =
       let beside = chosen ++ row ∷ [] in
       holds_front c beside more atom

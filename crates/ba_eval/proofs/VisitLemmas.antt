@@ -18,7 +18,7 @@ use Rattle.ba_model.specs.declared.value.Value.{Value}
 use Rattle.ba_eval.proofs.EntryLemmas.{earlier_or_here}
 use Rattle.ba_eval.proofs.GatherLemmas.{holds_back, table_of}
 use Rattle.ba_eval.proofs.KeyLemmas.{distinct_take}
-use Rattle.ba_eval.specs.Index.{AreCandidates, ArePlaces, IsDue, IsOutside, MeetsDue, StandsAt, StandsWithin}
+use Rattle.ba_eval.specs.Index.{AreCandidates, ArePlaces, IsSettledAt, IsOutside, MeetsSettled, StandsAt, StandsWithin}
 use Rattle.ba_eval.specs.Visits.{AreAt, GoOn, IsVisit, MeetsEquations, Reached, Visited}
 use Rattle.ba_eval.specs.declared.place.Place.{Place}
 use Rattle.ba_eval.specs.declared.tie.Tie.{Tie}
@@ -31,17 +31,17 @@ Before n x y = (0 < n) × StandsWithin n x × StandsWithin n y
 abbrev tie_to : ℕ → Operand → Tie
 tie_to column other = record { column = column; other = record { ref_ptr = (0, 0); now = other } }
 
-within_due : (n : ℕ) (atom : Atom) → atom.op ≡ Eq → StandsAt n atom.left → StandsAt n atom.right → IsDue n atom
+within_due : (n : ℕ) (atom : Atom) → atom.op ≡ Eq → StandsAt n atom.left → StandsAt n atom.right → IsSettledAt n atom
 within_due n atom is l r = inl (record { equation = is; left = l; right = r })
 
-one_side : (n : ℕ) (atom : Atom) (p k : ℕ) (y : Operand) → atom.op ≡ Eq → atom.left ≡ Col p k → atom.right ≡ y → p < n + 1 → StandsAt n y → StandsWithin n y → IsDue n atom ⊎ Before n (Col p k) y
+one_side : (n : ℕ) (atom : Atom) (p k : ℕ) (y : Operand) → atom.op ≡ Eq → atom.left ≡ Col p k → atom.right ≡ y → p < n + 1 → StandsAt n y → StandsWithin n y → IsSettledAt n atom ⊎ Before n (Col p k) y
 one_side n atom p k y is l r a at within =
     elim (earlier_or_here p n a) [
       | inl early ↦ inr (omega arith, early, within)
       | inr here ↦ inl (within_due n atom is (subst (StandsAt n) (sym l) here) (subst (StandsAt n) (sym r) at))
     ]
 
-other_side : (n : ℕ) (atom : Atom) (x y : Operand) → atom.op ≡ Eq → atom.left ≡ x → atom.right ≡ y → StandsAt n x → StandsWithin n x → StandsWithin (n + 1) y → IsDue n atom ⊎ Before n x y
+other_side : (n : ℕ) (atom : Atom) (x y : Operand) → atom.op ≡ Eq → atom.left ≡ x → atom.right ≡ y → StandsAt n x → StandsWithin n x → StandsWithin (n + 1) y → IsSettledAt n atom ⊎ Before n x y
 other_side n atom x (Col q m) is l r at within b =
     elim (earlier_or_here q n b) [
       | inl early ↦ inr (omega arith, within, early)
@@ -51,7 +51,7 @@ other_side n atom x (Val v) is l r at within b = inl (within_due n atom is (subs
 other_side n atom x (Param v) is l r at within b = inl (within_due n atom is (subst (StandsAt n) (sym l) at) (subst (StandsAt n) (sym r) tt))
 other_side n atom x (Var v) is l r at within b = inl (within_due n atom is (subst (StandsAt n) (sym l) at) (subst (StandsAt n) (sym r) tt))
 
-sides_due : (n : ℕ) (atom : Atom) (x y : Operand) → atom.op ≡ Eq → atom.left ≡ x → atom.right ≡ y → StandsWithin (n + 1) x → StandsWithin (n + 1) y → IsDue n atom ⊎ Before n x y
+sides_due : (n : ℕ) (atom : Atom) (x y : Operand) → atom.op ≡ Eq → atom.left ≡ x → atom.right ≡ y → StandsWithin (n + 1) x → StandsWithin (n + 1) y → IsSettledAt n atom ⊎ Before n x y
 sides_due n atom (Col p k) (Col q m) is l r a b =
     elim (earlier_or_here p n a) [
       | inl early ↦ elim (earlier_or_here q n b) [
@@ -70,7 +70,7 @@ sides_due n atom (Val v) y is l r a b = other_side n atom (Val v) y is l r tt tt
 sides_due n atom (Param v) y is l r a b = other_side n atom (Param v) y is l r tt tt b
 sides_due n atom (Var v) y is l r a b = other_side n atom (Var v) y is l r tt tt b
 
-pub due_or_before : (n : ℕ) (atom : Atom) → atom.op ≡ Eq → StandsWithin (n + 1) atom.left → StandsWithin (n + 1) atom.right → IsDue n atom ⊎ Before n atom.left atom.right
+pub due_or_before : (n : ℕ) (atom : Atom) → atom.op ≡ Eq → StandsWithin (n + 1) atom.left → StandsWithin (n + 1) atom.right → IsSettledAt n atom ⊎ Before n atom.left atom.right
 due_or_before n atom is a b = sides_due n atom atom.left atom.right is refl refl a b
 
 -- one place further
@@ -94,7 +94,7 @@ one_longer : {X : Type 0} (xs : List X) (x : X) → length (xs ++ x ∷ []) ≡ 
 one_longer [] x = refl
 one_longer (y ∷ xs) x = ap suc (one_longer xs x)
 
-module _ (c : Context) (d : RowSet) (part : Part) (table : ℕ) (from before : List ℕ) (chosen : List (List Value)) (at : Reached c d part (table ∷ from) before chosen) (position : ℕ) (row : List Value) (row_is : slice_get (rows_of d table) position ≡ Some row) (due : MeetsDue c part chosen row) where
+module _ (c : Context) (d : RowSet) (part : Part) (table : ℕ) (from before : List ℕ) (chosen : List (List Value)) (at : Reached c d part (table ∷ from) before chosen) (position : ℕ) (row : List Value) (row_is : slice_get (rows_of d table) position ≡ Some row) (due : MeetsSettled c part chosen row) where
   longer : length (chosen ++ row ∷ []) ≡ length chosen + 1
   longer = length-append chosen (row ∷ [])
 
@@ -245,7 +245,7 @@ module _ (bounded : Bool) (bound : IsTrue bounded) (c : Context) (d : RowSet) (p
       let own = subst (ArePlaces bounded c d part (length chosen)) split are in
       let in_table = subst (λ rows. slice_get rows number ≡ Some row) own.0.rows_are row_is in
       let s = candidates.sound number (i, below, sym here) in
-      let due = subst (MeetsDue c part chosen) (some_row (slice_get (rows_of d place.table) number) s.0 row s.1 in_table) (s.2 bound) in
+      let due = subst (MeetsSettled c part chosen) (some_row (slice_get (rows_of d place.table) number) s.0 row s.1 in_table) (s.2 bound) in
       let here_at = subst (λ ps. Reached c d part (map table_of ps) before chosen) split at in
       let further = reached c d part place.table (map table_of rest) before chosen here_at number row in_table due in
       let below_it = child (before ++ number ∷ []) (subst (Reached c d part (map table_of rest) (before ++ number ∷ [])) (sym e) further) in

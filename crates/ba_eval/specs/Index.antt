@@ -162,8 +162,8 @@ pub record HaveNumbers (entries : List Entry) (key : Option (List (Bor Value))) 
   pub are : numbers ≡ map (λ entry. entry.number) found
 
 -- an equation that the row at a place settles
-abbrev pub IsDue : ℕ → Atom → Type 0
-IsDue at atom = IsWithin at atom ⊎ ((tie : Tie) × IsTie at atom tie)
+abbrev pub IsSettledAt : ℕ → Atom → Type 0
+IsSettledAt at atom = IsWithin at atom ⊎ ((tie : Tie) × IsTie at atom tie)
 
 -- some of the ties is the atom
 abbrev pub IsTied : ℕ → List Tie → Atom → Type 0
@@ -171,7 +171,7 @@ IsTied at ties atom = (tie : Tie) × Contains ties tie × IsTie at atom tie
 
 -- every equation that the place settles is one of the ties
 abbrev pub IsCovered : ℕ → List Atom → List Tie → Type 0
-IsCovered at atoms ties = (atom : Atom) → Contains atoms atom → IsDue at atom → IsTied at ties atom
+IsCovered at atoms ties = (atom : Atom) → Contains atoms atom → IsSettledAt at atom → IsTied at ties atom
 
 -- the ties are some of these, on the first of the columns
 pub record IsFront (all : List Tie) (columns : List ℕ) (ties : List Tie) : Type 0 where
@@ -216,11 +216,11 @@ ArePlaces bounded c d part at [] = ⊤
 ArePlaces bounded c d part at (place ∷ places) = IsPlace bounded c d part at place × ArePlaces bounded c d part (at + 1) places
 
 -- the row makes true beside the chosen rows what it settles
-abbrev pub MeetsDue : Context → Part → List (List Value) → List Value → Type 0
-MeetsDue c part chosen row = (atom : Atom) → Contains part.conds atom → IsDue (length chosen) atom → Holds c (chosen ++ row ∷ []) atom
+abbrev pub MeetsSettled : Context → Part → List (List Value) → List Value → Type 0
+MeetsSettled c part chosen row = (atom : Atom) → Contains part.conds atom → IsSettledAt (length chosen) atom → Holds c (chosen ++ row ∷ []) atom
 
 -- the numbers of the rows that make true beside the chosen rows what they settle, each once: in a bounded search of no other rows
 pub record AreCandidates (bounded : Bool) (c : Context) (d : RowSet) (part : Part) (table : ℕ) (chosen : List (List Value)) (numbers : List ℕ) : Type 0 where
-  pub sound : (number : ℕ) → Contains numbers number → (row : List Value) × (slice_get (rows_of d table) number ≡ Some row) × (IsTrue bounded → MeetsDue c part chosen row)
-  pub complete : (number : ℕ) (row : List Value) → slice_get (rows_of d table) number ≡ Some row → MeetsDue c part chosen row → Contains numbers number
+  pub sound : (number : ℕ) → Contains numbers number → (row : List Value) × (slice_get (rows_of d table) number ≡ Some row) × (IsTrue bounded → MeetsSettled c part chosen row)
+  pub complete : (number : ℕ) (row : List Value) → slice_get (rows_of d table) number ≡ Some row → MeetsSettled c part chosen row → Contains numbers number
   pub distinct : IsDistinct eqb numbers

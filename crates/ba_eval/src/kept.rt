@@ -2,7 +2,7 @@
 ghost use Rattle.std.specs.Prelude.{◌≡◌, ◌↔◌, ◌⊎◌, Some, All, Contains, IfOk, IfSome, IsTrue};
 ghost use Rattle.ba_index.specs.Orders.{IsInOrder, IsOrderOf};
 ghost use Rattle.ba_model.specs.Meaning.{rows_of};
-ghost use Rattle.ba_eval.specs.Index.{AreTies, HaveFrontIfAny, IsCovered, IsFront, IsKept, IsDue, IsTied, IsTiedOrder};
+ghost use Rattle.ba_eval.specs.Index.{AreTies, HaveFrontIfAny, IsCovered, IsFront, IsKept, IsSettledAt, IsTied, IsTiedOrder};
 
 use crate::part::Search;
 use crate::tie::{Tie, is_within, tie_of};
@@ -149,7 +149,7 @@ fn are_covered(atoms: &[Atom], at: usize, ties: &[Tie]) -> bool
 }
 
 fn is_covered(atom: &Atom, at: usize, ties: &[Tie]) -> bool
-    ensures { IsTrue result → IsDue at atom.now → IsTied at ties.now atom.now }
+    ensures { IsTrue result → IsSettledAt at atom.now → IsTied at ties.now atom.now }
 {
     match tie_of(atom, at) {
         Some(tie) => has_tie(ties, &tie),

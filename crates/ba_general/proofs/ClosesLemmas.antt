@@ -8,7 +8,7 @@ use Rattle.ba_model.specs.declared.failure.Failure.TheVariants.{Fault}
 use Rattle.ba_kernel.proofs.OneEnd.{one_end}
 use Rattle.ba_kernel.specs.Courses.{ProblemFits}
 use Rattle.ba_kernel.specs.Replays.{Closes, Replays}
-use Rattle.ba_kernel.specs.Tests.{Proof}
+use Rattle.ba_kernel.specs.SearchStates.{Proof}
 use Rattle.ba_kernel.specs.declared.problem.Problem.{Problem}
 use Rattle.ba_kernel.specs.declared.replaying.ReplayFault.{ReplayFault}
 use Rattle.ba_kernel.specs.declared.step.Step.{Step}

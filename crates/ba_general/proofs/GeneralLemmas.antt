@@ -6,7 +6,7 @@ use Rattle.ba_kernel.proofs.AskedLemmas.{question_is_problem}
 use Rattle.ba_kernel.proofs.OneEnd.{one_end}
 use Rattle.ba_kernel.specs.Courses.{ProblemFits}
 use Rattle.ba_kernel.specs.Replays.{Closes, Replays}
-use Rattle.ba_kernel.specs.Tests.{IsProved, Proof}
+use Rattle.ba_kernel.specs.SearchStates.{IsProved, Proof}
 use Rattle.ba_kernel.specs.declared.problem.Problem.{Problem}
 use Rattle.ba_kernel.specs.declared.replaying.ReplayFault.{ReplayFault}
 use Rattle.ba_kernel.specs.declared.step.Step.{Step}

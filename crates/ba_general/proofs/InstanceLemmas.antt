@@ -8,7 +8,7 @@ use Rattle.ba_facts.specs.Matches.{Under, term_of}
 use Rattle.ba_facts.specs.declared.term.Term.{Term}
 use Rattle.ba_facts.specs.declared.term.Term.TheVariants as terms
 use Rattle.ba_kernel.specs.Problems.{HoldsOf, param_is, query_at}
-use Rattle.ba_kernel.specs.Tests.{Proof}
+use Rattle.ba_kernel.specs.SearchStates.{Proof}
 use Rattle.ba_kernel.specs.declared.problem.Problem.{Problem}
 use Rattle.ba_kernel.specs.declared.step.Step.{Step}
 use Rattle.ba_model.specs.Conform.{IsOfKind}

@@ -9,7 +9,7 @@ use Rattle.ba_comply.specs.declared.trace.TraceEntry.{TraceEntry}
 use Rattle.ba_kernel.specs.Asked.{QuestionFits}
 use Rattle.ba_kernel.specs.Problems.{IsInstance, problem_of, query_at}
 use Rattle.ba_kernel.specs.Replays.{Closes}
-use Rattle.ba_kernel.specs.Tests.{Proof}
+use Rattle.ba_kernel.specs.SearchStates.{Proof}
 use Rattle.ba_kernel.specs.declared.problem.Problem.{Problem}
 use Rattle.ba_kernel.specs.declared.step.Step.{Step}
 use Rattle.ba_template.specs.Found.{Matches, with_values}

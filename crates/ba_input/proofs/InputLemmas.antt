@@ -9,7 +9,7 @@ use Rattle.ba_model.specs.RuleFaults.{AreRules}
 use Rattle.ba_proof.specs.Checked.{IsPolicy}
 use Rattle.ba_proof.specs.declared.proof.Proof.{Proof}
 use Rattle.ba_model.specs.SchemaFaults.{AreTables}
-use Rattle.ba_kernel.specs.Tests as kernel
+use Rattle.ba_kernel.specs.SearchStates as kernel
 use Rattle.ba_model.specs.Conform.{RowFits}
 use Rattle.ba_model.specs.Fit.{PolicyFits}
 use Rattle.ba_model.specs.Readings.{widened}

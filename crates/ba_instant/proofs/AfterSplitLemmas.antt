@@ -11,7 +11,7 @@ use Rattle.ba_facts.specs.declared.term.Term.{Term}
 use Rattle.ba_kernel.specs.Courses.{IsOpen, Slots, Takes, after, branch_of}
 use Rattle.ba_kernel.specs.Effects.{negation, with_lessons}
 use Rattle.ba_kernel.specs.Steps.{Leads, SplitLeads}
-use Rattle.ba_kernel.specs.Tests.{Course}
+use Rattle.ba_kernel.specs.SearchStates.{Course}
 use Rattle.ba_kernel.specs.declared.problem.Problem.{Problem}
 use Rattle.ba_kernel.specs.declared.step.Step.{Step}
 use Rattle.ba_instant.proofs.DueLemmas.{one_open}

@@ -18,7 +18,7 @@ use Rattle.ba_facts.specs.declared.term.Fact.{Fact}
 use Rattle.ba_kernel.specs.Courses.{IsOpen, branch_of}
 use Rattle.ba_kernel.specs.News.{IsNewOn, IsNewRound}
 use Rattle.ba_kernel.specs.Steps.{IsRound}
-use Rattle.ba_kernel.specs.Tests.{Course, open_at}
+use Rattle.ba_kernel.specs.SearchStates.{Course, open_at}
 use Rattle.ba_kernel.specs.declared.problem.Problem.{Problem}
 use Rattle.ba_kernel.specs.declared.step.Step.{Step}
 use Rattle.ba_instant.proofs.ChaseLemmas.{new_on}

@@ -9,7 +9,7 @@ use Rattle.ba_kernel.specs.Courses.{IsOpen, Slots, branch_of}
 use Rattle.ba_kernel.specs.Effects.{IsEntryRound}
 use Rattle.ba_kernel.specs.News.{IsNewAt, IsNewOn}
 use Rattle.ba_kernel.specs.Steps.{IsRound}
-use Rattle.ba_kernel.specs.Tests.{Course, open_at}
+use Rattle.ba_kernel.specs.SearchStates.{Course, open_at}
 use Rattle.ba_kernel.specs.declared.problem.ProblemEntry.{ProblemEntry}
 use Rattle.ba_kernel.specs.declared.step.Step.{Step}
 use Rattle.ba_kernel.specs.declared.step.Step.TheVariants as steps

@@ -30,7 +30,7 @@ use Rattle.ba_kernel.proofs.TidyRuns.{runs_are_tidy}
 use Rattle.ba_kernel.specs.Courses.{IsStartOf, ProblemFits, Runs, Slots, after, branch_of, nothing_known, start, next}
 use Rattle.ba_kernel.specs.Effects.{negation, negation_of, rows_at, with_facts, with_lessons}
 use Rattle.ba_kernel.specs.Steps.{KeyLeads, Leads, LinkLeads, SplitLeads}
-use Rattle.ba_kernel.specs.Tests.{IsTidy}
+use Rattle.ba_kernel.specs.SearchStates.{IsTidy}
 use Rattle.ba_kernel.specs.Tidy.{FactsAreThere, TermsAreThere}
 use Rattle.ba_kernel.specs.declared.problem.Problem.{Problem}
 use Rattle.ba_kernel.specs.declared.step.Step.{Step}

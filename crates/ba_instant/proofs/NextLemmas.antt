@@ -14,7 +14,7 @@ use Rattle.ba_kernel.proofs.NewLemmas.{all_at}
 use Rattle.ba_kernel.specs.Courses.{AllClosed, IsOpen, IsStart, ProblemFits, Runs, Slots, Takes, after, branch_of}
 use Rattle.ba_kernel.specs.News.{IsNewOn}
 use Rattle.ba_kernel.specs.Steps.{IsRound}
-use Rattle.ba_kernel.specs.Tests.{Course, IsPassed, PassesAt, open_at}
+use Rattle.ba_kernel.specs.SearchStates.{Course, IsPassed, PassesAt, open_at}
 use Rattle.ba_kernel.specs.declared.problem.Problem.{Problem}
 use Rattle.ba_kernel.specs.declared.step.Step.{Step}
 use Rattle.ba_instant.proofs.ChaseLemmas.{open_is}

@@ -10,7 +10,7 @@ use Rattle.std.specs.Prelude.{◌≢◌, ◌∷◌, IsTrue, Option, Some, None}
 use Rattle.ba_model.proofs.ElementLemmas.{Contains-nil}
 use Rattle.ba_kernel.specs.Courses.{branch_of}
 use Rattle.ba_kernel.specs.News.{IsNewRound}
-use Rattle.ba_kernel.specs.Tests.{Course, open_at}
+use Rattle.ba_kernel.specs.SearchStates.{Course, open_at}
 use Rattle.ba_kernel.specs.declared.step.Step.{Step}
 use Rattle.ba_facts.proofs.PlaceLemmas.{upto as up_to_bound}
 use Rattle.ba_settle.proofs.OrderLemmas.{pick_total}

@@ -13,7 +13,7 @@ use Rattle.ba_facts.specs.declared.branch.Branch.{Branch}
 use Rattle.ba_facts.specs.declared.term.Side.{Side}
 use Rattle.ba_facts.specs.declared.walk.Walk.{Walk}
 use Rattle.ba_facts.specs.declared.walk.Wanted.{Wanted}
-use Rattle.ba_kernel.specs.Tests.{Course}
+use Rattle.ba_kernel.specs.SearchStates.{Course}
 use Rattle.ba_kernel.specs.declared.step.Step.{Step}
 use Rattle.ba_instant.proofs.OfferLemmas.{improves_as, improves_both, improves_none}
 use Rattle.ba_instant.specs.Offers.{Among, Improves}

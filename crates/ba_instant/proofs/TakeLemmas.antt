@@ -11,7 +11,7 @@ use Rattle.ba_facts.specs.declared.walk.Wanted.TheVariants.{Shown}
 use Rattle.ba_facts.specs.declared.term.Side.{Side}
 use Rattle.ba_kernel.specs.Courses.{branch_of}
 use Rattle.ba_kernel.specs.Steps.{IsRound}
-use Rattle.ba_kernel.specs.Tests.{Course}
+use Rattle.ba_kernel.specs.SearchStates.{Course}
 use Rattle.ba_kernel.specs.declared.step.Step.{Step}
 use Rattle.ba_kernel.specs.declared.step.Step.TheVariants as steps
 use Rattle.ba_instant.proofs.DueLemmas.{round_in, round_on}

@@ -6,7 +6,7 @@ use Rattle.ba_facts.specs.declared.term.Fact.{Fact}
 use Rattle.ba_kernel.specs.Courses.{IsOpen, branch_of}
 use Rattle.ba_kernel.specs.News.{IsNewOn}
 use Rattle.ba_kernel.specs.Steps.{IsRound}
-use Rattle.ba_kernel.specs.Tests.{Course}
+use Rattle.ba_kernel.specs.SearchStates.{Course}
 use Rattle.ba_kernel.specs.declared.problem.Problem.{Problem}
 use Rattle.ba_kernel.specs.declared.step.Step.{Step}
 use Rattle.ba_instant.specs.Offers.{IsClosing, IsNewIn, IsRoundIn, IsTelling, Offers, is_single}

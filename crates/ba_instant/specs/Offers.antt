@@ -21,7 +21,7 @@ use Rattle.ba_facts.specs.declared.term.TermAtom.{TermAtom}
 use Rattle.ba_kernel.specs.Courses.{branch_of}
 use Rattle.ba_kernel.specs.News.{IsNewAt}
 use Rattle.ba_kernel.specs.Steps.{FactsPass, IsRound}
-use Rattle.ba_kernel.specs.Tests.{Course, open_at}
+use Rattle.ba_kernel.specs.SearchStates.{Course, open_at}
 use Rattle.ba_kernel.specs.NewParts.{IsAtomOfParts, IsAtomOfRules, IsAtomOfSides, IsAtomOfViews}
 use Rattle.ba_kernel.specs.declared.problem.Problem.{Problem}
 use Rattle.ba_kernel.specs.declared.step.Step.{Step}

@@ -14,7 +14,7 @@ use Rattle.ba_facts.specs.declared.walk.Wanted.{Wanted}
 use Rattle.ba_kernel.specs.Courses.{IsOpen}
 use Rattle.ba_kernel.specs.News.{IsNewOn}
 use Rattle.ba_kernel.specs.Steps.{AreEqualAt, IsRound, KeyPasses}
-use Rattle.ba_kernel.specs.Tests.{Course}
+use Rattle.ba_kernel.specs.SearchStates.{Course}
 use Rattle.ba_kernel.specs.declared.problem.Problem.{Problem}
 use Rattle.ba_kernel.specs.declared.step.Step.{Step}
 use Rattle.ba_kernel.specs.declared.step.Step.TheVariants as steps

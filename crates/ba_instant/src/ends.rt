@@ -2,7 +2,7 @@
 ghost use Rattle.std.specs.Prelude.{◌≡◌, ◌≢◌, ◌≤◌, ◌<◌, ◌∷◌, ◌++◌, [], IfOk, None, OnOk, length};
 ghost use Rattle.ba_model.specs.Limits.{most_budget};
 ghost use Rattle.ba_kernel.specs.Courses.{AllClosed, ProblemFits};
-ghost use Rattle.ba_kernel.specs.Tests.{open_at};
+ghost use Rattle.ba_kernel.specs.SearchStates.{open_at};
 ghost use Rattle.ba_settle.specs.Dues.{Ends, Searches};
 ghost use Rattle.ba_instant.specs.Nexts.{AreLeftAt, AreWaiting, IsAhead, IsLeafOf, IsTaken};
 ghost use Rattle.ba_settle.specs.declared.ends.Settled.TheVariants.{Proved as ByProof, Spent};

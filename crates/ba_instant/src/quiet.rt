@@ -6,7 +6,7 @@ ghost use Rattle.ba_facts.specs.Known.{seen};
 ghost use Rattle.ba_facts.specs.Matches.{Under};
 ghost use Rattle.ba_kernel.specs.Courses.{ProblemFits, branch_of};
 ghost use Rattle.ba_kernel.specs.Effects.{rows_at};
-ghost use Rattle.ba_kernel.specs.Tests.{open_at};
+ghost use Rattle.ba_kernel.specs.SearchStates.{open_at};
 ghost use Rattle.ba_instant.specs.Loose.{IsLooseAtom};
 ghost use Rattle.ba_instant.specs.Nexts.{IsAgendaAfter, IsQuietAt, IsQuietRound};
 ghost use Rattle.ba_instant.specs.QuietSteps.{AddsToOne, AddsToOneAt, IsOfOne, IsPlain, IsQuietLink, IsQuietStep, IsQuietView};

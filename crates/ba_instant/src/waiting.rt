@@ -1,7 +1,7 @@
 //! What is known of branches from the step before.
 ghost use Rattle.std.specs.Prelude.{◌≡◌, ◌↔◌, IsTrue, length};
 ghost use Rattle.ba_kernel.specs.Courses.{branch_of};
-ghost use Rattle.ba_kernel.specs.Tests.{Course};
+ghost use Rattle.ba_kernel.specs.SearchStates.{Course};
 ghost use Rattle.ba_instant.specs.Agendas.{IsAgendaAt, IsNone};
 ghost use Rattle.ba_instant.specs.Nexts.{AreWaiting, Waits};
 ghost use Rattle.ba_settle.specs.declared.order.Pick.{Pick};

@@ -20,7 +20,7 @@ use Rattle.ba_kernel.proofs.TidyLemmas.{have_terms, term_there}
 use Rattle.ba_kernel.specs.Courses.{EntryFits, ProblemFits, RowOperandFits}
 use Rattle.ba_kernel.specs.Effects.{AreNext, IsCase, IsEntryRound, rows_at}
 use Rattle.ba_kernel.specs.Steps.{EntryLeads, FactsPass, ViewLeads, ViewPasses}
-use Rattle.ba_kernel.specs.Tests.{FactIsTidy, IsTidy}
+use Rattle.ba_kernel.specs.SearchStates.{FactIsTidy, IsTidy}
 use Rattle.ba_kernel.specs.Tidy.{AreAsWide, FactsAreThere, HasTerm, IsAsWide, IsPartFor, IsReady, TermsAreThere}
 use Rattle.ba_facts.specs.Knowing.{IsThere}
 use Rattle.ba_facts.specs.Matches.{IsFactOf, IsMapping, round_of, row_of, term_of, terms_at}

@@ -27,7 +27,7 @@ use Rattle.ba_model.specs.RuleFaults.{RuleFits}
 use Rattle.ba_kernel.specs.Courses.{LinkFits, ProblemFits}
 use Rattle.ba_kernel.specs.Effects.{AreNext, negation, negation_of, rows_at, same_at, same_pair, with_fact, with_lessons}
 use Rattle.ba_kernel.specs.Steps.{FactsPass, IsNotNullAt, KeyLeads, KeyPasses, LinkLeads, LinkPasses, RuleLeads, RulePasses, SplitPasses}
-use Rattle.ba_kernel.specs.Tests.{FactIsTidy, IsTidy}
+use Rattle.ba_kernel.specs.SearchStates.{FactIsTidy, IsTidy}
 use Rattle.ba_kernel.specs.Tidy.{FactsAreThere, HasColumns, HasTerm, IsPartFor, Learns, TermsAreThere}
 use Rattle.ba_facts.specs.Known.{Known}
 use Rattle.ba_facts.specs.Knowing.{IsThere, sort_of}

@@ -11,7 +11,7 @@ use Rattle.ba_kernel.proofs.OneFault.{one_fault}
 use Rattle.ba_kernel.proofs.TestLemmas.{not_both}
 use Rattle.ba_kernel.specs.Courses.{AllClosed, ProblemFits, Runs, Slots, Takes, branch_of, next, start}
 use Rattle.ba_kernel.specs.Replays.{Closes, HasFault, RefusesAt, ReplaysHaveOneEnd}
-use Rattle.ba_kernel.specs.Tests.{IsRefusedAt, open_at}
+use Rattle.ba_kernel.specs.SearchStates.{IsRefusedAt, open_at}
 use Rattle.ba_kernel.specs.declared.problem.Problem.{Problem}
 use Rattle.ba_kernel.specs.declared.replaying.ReplayFault.{ReplayFault}
 use Rattle.ba_kernel.specs.declared.replaying.ReplayFault.TheVariants.{Refused, Open}

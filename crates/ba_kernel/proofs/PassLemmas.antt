@@ -16,7 +16,7 @@ use Rattle.ba_facts.specs.Matches.{AreTheSame, IsMapping, IsShown, IsUndecided, 
 use Rattle.ba_kernel.specs.Effects.{rows_at}
 use Rattle.ba_kernel.specs.Steps.{AreEqualAt, ArePair, FactsPass, FactsRefuse, FirstWithout, GoalRefuses, IsFirstDifferent, IsFirstWithout, IsKeyOf, IsLinkOf, IsNotNullAt}
 use Rattle.ba_kernel.specs.Steps.{KeyRefuses, LinkRefuses}
-use Rattle.ba_kernel.specs.Tests.{Tested}
+use Rattle.ba_kernel.specs.SearchStates.{Tested}
 use Rattle.ba_facts.specs.declared.branch.Branch.{Branch}
 use Rattle.ba_kernel.specs.declared.problem.Problem.{Problem}
 use Rattle.ba_kernel.specs.declared.step.StepFault.{StepFault}

@@ -10,7 +10,7 @@ use Rattle.ba_model.specs.declared.failure.Failure.TheVariants.{NoMemory, Fault}
 use Rattle.ba_facts.specs.declared.branch.Branch.{Branch}
 use Rattle.ba_kernel.specs.Courses.{AllClosed, IsStartOf, Runs, Slots, branch_of, next, start}
 use Rattle.ba_kernel.specs.Replays.{Closes, IsNextRefused, MayWantMemory, RefusesAt, Replays, StaysOpen}
-use Rattle.ba_kernel.specs.Tests.{Course, IsCourse, IsPassed, IsRefusedAt, PassesAt, open_at}
+use Rattle.ba_kernel.specs.SearchStates.{Course, IsCourse, IsPassed, IsRefusedAt, PassesAt, open_at}
 use Rattle.ba_kernel.specs.declared.problem.Problem.{Problem}
 use Rattle.ba_kernel.specs.declared.replaying.ReplayFault.{ReplayFault}
 use Rattle.ba_kernel.specs.declared.replaying.ReplayFault.TheVariants.{Refused, Open}

@@ -8,7 +8,7 @@ use Rattle.ba_facts.specs.declared.branch.Branch.{Branch}
 use Rattle.ba_kernel.proofs.NumberLemmas.{after_few, leads_few, start_few}
 use Rattle.ba_kernel.specs.Courses.{IsOpen, IsStart, ProblemFits, Runs, Slots, Takes, after, branch_of, next, start}
 use Rattle.ba_kernel.specs.Steps.{Leads}
-use Rattle.ba_kernel.specs.Tests.{Course, IsCourse, IsTidy, LeadsAt, RunsAreTidy, first_case, open_at, other_cases}
+use Rattle.ba_kernel.specs.SearchStates.{Course, IsCourse, IsTidy, LeadsAt, RunsAreTidy, first_case, open_at, other_cases}
 use Rattle.ba_kernel.specs.declared.problem.Problem.{Problem}
 use Rattle.ba_kernel.specs.declared.step.Step.{Step}
 

@@ -9,7 +9,7 @@ use Rattle.ba_kernel.proofs.OneCase.{leads_one, leads_pass}
 use Rattle.ba_kernel.proofs.SearchLemmas.{Led, led}
 use Rattle.ba_kernel.specs.Courses.{ProblemFits, Slots, after, branch_of}
 use Rattle.ba_kernel.specs.Steps.{Leads, Passes}
-use Rattle.ba_kernel.specs.Tests.{Course, IsCourse, LeadsAt, PassesAt, RunsAreTidy, open_at}
+use Rattle.ba_kernel.specs.SearchStates.{Course, IsCourse, LeadsAt, PassesAt, RunsAreTidy, open_at}
 use Rattle.ba_kernel.specs.Spares.{IsBefore, IsLastOn, IsSpare, LeadsTo}
 use Rattle.ba_kernel.specs.declared.problem.Problem.{Problem}
 use Rattle.ba_kernel.specs.declared.step.Step.{Step}

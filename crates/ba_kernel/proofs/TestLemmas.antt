@@ -11,7 +11,7 @@ use Rattle.ba_kernel.specs.Effects.{rows_at}
 use Rattle.ba_kernel.specs.Steps.{AreEqualAt, FactsPass, FactsRefuse, GoalPasses, GoalRefuses, IsFirstWithout, IsKeyOf, IsLinkOf, IsNotNullAt, IsRulePart}
 use Rattle.ba_kernel.specs.Steps.{IsViewPart, KeyPasses, KeyRefuses, LinkPasses, LinkRefuses, RulePasses, RuleRefuses, SplitPasses, SplitRefuses, ViewPasses}
 use Rattle.ba_kernel.specs.Steps.{ViewRefuses}
-use Rattle.ba_kernel.specs.Tests.{PassedIsNotRefused}
+use Rattle.ba_kernel.specs.SearchStates.{PassedIsNotRefused}
 use Rattle.ba_facts.specs.Knowing.{IsThere}
 use Rattle.ba_facts.specs.Laws.{kind_of_term}
 use Rattle.ba_facts.specs.declared.branch.Branch.{Branch}

@@ -21,7 +21,7 @@ use Rattle.ba_model.specs.RuleFaults.{RuleFits}
 use Rattle.ba_kernel.specs.Courses.{EntryFits, IsStartOf, LinkFits, ProblemFits, Runs, Slots, after, branch_of, nothing_known, start, next}
 use Rattle.ba_kernel.specs.Effects.{IsCase, rows_at, with_fact, with_facts, with_lessons}
 use Rattle.ba_kernel.specs.Steps.{Leads, LinkLeads}
-use Rattle.ba_kernel.specs.Tests.{FactIsTidy, IsTidy, RunsAreTidy}
+use Rattle.ba_kernel.specs.SearchStates.{FactIsTidy, IsTidy, RunsAreTidy}
 use Rattle.ba_facts.proofs.LaidLemmas.{laid_push}
 use Rattle.ba_facts.specs.Known.{Known}
 use Rattle.ba_facts.specs.Knowing.{sort_of}

@@ -3,7 +3,7 @@ pub mod Effects
 pub mod Steps
 pub mod Courses
 pub mod Soundness
-pub mod Tests
+pub mod SearchStates
 pub mod Replays
 pub mod Tidy
 pub mod Spares

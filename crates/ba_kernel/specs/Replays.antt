@@ -3,7 +3,7 @@ use Rattle.std.specs.Prelude.{◌≡◌, ◌≢◌, ℕ, List, [], length, take,
 use Rattle.ba_model.specs.declared.failure.Failure.{Failure}
 use Rattle.ba_model.specs.declared.failure.Failure.TheVariants.{NoMemory, Fault}
 use Rattle.ba_kernel.specs.Courses.{AllClosed, ProblemFits, Runs, Slots, branch_of}
-use Rattle.ba_kernel.specs.Tests.{Course, IsCourse, IsPassed, IsRefused, IsRefusedAt, Proof, open_at}
+use Rattle.ba_kernel.specs.SearchStates.{Course, IsCourse, IsPassed, IsRefused, IsRefusedAt, Proof, open_at}
 use Rattle.ba_kernel.specs.declared.problem.Problem.{Problem}
 use Rattle.ba_kernel.specs.declared.replaying.ReplayFault.{ReplayFault}
 use Rattle.ba_kernel.specs.declared.replaying.ReplayFault.TheVariants.{Refused, Open}

@@ -3,7 +3,7 @@ use Rattle.std.specs.Prelude.{◌≡◌, ℕ, ◌-◌, [], ◌∷◌, Option, So
 use Rattle.ba_facts.specs.declared.branch.Branch.{Branch}
 use Rattle.ba_kernel.specs.Courses.{IsOpen, branch_of}
 use Rattle.ba_kernel.specs.Steps.{Leads}
-use Rattle.ba_kernel.specs.Tests.{Course, IsTidy}
+use Rattle.ba_kernel.specs.SearchStates.{Course, IsTidy}
 use Rattle.ba_kernel.specs.declared.problem.Problem.{Problem}
 use Rattle.ba_kernel.specs.declared.step.Step.{Step}
 

@@ -3,8 +3,8 @@
 -- (`EntryIsMet`; of a split, `SplitTells`), and its round. The tables at the end tell each of any
 -- step: `Passes`, `Refuses`, `Leads`, `Tells`, `IsRound`. What holds of all eight alike is said
 -- once: a step is new where it passes and tells (`IsNewOn` of News), one that passes isn't refused
--- (`PassedIsNotRefused` of Tests), and the cases that it leads to lose no pair of databases that
--- breaks compliance (`StepKeepsFit` of Soundness).
+-- (`PassedIsNotRefused` of SearchStates), and the cases that it leads to lose no pair of databases
+-- that breaks compliance (`StepKeepsFit` of Soundness).
 use Rattle.std.specs.Prelude.{◌≡◌, ℕ, ◌+◌, ◌<◌, ◌≤◌, List, [], ◌∷◌, All, Any, Contains, map, length, Option, Some, None, slice_get}
 use Rattle.std.specs.List.{AllZip, zip}
 use Rattle.ba_model.specs.declared.policy.View.{View}

@@ -80,12 +80,12 @@ abbrev pub IsLiteral : Value → Operand → Type 0
 IsLiteral v operand = operand ≡ Val v
 
 -- the literal stands in an atom or the head of the part
-pub record HasLiteral (v : Value) (part : Part) : Type 0 where
+pub record MentionsLiteral (v : Value) (part : Part) : Type 0 where
   pub stands : Any (IsSide v) part.conds ⊎ Any (IsLiteral v) part.head
 
 -- the operand is a literal of the query
 abbrev pub IsLiteralOfSome : Query → Operand → Type 0
-IsLiteralOfSome q (Val v) = Any (HasLiteral v) q.parts
+IsLiteralOfSome q (Val v) = Any (MentionsLiteral v) q.parts
 IsLiteralOfSome q (Col place column) = ⊥
 IsLiteralOfSome q (Param n) = ⊥
 IsLiteralOfSome q (Var n) = ⊥

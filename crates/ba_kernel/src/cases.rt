@@ -2,7 +2,7 @@
 ghost use Rattle.std.specs.Prelude.{◌≡◌, [], IfOk, IsTrue, Some};
 ghost use Rattle.ba_kernel.specs.Courses.{ProblemFits};
 ghost use Rattle.ba_kernel.specs.Steps.{Leads, Passes};
-ghost use Rattle.ba_kernel.specs.Tests.{IsTidy};
+ghost use Rattle.ba_kernel.specs.SearchStates.{IsTidy};
 ghost use Rattle.ba_kernel.specs.Spares.{LeadsTo};
 
 pub mod build;

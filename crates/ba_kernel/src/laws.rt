@@ -4,7 +4,7 @@ ghost use Rattle.ba_kernel.specs.Courses.{ClosedIsStrong, RunsAreSound};
 ghost use Rattle.ba_kernel.specs.Problems.{ProblemIsQuestion};
 ghost use Rattle.ba_kernel.specs.Replays.{ReplaysHaveOneEnd};
 ghost use Rattle.ba_kernel.specs.Soundness.{CaseKeepsFit, StartFits, StepKeepsFit};
-ghost use Rattle.ba_kernel.specs.Tests.{RunsAreTidy};
+ghost use Rattle.ba_kernel.specs.SearchStates.{RunsAreTidy};
 
 use ba_facts::laws::{
     absurd_has_no_fit, not_null_is_true, same_is_true, shown_is_true_of_values,

@@ -3,7 +3,7 @@ ghost use Rattle.ba_kernel.specs.Courses.{ProblemFits};
 ghost use Rattle.ba_kernel.specs.NewParts.{IsToldEntry, IsToldRound, RoundUnless};
 ghost use Rattle.ba_kernel.specs.News.{IsNewRoundOn};
 ghost use Rattle.ba_kernel.specs.Steps.{EntryPasses, Passes};
-ghost use Rattle.ba_kernel.specs.Tests.{IsTidy};
+ghost use Rattle.ba_kernel.specs.SearchStates.{IsTidy};
 
 mod given;
 mod rows;

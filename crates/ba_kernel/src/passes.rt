@@ -1,6 +1,6 @@
 //! The tests of a step on a branch.
 ghost use Rattle.ba_kernel.specs.Steps.{AbsurdRefuses, EntryPasses, EntryRefuses, Passes, Refuses};
-ghost use Rattle.ba_kernel.specs.Tests.{IsTidy, PassedIsNotRefused, Tested};
+ghost use Rattle.ba_kernel.specs.SearchStates.{IsTidy, PassedIsNotRefused, Tested};
 ghost use Rattle.ba_facts.specs.Shown.{Absurd};
 
 mod head;

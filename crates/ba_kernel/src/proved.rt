@@ -2,7 +2,7 @@ ghost use Rattle.std.specs.Prelude.{◌≡◌, ◌≤◌, length};
 ghost use Rattle.ba_model.specs.Limits.{most_steps};
 ghost use Rattle.ba_kernel.specs.Courses.{AllClosed, ProblemFits, Runs};
 ghost use Rattle.ba_kernel.specs.Problems.{StrongAll};
-ghost use Rattle.ba_kernel.specs.Tests.{IsProved};
+ghost use Rattle.ba_kernel.specs.SearchStates.{IsProved};
 
 use crate::laws::closed_is_strong;
 use crate::problem::Problem;
@@ -23,7 +23,7 @@ pub struct Proved {
 }
 
 impl Model for Proved {
-    ghost use Rattle.ba_kernel.specs.Tests.{IsProved, Proof};
+    ghost use Rattle.ba_kernel.specs.SearchStates.{IsProved, Proof};
 
     ghost Value = { Proof };
 

@@ -4,7 +4,7 @@ ghost use Rattle.ba_model.specs.Limits.{most_steps};
 ghost use Rattle.ba_kernel.specs.Courses.{AllClosed, IsStart, ProblemFits, Takes, after, branch_of};
 ghost use Rattle.ba_kernel.specs.News.{IsNewAt, IsNewRound};
 ghost use Rattle.ba_kernel.specs.Spares.{IsLastOn, IsSpare};
-ghost use Rattle.ba_kernel.specs.Tests.{IsCourse, IsErrorOf, IsPassed, IsLed, first_case, open_at, other_cases};
+ghost use Rattle.ba_kernel.specs.SearchStates.{IsCourse, IsErrorOf, IsPassed, IsLed, first_case, open_at, other_cases};
 
 use crate::cases::{again, cases_of, closes};
 use crate::laws::runs_are_tidy;
@@ -38,7 +38,7 @@ pub struct Search {
 
 impl Model for Search {
     ghost use Rattle.ba_kernel.specs.Spares.{IsSpare};
-    ghost use Rattle.ba_kernel.specs.Tests.{Course, IsCourse};
+    ghost use Rattle.ba_kernel.specs.SearchStates.{Course, IsCourse};
 
     ghost Value = { Course };
 

@@ -11,7 +11,7 @@ use Rattle.ba_input.specs.Inputs.{IsInput, effort_of}
 use Rattle.ba_input.specs.Published.{IsSetOf}
 use Rattle.ba_input.specs.declared.input.Input.{Input}
 use Rattle.ba_cache.specs.declared.call.ShelfCall.{ShelfCall}
-use Rattle.ba_kernel.specs.Tests as kernel
+use Rattle.ba_kernel.specs.SearchStates as kernel
 use Rattle.ba_model.specs.declared.policy.Context.{Context}
 use Rattle.ba_model.specs.declared.policy.Policy.{Policy}
 use Rattle.ba_model.specs.declared.query.Query.{Query}
@@ -19,7 +19,7 @@ use Rattle.ba_model.specs.declared.schema.Schema.{Schema}
 use Rattle.ba_script.specs.declared.entry.ScriptEntry.{ScriptEntry}
 use Rattle.ba_script.specs.declared.entry.ScriptEntry.TheVariants as said
 use Rattle.ba_session.proofs.PassLemmas.{more_calls, no_calls, one_call}
-use Rattle.ba_session.specs.Asking.{HasLooked, IsRequestOf, IsBegun, IsChecked, IsGround, IsKept, IsLook, Replies, question}
+use Rattle.ba_session.specs.Asking.{HasLooked, IsRequestOf, IsBegun, IsServable, IsGround, IsKept, IsLook, Replies, question}
 use Rattle.ba_session.specs.Passing.{AreOf, HasRoom, LeavesShelves, Makes, MakesCalls, ShelfCalls, calls_on}
 use Rattle.ba_session.specs.declared.reply.By.{By}
 use Rattle.ba_session.specs.declared.reply.By.TheVariants.{Cover, Template, Proof}
@@ -178,8 +178,8 @@ can_rest input requests line lines it later old new does can makes = record {
 
 -- ---- what a line finds
 
-pub checked_of : (input : Input) (policy : Policy) → IsInput input → policy ≡ input.policy → IsChecked policy
-checked_of input policy is same = subst IsChecked (sym same) (record { fits = is.policy; tables = is.tables_are; rules = is.rules })
+pub checked_of : (input : Input) (policy : Policy) → IsInput input → policy ≡ input.policy → IsServable policy
+checked_of input policy is same = subst IsServable (sym same) (record { fits = is.policy; tables = is.tables_are; rules = is.rules })
 
 -- a request at its place
 pub there : (requests : List (Option Request)) (n : ℕ) (place : Option Request) (asker : Request) → n < length requests → place ≡ get_or requests n place → place ≡ Some asker → slice_get requests n ≡ Some (Some asker)

@@ -8,7 +8,7 @@ use Rattle.ba_cache.specs.declared.call.Admit.TheVariants.{Added, Known}
 use Rattle.ba_cache.specs.declared.call.Kept.{Kept}
 use Rattle.ba_cache.specs.declared.call.ShelfCall.{ShelfCall}
 use Rattle.ba_cache.specs.declared.call.ShelfCall.TheVariants as calls
-use Rattle.ba_kernel.specs.Tests as kernel
+use Rattle.ba_kernel.specs.SearchStates as kernel
 use Rattle.ba_model.specs.declared.policy.Policy.{Policy}
 use Rattle.ba_model.specs.declared.query.Query.{Query}
 use Rattle.ba_machine_laws.proofs.BetweenLemmas.{same_true}

@@ -13,7 +13,7 @@ use Rattle.ba_core.specs.declared.event.Event.TheVariants as events
 use Rattle.ba_core.specs.declared.event.Ground.{Ground}
 use Rattle.ba_core.specs.declared.event.Ground.TheVariants as grounds
 use Rattle.ba_direct.specs.declared.covers.Cover.{Cover}
-use Rattle.ba_kernel.specs.Tests.{Proof}
+use Rattle.ba_kernel.specs.SearchStates.{Proof}
 use Rattle.ba_model.specs.Meaning.{AnswerIsUnique, IsAnswer}
 use Rattle.ba_model.specs.declared.policy.Policy.{Policy}
 use Rattle.ba_model.specs.declared.query.Query.{Query}

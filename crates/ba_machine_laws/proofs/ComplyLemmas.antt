@@ -14,7 +14,7 @@ use Rattle.ba_kernel.specs.Asked.{AnswersAreRecords, QuestionFits, QuestionIsPro
 use Rattle.ba_kernel.specs.Courses.{ClosedIsStrong, Slots}
 use Rattle.ba_kernel.specs.Courses as courses
 use Rattle.ba_kernel.specs.Problems.{ProblemIsQuestion, StrongAll}
-use Rattle.ba_kernel.specs.Tests.{Proof}
+use Rattle.ba_kernel.specs.SearchStates.{Proof}
 use Rattle.ba_kernel.specs.declared.problem.Problem.{Problem}
 use Rattle.ba_kernel.specs.declared.step.Step.{Step}
 use Rattle.ba_model.specs.Conform.{Conforms}
@@ -22,7 +22,7 @@ use Rattle.ba_model.specs.Fit.{IsQuery, kinds_of}
 use Rattle.ba_model.specs.declared.policy.Policy.{Policy}
 use Rattle.ba_model.specs.declared.query.Query.{Query}
 use Rattle.ba_machine_laws.proofs.LineLemmas.{AnswersComply}
-use Rattle.ba_session.specs.Asking.{IsRequestOf, IsChecked, IsGround, question}
+use Rattle.ba_session.specs.Asking.{IsRequestOf, IsServable, IsGround, question}
 use Rattle.ba_session.specs.Passing.{ShelfCalls}
 use Rattle.ba_session.specs.declared.reply.By.{By}
 use Rattle.ba_session.specs.declared.reply.By.TheVariants as by
@@ -45,7 +45,7 @@ runs_of : {pick : Pick} {p : Problem} {taken : List Step} {slots : Slots} → Se
 runs_of (Searches.start h) = courses.Runs.start h
 runs_of (Searches.next before each picked takes) = courses.Runs.next (runs_of before) takes
 
-strong_by : Grounds → (number : ℕ → ℕ → ℕ) (policy : Policy) (t : State) (asker : Request) (effort : Effort) (query : Query) (made : ShelfCalls) (basis : By) → IsChecked policy → AreSound t →
+strong_by : Grounds → (number : ℕ → ℕ → ℕ) (policy : Policy) (t : State) (asker : Request) (effort : Effort) (query : Query) (made : ShelfCalls) (basis : By) → IsServable policy → AreSound t →
     HasFound number t made → IsRequestOf policy asker → IsQuery policy.schema (kinds_of policy.params) [] query → IsGround policy asker effort query basis made →
     Strong policy asker.context asker.trace query
 strong_by laws number policy t asker effort query made (by.Cover cover) checked sound found may asks ground =

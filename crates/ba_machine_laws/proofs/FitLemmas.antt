@@ -10,7 +10,7 @@ use Rattle.ba_model.specs.declared.policy.Context.{Context}
 use Rattle.ba_model.specs.declared.policy.Policy.{Policy}
 use Rattle.ba_model.specs.declared.query.Query.{Query}
 use Rattle.ba_model.specs.declared.value.RowSet.{RowSet}
-use Rattle.ba_session.specs.Asking.{IsRequestOf, IsChecked}
+use Rattle.ba_session.specs.Asking.{IsRequestOf, IsServable}
 use Rattle.ba_session.specs.declared.request.Request.{Request}
 
 module _ (law : AnswersAreRecords) (policy : Policy) (c : Context) (d : RowSet) (conforms : Conforms policy.schema d) (context : ContextFits (kinds_of policy.params) c) where
@@ -31,7 +31,7 @@ module _ (law : AnswersAreRecords) (policy : Policy) (c : Context) (d : RowSet) 
       All-cons (RecordFits policy) it trace (record_fits it (All-head HasQuery it trace queries) (All-head HasRows it trace answers))
       (records_fit trace (All-tail HasQuery it trace queries) (All-tail HasRows it trace answers))
 
-pub question_fits : AnswersAreRecords → (policy : Policy) (asker : Request) (query : Query) → IsChecked policy → IsRequestOf policy asker →
+pub question_fits : AnswersAreRecords → (policy : Policy) (asker : Request) (query : Query) → IsServable policy → IsRequestOf policy asker →
     IsQuery policy.schema (kinds_of policy.params) [] query → QuestionFits policy asker.context asker.trace query
 question_fits law policy asker query checked may asked = record {
   tables = checked.tables;

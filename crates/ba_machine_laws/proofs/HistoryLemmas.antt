@@ -20,7 +20,7 @@ use Rattle.ba_cache.specs.declared.call.ShelfCall.TheVariants as calls
 use Rattle.ba_core.specs.State.{State}
 use Rattle.ba_input.specs.declared.input.Input.{Input}
 use Rattle.ba_kernel.specs.Problems.{StrongAll}
-use Rattle.ba_kernel.specs.Tests.{Proof}
+use Rattle.ba_kernel.specs.SearchStates.{Proof}
 use Rattle.ba_lanes.proofs.JoinLemmas.{told_by}
 use Rattle.ba_lanes.proofs.MergeLemmas.{lane_low}
 use Rattle.ba_lanes.proofs.ServeLemmas.{same_length}

@@ -35,7 +35,7 @@ use Rattle.ba_machine_laws.specs.Journals.{event_of, reply_of, standing}
 use Rattle.ba_script.specs.Scripts.{BeginFits, IsOpen, IsScript}
 use Rattle.ba_script.specs.declared.entry.ScriptEntry.{ScriptEntry}
 use Rattle.ba_script.specs.declared.entry.ScriptEntry.TheVariants as said
-use Rattle.ba_session.specs.Asking.{IsRequestOf, IsChecked, IsGround, Reads, Replies, answer_in}
+use Rattle.ba_session.specs.Asking.{IsRequestOf, IsServable, IsGround, Reads, Replies, answer_in}
 use Rattle.ba_session.specs.Asking as asking
 use Rattle.ba_session.specs.Passing.{ShelfCalls}
 use Rattle.ba_session.specs.declared.reply.By.{By}
@@ -54,7 +54,7 @@ use Rattle.ba_versions.specs.declared.call.VersionCall.TheVariants as call
 -- an answer with its evidence complies, on a machine that has the request
 abbrev pub AnswersComply : Type 0
 AnswersComply = (number : ℕ → ℕ → ℕ) (policy : Policy) (t : State) (k : ℕ) (asker : Request) (effort : Effort) (query : Query) (rows : List (List Value)) (made : ShelfCalls) (basis : By) →
-    IsChecked policy → HasRequest policy t k asker → AreSound t → HasFound number t made → IsRequestOf policy asker → IsQuery policy.schema (kinds_of policy.params) [] query →
+    IsServable policy → HasRequest policy t k asker → AreSound t → HasFound number t made → IsRequestOf policy asker → IsQuery policy.schema (kinds_of policy.params) [] query →
     IsGround policy asker effort query basis made → IsAnswer query asker.context asker.tables.rows rows → IsCompliant t k query rows
 
 -- a text reads as a query that is checked
@@ -148,7 +148,7 @@ tables_of : {r v k w : ℕ} {a b : TableSet} → begins r v a ≡ begins k w b �
 tables_of {a = a} e = ap (λ (z : LineDone). pinned_tables a z.made.versions) e
 
 module _ (laws : Laws) (number : ℕ → ℕ → ℕ) (input : Input) (journal : Journal) (chosen : ℕ → Bool)
-    (script : IsScript input.policy.params input.script) (checked : IsChecked input.policy) where
+    (script : IsScript input.policy.params input.script) (checked : IsServable input.policy) where
   module _ (before rest : List ScriptEntry) (earlier : List LineDone) (it : LineDone) (t : State)
       (policy_is : t.policy ≡ input.policy) (b : Between input chosen t before earlier) where
     -- the state after the line
@@ -330,7 +330,7 @@ module _ (laws : Laws) (number : ℕ → ℕ → ℕ) (input : Input) (journal :
         answer_taken : (query : Query) (rows : List (List Value)) (basis : By) → h.reply ≡ Answer query rows basis →
             Takes (Comes line) t (event_in number input.policy r h.asker (Answer query rows basis)) (told_in (Answer query rows basis))
         answer_taken query rows basis is =
-            let replied : asking.IsAnswered input.policy h.asker (effort_of input) text query rows basis h.calls = subst (Replies input.policy h.asker (effort_of input) text h.calls) is h.replies in
+            let replied : asking.HasAnswer input.policy h.asker (effort_of input) text query rows basis h.calls = subst (Replies input.policy h.asker (effort_of input) text h.calls) is h.replies in
             let told = laws.asks number input.policy t r h.asker (effort_of input) text h.calls (Answer query rows basis) stood.has found replied in
             let checked_query = laws.reads input.policy text query replied.reads in
             record {

@@ -24,7 +24,7 @@ use Rattle.ba_core.specs.declared.event.CoreReply.{CoreReply}
 use Rattle.ba_core.specs.declared.event.CoreReply.TheVariants as replies
 use Rattle.ba_core.specs.declared.event.Event.TheVariants as events
 use Rattle.ba_kernel.specs.Problems.{StrongAll}
-use Rattle.ba_kernel.specs.Tests as kernel
+use Rattle.ba_kernel.specs.SearchStates as kernel
 use Rattle.ba_input.specs.Inputs.{effort_of}
 use Rattle.ba_input.specs.declared.input.Input.{Input}
 use Rattle.ba_lanes.proofs.LaneLemmas.{none_on, some_on}

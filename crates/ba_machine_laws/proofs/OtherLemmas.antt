@@ -10,7 +10,7 @@ use Rattle.ba_core.specs.declared.event.CoreReply.TheVariants as replies
 use Rattle.ba_core.specs.declared.event.Event.{Event}
 use Rattle.ba_core.specs.declared.event.Event.TheVariants as events
 use Rattle.ba_core.specs.declared.opened.Opened.{Opened}
-use Rattle.ba_kernel.specs.Tests.{Proof}
+use Rattle.ba_kernel.specs.SearchStates.{Proof}
 use Rattle.ba_tables.specs.TableSet.{TableSet}
 
 -- what has a number keeps it

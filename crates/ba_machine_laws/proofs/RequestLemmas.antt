@@ -13,7 +13,7 @@ use Rattle.ba_core.specs.State.{State}
 use Rattle.ba_core.specs.declared.event.CoreReply.{CoreReply}
 use Rattle.ba_core.specs.declared.event.Event.{Event}
 use Rattle.ba_kernel.specs.Problems.{StrongAll}
-use Rattle.ba_kernel.specs.Tests.{Proof}
+use Rattle.ba_kernel.specs.SearchStates.{Proof}
 use Rattle.ba_input.specs.Inputs.{effort_of}
 use Rattle.ba_input.specs.declared.input.Input.{Input}
 use Rattle.ba_lanes.proofs.LaneLemmas.{some_on}
@@ -33,7 +33,7 @@ use Rattle.ba_machine_laws.specs.Journals.{IsMachineOf, IsRunFrom, RequestsAreAR
 use Rattle.ba_script.specs.Scripts.{EntriesFit, EntryFits}
 use Rattle.ba_script.specs.declared.entry.ScriptEntry.{ScriptEntry}
 use Rattle.ba_script.specs.declared.entry.ScriptEntry.TheVariants as said
-use Rattle.ba_session.specs.Asking.{IsChecked}
+use Rattle.ba_session.specs.Asking.{IsServable}
 use Rattle.ba_session.specs.declared.reply.Reply.{Reply}
 use Rattle.ba_session.specs.declared.reply.Reply.TheVariants as reply
 use Rattle.ba_tables.specs.TableSet.{TableSet}
@@ -54,7 +54,7 @@ of_asked chosen r version (reply.Blocked query why) = refl
 of_asked chosen r version (reply.Unread fault) = refl
 of_asked chosen r version reply.NoMemory = refl
 
-pub checked_by : (input : Input) (journal : Journal) → Legal input journal → IsChecked input.policy
+pub checked_by : (input : Input) (journal : Journal) → Legal input journal → IsServable input.policy
 checked_by input journal legal = record { fits = legal.input_fits.policy; tables = legal.input_fits.tables_are; rules = legal.input_fits.rules }
 
 pub good_version : (input : Input) (tables : TableSet) → input.tables.schema ≡ input.policy.schema → versions.IsVersion input.tables tables → AreTables input.policy tables

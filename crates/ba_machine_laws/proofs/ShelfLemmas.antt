@@ -10,7 +10,7 @@ use Rattle.ba_cache.specs.declared.call.Admit.TheVariants.{Added, Known}
 use Rattle.ba_cache.specs.declared.call.Kept.{Kept}
 use Rattle.ba_cache.specs.declared.call.ShelfCall.{ShelfCall}
 use Rattle.ba_cache.specs.declared.call.ShelfCall.TheVariants as calls
-use Rattle.ba_kernel.specs.Tests.{Proof}
+use Rattle.ba_kernel.specs.SearchStates.{Proof}
 use Rattle.ba_session.specs.Asking.{look_at}
 use Rattle.ba_template.specs.declared.shapes.Shape.{Shape}
 

@@ -5,7 +5,7 @@ use Rattle.std.proofs.lemmas.Option.{none-some, same_Some, slice_get_within}
 use Rattle.ba_machine_laws.proofs.KeyLemmas.{one_list, with_entry, with_here, with_others, with_rises, without, without_here, without_others, without_rises}
 use Rattle.ba_machine_laws.specs.Agreeing.{AreRising, IsReplyTo}
 use Rattle.ba_core.specs.State.{ChangesOnly, State, opened_at}
-use Rattle.ba_core.specs.Steps.{Fits, HasTemplate, IsAnswered, IsBegun, IsEnded, RefusesAsk, RefusesBegin, RefusesEnd, Steps}
+use Rattle.ba_core.specs.Steps.{Fits, HasTemplate, AnswersAsk, IsBegun, IsEnded, RefusesAsk, RefusesBegin, RefusesEnd, Steps}
 use Rattle.ba_core.specs.declared.event.Asked.{Asked}
 use Rattle.ba_core.specs.declared.event.Asked.TheVariants as asked
 use Rattle.ba_core.specs.declared.event.CoreFault.{CoreFault}
@@ -120,7 +120,7 @@ module _ (s : State) (k : ℕ) (asker : Opened) (query : Query) (why : Ground)
     rows_are others it same ts is theirs =
         same_rows others ts (subst (λ a. slice_get s.versions a.version ≡ Some ts) (sym same) is) (subst (λ a. IsAnswer query a.context ts.rows others) (sym same) theirs)
 
-    answered_only : (others : List (List Value)) (next : State) → IsAnswered s k query why others next → others ≡ rows
+    answered_only : (others : List (List Value)) (next : State) → AnswersAsk s k query why others next → others ≡ rows
     answered_only others next h =
         rows_are others h.released.asker (same_Some asker h.released.asker (sym is_open ∙ h.released.is_open)) h.released.tables h.released.pinned h.released.answer
 
@@ -135,7 +135,7 @@ module _ (s : State) (k : ℕ) (asker : Opened) (query : Query) (why : Ground)
     told_only replies.Ended next h = absurd h
     told_only (replies.Refused fault) next h = absurd (ask_allowed fault h.0)
 
-    told_alone : (next : State) → IsAnswered s k query why rows next → AreRising s → AreRising next → next ≡ told_state
+    told_alone : (next : State) → AnswersAsk s k query why rows next → AreRising s → AreRising next → next ≡ told_state
     told_alone next h rising rises =
         let same = same_Some asker h.recorded.asker (sym is_open ∙ h.recorded.is_open) in
         let opens : ChangesOnly s next k (Some (told asker rows)) = subst (λ a. ChangesOnly s next k (Some (told a rows))) (sym same) h.recorded.trace in

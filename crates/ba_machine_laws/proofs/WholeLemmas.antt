@@ -32,7 +32,7 @@ use Rattle.ba_kernel.specs.Asked.{AnswersAreRecords, QuestionFits, QuestionIsPro
 use Rattle.ba_kernel.specs.Courses.{ClosedIsStrong, Slots}
 use Rattle.ba_kernel.specs.Courses as courses
 use Rattle.ba_kernel.specs.Problems.{ProblemIsQuestion, StrongAll}
-use Rattle.ba_kernel.specs.Tests.{Proof}
+use Rattle.ba_kernel.specs.SearchStates.{Proof}
 use Rattle.ba_kernel.specs.declared.problem.Problem.{Problem}
 use Rattle.ba_kernel.specs.declared.step.Step.{Step}
 use Rattle.ba_model.specs.Conform.{Conforms}
@@ -42,7 +42,7 @@ use Rattle.ba_model.specs.declared.policy.Context.{Context}
 use Rattle.ba_model.specs.declared.policy.Policy.{Policy}
 use Rattle.ba_model.specs.declared.query.Query.{Query}
 use Rattle.ba_model.specs.declared.value.Value.{Value}
-use Rattle.ba_session.specs.Asking.{IsRequestOf, IsBegun, IsChecked, IsGround, Replies, question}
+use Rattle.ba_session.specs.Asking.{IsRequestOf, IsBegun, IsServable, IsGround, Replies, question}
 use Rattle.ba_session.specs.Passing.{ShelfCalls}
 use Rattle.ba_session.specs.declared.reply.By.{By}
 use Rattle.ba_session.specs.declared.reply.By.TheVariants as by
@@ -75,7 +75,7 @@ of_last : {X : Type 0} (P : X → Type 0) (xs : List X) (y : X) → All P (xs ++
 of_last P [] y all = All-head P y [] all
 of_last P (x ∷ xs) y all = of_last P xs y (All-tail P x (xs ++ y ∷ []) all)
 
-module _ (laws : Laws) (number : ℕ → ℕ → ℕ) (policy : Policy) (checked : IsChecked policy) where
+module _ (laws : Laws) (number : ℕ → ℕ → ℕ) (policy : Policy) (checked : IsServable policy) where
   -- a query that was answered was checked
   asked_query : (asker : Request) (query : Query) (rows : List (List Value)) (basis : By) → IsRequestOf policy (after asker (Answer query rows basis)) →
       IsQuery policy.schema (kinds_of policy.params) [] query
@@ -169,7 +169,7 @@ module _ (policy : Policy) (s : State) (k : ℕ) where
     between_blocked : (new : State) → new ≡ t → Between policy s k (record asker { trace = asker.trace ++ [] }) new
     between_blocked new same = subst (Between policy s k (record asker { trace = asker.trace ++ [] })) (sym same) between_same
 
-    between_answered : (query : Query) (why : Ground) (rows : List (List Value)) (basis : By) (new : State) → steps.IsAnswered t k query why rows new →
+    between_answered : (query : Query) (why : Ground) (rows : List (List Value)) (basis : By) (new : State) → steps.AnswersAsk t k query why rows new →
         Between policy s k (after asker (Answer query rows basis)) new
     between_answered query why rows basis new step =
         let recorded = step.recorded in
@@ -217,7 +217,7 @@ record Reaches (policy : Policy) (s : State) (k : ℕ) (asker : Request) (es : L
   rises : AreRising at
   between : Between policy s k asker at
 
-module _ (laws : Laws) (number : ℕ → ℕ → ℕ) (policy : Policy) (checked : IsChecked policy) (s : State) (k : ℕ) (sound : AreSound s) where
+module _ (laws : Laws) (number : ℕ → ℕ → ℕ) (policy : Policy) (checked : IsServable policy) (s : State) (k : ℕ) (sound : AreSound s) where
   module _ (asker : Request) (es : List Event) (rs : List CoreReply) (so_far : Reaches policy s k asker es rs) (effort : Effort) (text : List ℕ) (made : ShelfCalls) (found : HasFound number s made)
       (may : IsRequestOf policy asker) where
     answer_on : (query : Query) (rows : List (List Value)) (basis : By) → Replies policy asker effort text made (Answer query rows basis) → IsRequestOf policy (after asker (Answer query rows basis)) →
@@ -338,7 +338,7 @@ module _ (unique : AnswerIsUnique) (number : ℕ → ℕ → ℕ) (policy : Poli
   only_reply asker t (Answer query rows basis) others between agrees later rs last (reply, mid, more, step, rest, are) =
       let event = events.Ask k query (ground_of number policy asker query basis) in
       let same = agrees.is_reply.only reply mid step in
-      let told : steps.IsAnswered t k query (ground_of number policy asker query basis) rows mid = subst (λ r. Steps t event r mid) same step in
+      let told : steps.AnswersAsk t k query (ground_of number policy asker query basis) rows mid = subst (λ r. Steps t event r mid) same step in
       let there = between_answered policy s k asker t between query (ground_of number policy asker query basis) rows basis mid told in
       are ∙ (λ i. same i ∷ later mid there more last rest i)
   only_reply asker t (Blocked query why) others between agrees later rs last (reply, mid, more, step, rest, are) =

@@ -12,7 +12,7 @@ use Rattle.ba_core.specs.declared.event.CoreReply.TheVariants as replies
 use Rattle.ba_core.specs.declared.event.Event.{Event}
 use Rattle.ba_core.specs.declared.event.Event.TheVariants as events
 use Rattle.ba_input.specs.declared.input.Input.{Input}
-use Rattle.ba_kernel.specs.Tests.{Proof}
+use Rattle.ba_kernel.specs.SearchStates.{Proof}
 use Rattle.ba_lanes.specs.Headline.{IsAskerOf}
 use Rattle.ba_lanes.specs.Legal.{HasContext, Legal, contexts_of, trace_in}
 use Rattle.ba_lanes.specs.declared.journal.Entry.{Entry}

@@ -9,7 +9,7 @@ use Rattle.ba_core.specs.declared.event.CoreReply.TheVariants as replies
 use Rattle.ba_core.specs.declared.event.Event.{Event}
 use Rattle.ba_core.specs.declared.event.Event.TheVariants as events
 use Rattle.ba_input.specs.declared.input.Input.{Input}
-use Rattle.ba_kernel.specs.Tests as kernel
+use Rattle.ba_kernel.specs.SearchStates as kernel
 use Rattle.ba_lanes.specs.Legal.{Legal, number_in}
 use Rattle.ba_lanes.specs.declared.journal.Entry.{Entry}
 use Rattle.ba_lanes.specs.declared.journal.Entry.TheVariants.{Begin, Ask, End, Publish, Memory}

@@ -7,7 +7,7 @@ use Rattle.ba_cache.specs.declared.call.Admit.TheVariants.{Added, Known}
 use Rattle.ba_cache.specs.declared.call.ShelfCall.{ShelfCall}
 use Rattle.ba_cache.specs.declared.call.ShelfCall.TheVariants as calls
 use Rattle.ba_core.specs.State.{State}
-use Rattle.ba_kernel.specs.Tests.{Proof}
+use Rattle.ba_kernel.specs.SearchStates.{Proof}
 use Rattle.ba_session.specs.Passing.{ShelfCalls}
 
 -- the template that a call added

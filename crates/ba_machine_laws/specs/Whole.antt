@@ -15,7 +15,7 @@ use Rattle.ba_core.specs.declared.opened.Answered.{Answered}
 use Rattle.ba_kernel.specs.Problems.{StrongAll}
 use Rattle.ba_model.specs.declared.policy.Context.{Context}
 use Rattle.ba_model.specs.declared.policy.Policy.{Policy}
-use Rattle.ba_session.specs.Asking.{IsRequestOf, IsBegun, IsChecked, Replies}
+use Rattle.ba_session.specs.Asking.{IsRequestOf, IsBegun, IsServable, Replies}
 use Rattle.ba_session.specs.Passing.{ShelfCalls}
 use Rattle.ba_session.specs.declared.reply.Reply.{Reply}
 use Rattle.ba_session.specs.declared.reply.Reply.TheVariants.{Answer, Blocked, Unread, NoMemory}
@@ -96,7 +96,7 @@ pub record IsRunOf (first : State) (es : List Event) (rs : List CoreReply) (last
 abbrev pub RequestIsARun : Type 0
 RequestIsARun = (number : ℕ → ℕ → ℕ) (policy : Policy) (s : State) (k : ℕ) (context : Context)
     (asker : Request) (questions : List Question) (last : Request) →
-    IsChecked policy → CanBegin policy s k asker → AreRising s → AreSound s →
+    IsServable policy → CanBegin policy s k asker → AreRising s → AreSound s →
     All (λ it. HasFound number s it.made) questions →
     IsBegun context asker → AreTold policy asker questions last →
     IsRunOf s (events_of number policy k context asker questions) (replies_of questions)

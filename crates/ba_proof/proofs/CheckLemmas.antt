@@ -12,7 +12,7 @@ use Rattle.ba_kernel.specs.Courses.{AllClosed, ClosedIsStrong, ProblemFits, Slot
 use Rattle.ba_kernel.specs.Problems.{ProblemIsQuestion, StrongAll}
 use Rattle.ba_kernel.specs.Replays.{ReplaysHaveOneEnd}
 use Rattle.ba_kernel.specs.Replays as replays
-use Rattle.ba_kernel.specs.Tests.{Course, IsCourse, Proof, open_at}
+use Rattle.ba_kernel.specs.SearchStates.{Course, IsCourse, Proof, open_at}
 use Rattle.ba_kernel.specs.declared.problem.Problem.{Problem}
 use Rattle.ba_kernel.specs.declared.replaying.ReplayFault.TheVariants as replay
 use Rattle.ba_kernel.specs.declared.step.Step.{Step}

@@ -14,7 +14,7 @@ use Rattle.ba_kernel.specs.Asked.{QuestionFits}
 use Rattle.ba_kernel.specs.Courses.{Runs, Slots}
 use Rattle.ba_kernel.specs.Problems.{problem_of}
 use Rattle.ba_kernel.specs.Replays.{Closes, MayWantMemory, RefusesAt}
-use Rattle.ba_kernel.specs.Tests.{Course, IsCourse, IsPassed, IsRefused, Proof}
+use Rattle.ba_kernel.specs.SearchStates.{Course, IsCourse, IsPassed, IsRefused, Proof}
 use Rattle.ba_kernel.specs.declared.problem.Problem.{Problem}
 use Rattle.ba_kernel.specs.declared.step.Step.{Step}
 use Rattle.ba_proof.specs.declared.checking.CheckFault.{CheckFault}

@@ -18,7 +18,7 @@ use Rattle.ba_kernel.proofs.StepFits.{All-at}
 use Rattle.ba_kernel.specs.Courses.{IsStartOf, Runs, Slots, after, branch_of, nothing_known, start, next}
 use Rattle.ba_kernel.specs.Effects.{IsCase, rows_at, with_fact, with_facts, with_lessons}
 use Rattle.ba_kernel.specs.Steps.{Leads}
-use Rattle.ba_kernel.specs.Tests.{FactIsTidy}
+use Rattle.ba_kernel.specs.SearchStates.{FactIsTidy}
 use Rattle.ba_kernel.specs.declared.problem.Problem.{Problem}
 use Rattle.ba_kernel.specs.declared.step.Step.{Step}
 use Rattle.ba_kernel.specs.declared.step.Step.TheVariants as steps

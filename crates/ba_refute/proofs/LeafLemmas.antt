@@ -7,7 +7,7 @@ use Rattle.ba_settle.specs.Dues.{IsLeaf}
 use Rattle.ba_settle.specs.declared.ends.Leaf.{Leaf}
 use Rattle.ba_kernel.specs.Asked.{QuestionIsProblem}
 use Rattle.ba_kernel.specs.Courses.{Runs}
-use Rattle.ba_kernel.specs.Tests.{IsTidy, RunsAreTidy}
+use Rattle.ba_kernel.specs.SearchStates.{IsTidy, RunsAreTidy}
 use Rattle.ba_kernel.specs.declared.problem.Problem.{Problem}
 use Rattle.ba_kernel.specs.declared.step.Step.TheVariants as steps
 use Rattle.ba_refute.proofs.GivenLemmas.{IsFixedOn, all_given, facts_given, open_fixed}

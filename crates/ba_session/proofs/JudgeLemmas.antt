@@ -22,7 +22,7 @@ use Rattle.ba_settle.specs.declared.ends.Settled.{Settled}
 use Rattle.ba_settle.specs.declared.ends.Settled.TheVariants as settled
 use Rattle.ba_kernel.specs.Asked.{AnswersAreRecords, QuestionFits, RecordFits}
 use Rattle.ba_kernel.specs.Problems.{ProblemIsQuestion, StrongAll}
-use Rattle.ba_kernel.specs.Tests.{Proof}
+use Rattle.ba_kernel.specs.SearchStates.{Proof}
 use Rattle.ba_kernel.specs.declared.problem.Problem.{Problem}
 use Rattle.ba_match.specs.Matching.{IsFirstMatch, IsFound}
 use Rattle.ba_model.specs.Conform.{Conforms}
@@ -42,7 +42,7 @@ use Rattle.ba_refute.specs.declared.clause.Clause.{Clause}
 use Rattle.ba_refute.specs.declared.clause.Counterexample.{Counterexample}
 use Rattle.ba_refute.specs.declared.refutal.Refutal.{Refutal}
 use Rattle.ba_refute.specs.declared.refutal.Refutal.TheVariants as refutal
-use Rattle.ba_session.specs.Asking.{HasFault, HasNoVerdict, IsRequestOf, IsChecked, IsCompliant, IsFirstToMatch, IsGround, IsKept, IsNoMatch, IsReason, IsReleased, Judges, NoneMatches, Reads, Replies, Uncovered, answer_in, look_at, question}
+use Rattle.ba_session.specs.Asking.{HasFault, HasNoVerdict, IsRequestOf, IsServable, IsCompliant, IsFirstToMatch, IsGround, IsKept, IsNoMatch, IsReason, IsReleased, Judges, NoneMatches, Reads, Replies, Uncovered, answer_in, look_at, question}
 use Rattle.ba_session.specs.Judging.{Answers, AnswersByProof, IsByProof, IsByTemplate, IsFoundBy, IsOtherGround, IsSearched, IsServing, IsShown, Says, Weighs, refusal_of}
 use Rattle.ba_session.proofs.PassLemmas.{makes_more, makes_none, makes_one}
 use Rattle.ba_session.specs.Passing.{LeavesVersions, Makes, ShelfCalls, on_shelf}
@@ -181,7 +181,7 @@ records_fit law policy c d conforms context (it ∷ trace) queries answers =
     (records_fit law policy c d conforms context trace (All-tail (λ entry. IsQuery policy.schema (kinds_of policy.params) [] entry.query) it trace queries)
     (All-tail (λ entry. IsAnswer entry.query c d entry.rows) it trace answers))
 
-pub question_fits : AnswersAreRecords → (policy : Policy) (asker : Request) (query : Query) → IsChecked policy → IsRequestOf policy asker →
+pub question_fits : AnswersAreRecords → (policy : Policy) (asker : Request) (query : Query) → IsServable policy → IsRequestOf policy asker →
     IsQuery policy.schema (kinds_of policy.params) [] query → QuestionFits policy asker.context asker.trace query
 question_fits law policy asker query checked is_asker asked = record {
   tables = checked.tables;

@@ -3,7 +3,7 @@ use Rattle.std.proofs.Common.{◌≡◌, ◌∙◌, sym, ap, subst, List, []}
 use Rattle.ba_cache.specs.Rows.{shape_of_template}
 use Rattle.ba_cache.specs.declared.call.ShelfCall.{ShelfCall}
 use Rattle.ba_general.specs.Generals.{IsGeneralised, OwnInstance}
-use Rattle.ba_kernel.specs.Tests.{Proof}
+use Rattle.ba_kernel.specs.SearchStates.{Proof}
 use Rattle.ba_kernel.specs.declared.problem.Problem.{Problem}
 use Rattle.ba_session.specs.Asking.{IsKept}
 use Rattle.ba_session.specs.Judging.{IsAdmitted}

@@ -13,7 +13,7 @@ use Rattle.ba_settle.specs.declared.ends.Leaf.{Leaf}
 use Rattle.ba_settle.specs.declared.ends.Settled.TheVariants as settled
 use Rattle.ba_model.specs.RuleFaults.{RuleFits}
 use Rattle.ba_kernel.specs.Problems.{problem_of}
-use Rattle.ba_kernel.specs.Tests as kernel
+use Rattle.ba_kernel.specs.SearchStates as kernel
 use Rattle.ba_kernel.specs.declared.problem.Problem.{Problem}
 use Rattle.ba_kernel.specs.declared.step.Step.{Step}
 use Rattle.ba_match.specs.Matching.{IsFirstMatch}
@@ -52,7 +52,7 @@ use Rattle.ba_versions.specs.declared.call.VersionCall.{VersionCall}
 use Rattle.ba_versions.specs.declared.call.VersionCall.TheVariants as version
 
 -- the policy, its schema and its rules were checked
-pub record IsChecked (policy : Policy) : Type 0 where
+pub record IsServable (policy : Policy) : Type 0 where
   pub fits : PolicyFits policy
   pub tables : AreTables policy.schema.tables
   pub rules : All (RuleFits policy.schema) policy.schema.rules
@@ -158,7 +158,7 @@ pub record IsServed (policy : Policy) (asker : Request) (query : Query) (shard i
 
 -- None of the templates found for the question's shape matches it, the steps prove it, and its
 -- template is kept, or not.
-pub record IsProved (policy : Policy) (asker : Request) (effort : Effort) (query : Query)
+pub record HasNewProof (policy : Policy) (asker : Request) (effort : Effort) (query : Query)
     (steps : List Step) (keeping : Keeping) (made : ShelfCalls) : Type 0 where
   pub uncovered : Uncovered policy asker query
   pub found : List Kept
@@ -177,7 +177,7 @@ IsGround policy asker effort query (Cover cover) made =
 IsGround policy asker effort query (Template shard id template it) made =
     IsServed policy asker query shard id template it made
 IsGround policy asker effort query (Proof steps keeping) made =
-    IsProved policy asker effort query steps keeping made
+    HasNewProof policy asker effort query steps keeping made
 
 -- ---- blocks
 
@@ -207,7 +207,7 @@ IsReason policy asker effort query (Stuck leaf clause) =
 
 -- The question isn't covered, none of the templates found for its shape matches it, and it is
 -- blocked for this reason.
-pub record IsDenied (policy : Policy) (asker : Request) (effort : Effort) (query : Query)
+pub record HasBlock (policy : Policy) (asker : Request) (effort : Effort) (query : Query)
     (why : Why) (made : ShelfCalls) : Type 0 where
   pub uncovered : Uncovered policy asker query
   pub found : List Kept
@@ -241,7 +241,7 @@ abbrev pub Judges : Policy → Request → Effort → Query → ShelfCalls → J
 Judges policy asker effort query made (judged.Allowed by) =
     IsGround policy asker effort query by made × IsCompliant policy asker query
 Judges policy asker effort query made (judged.Blocked why) =
-    IsDenied policy asker effort query why made
+    HasBlock policy asker effort query why made
 Judges policy asker effort query made judged.NoMemory = HasNoVerdict policy asker query made
 
 -- ---- replies
@@ -255,7 +255,7 @@ abbrev pub HasFault : Policy → List ℕ → ReadQueryFault → Type 0
 HasFault policy text fault = query_of policy.schema policy.params text ≡ Err fault
 
 -- the text's query is answered by these rows, for this reason
-pub record IsAnswered (policy : Policy) (asker : Request) (effort : Effort) (text : List ℕ)
+pub record HasAnswer (policy : Policy) (asker : Request) (effort : Effort) (text : List ℕ)
     (query : Query) (rows : List (List Value)) (by : By) (made : ShelfCalls) : Type 0 where
   pub reads : Reads policy text query
   pub ground : IsGround policy asker effort query by made
@@ -265,7 +265,7 @@ pub record IsAnswered (policy : Policy) (asker : Request) (effort : Effort) (tex
 pub record IsBlocked (policy : Policy) (asker : Request) (effort : Effort) (text : List ℕ)
     (query : Query) (why : Why) (made : ShelfCalls) : Type 0 where
   pub reads : Reads policy text query
-  pub denied : IsDenied policy asker effort query why made
+  pub denied : HasBlock policy asker effort query why made
 
 -- where memory ran out: before any call, or behind a look
 abbrev pub IsInterrupted : Policy → Request → List ℕ → ShelfCalls → Type 0
@@ -277,7 +277,7 @@ IsInterrupted policy asker text made =
 -- memory may stand in place of any other reply.
 abbrev pub Replies : Policy → Request → Effort → List ℕ → ShelfCalls → Reply → Type 0
 Replies policy asker effort text made (Answer query rows by) =
-    IsAnswered policy asker effort text query rows by made
+    HasAnswer policy asker effort text query rows by made
 Replies policy asker effort text made (Blocked query why) =
     IsBlocked policy asker effort text query why made
 Replies policy asker effort text made (Unread fault) =

@@ -4,14 +4,14 @@ use Rattle.ba_cache.specs.declared.call.Kept.{Kept}
 use Rattle.ba_cache.specs.declared.call.ShelfCall.{ShelfCall}
 use Rattle.ba_cache.specs.declared.call.ShelfCall.TheVariants.{Admit, Refused}
 use Rattle.ba_direct.specs.Cover.{IsCover}
-use Rattle.ba_kernel.specs.Tests as kernel
+use Rattle.ba_kernel.specs.SearchStates as kernel
 use Rattle.ba_model.specs.Meaning.{IsAnswer}
 use Rattle.ba_model.specs.declared.failure.Failure.{Failure}
 use Rattle.ba_model.specs.declared.failure.Failure.TheVariants as failures
 use Rattle.ba_model.specs.declared.policy.Policy.{Policy}
 use Rattle.ba_model.specs.declared.query.Query.{Query}
 use Rattle.ba_model.specs.declared.value.Value.{Value}
-use Rattle.ba_session.specs.Asking.{HasNoVerdict, IsCompliant, IsDenied, IsFirstToMatch, IsGround, IsKept, IsReason, IsReleased, IsServed, NoneMatches, Uncovered, look_at, question}
+use Rattle.ba_session.specs.Asking.{HasNoVerdict, IsCompliant, HasBlock, IsFirstToMatch, IsGround, IsKept, IsReason, IsReleased, IsServed, NoneMatches, Uncovered, look_at, question}
 use Rattle.ba_session.specs.Passing.{ShelfCalls, on_shelf}
 use Rattle.ba_session.specs.declared.judge.Verdict.{Verdict}
 use Rattle.ba_session.specs.declared.judge.Verdict.TheVariants.{Ground, Prove, Deny}
@@ -89,7 +89,7 @@ Weighs policy asker effort query made (Ok (Ground basis)) =
 Weighs policy asker effort query made (Ok (Prove proof)) =
     IsShown policy asker effort query proof made
 Weighs policy asker effort query made (Ok (Deny why)) =
-    IsDenied policy asker effort query why made
+    HasBlock policy asker effort query why made
 Weighs policy asker effort query made (Err error) = HasNoVerdict policy asker query made
 
 -- ---- a template that is kept
@@ -142,6 +142,6 @@ Says policy asker effort query made (Answer other rows basis) =
     (other ≡ query) × IsGround policy asker effort query basis made ×
     IsReleased policy asker query rows
 Says policy asker effort query made (Blocked other why) =
-    (other ≡ query) × IsDenied policy asker effort query why made
+    (other ≡ query) × HasBlock policy asker effort query why made
 Says policy asker effort query made (Unread fault) = ⊥
 Says policy asker effort query made NoMemory = HasNoVerdict policy asker query made

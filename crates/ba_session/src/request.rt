@@ -7,7 +7,7 @@ ghost use Rattle.ba_model.specs.Fit.{ContextFits, IsQuery, kinds_of};
 ghost use Rattle.ba_model.specs.Meaning.{IsAnswer};
 ghost use Rattle.ba_model.specs.Readings.{Gives};
 ghost use Rattle.ba_model.specs.Limits.{most_budget};
-ghost use Rattle.ba_session.specs.Asking.{IsRequestOf, IsBegun, IsChecked, Reads, Replies, answer_in, begun, effort_in};
+ghost use Rattle.ba_session.specs.Asking.{IsRequestOf, IsBegun, IsServable, Reads, Replies, answer_in, begun, effort_in};
 ghost use Rattle.ba_session.specs.Judging.{Answers, AnswersByProof, Says, refusal_of};
 ghost use Rattle.ba_session.specs.Passing.{AreOf, HasRoom, LeavesShelves, Makes, ShelfCalls, on_shelf};
 ghost use Rattle.ba_sql_query.specs.Texts.{query_of};
@@ -98,7 +98,7 @@ impl Request {
         budget: u32,
         text: &str,
     ) -> Reply
-        requires policy { IsChecked service.now.policy }
+        requires policy { IsServable service.now.policy }
         requires asker { IsRequestOf service.now.policy self.old }
         requires limit { budget ≤ most_budget }
         requires of { AreOf service.now passes.old }

@@ -26,7 +26,7 @@ pub struct Template {
 
 impl Model for Template {
     ghost use Rattle.std.specs.Prelude.{◌≡◌};
-    ghost use Rattle.ba_kernel.specs.Tests.{Proof};
+    ghost use Rattle.ba_kernel.specs.SearchStates.{Proof};
     ghost use Rattle.ba_template.specs.Shapes.{shape_of};
     ghost use Rattle.ba_template.specs.Templates.{IsTemplate};
 

@@ -1,7 +1,7 @@
 //! A question of a request, with the search for a proof joined in.
 ghost use Rattle.std.specs.Prelude.{◌≡◌, ◌++◌, ◌≤◌};
 ghost use Rattle.ba_model.specs.Limits.{most_budget};
-ghost use Rattle.ba_session.specs.Asking.{IsChecked, IsRequestOf, Replies, answer_in, effort_in};
+ghost use Rattle.ba_session.specs.Asking.{IsServable, IsRequestOf, Replies, answer_in, effort_in};
 ghost use Rattle.ba_session.specs.Passing.{AreOf, HasRoom, Makes, ShelfCalls};
 
 use ba_instant::InOrder;
@@ -20,7 +20,7 @@ pub fn ask<R: Wait>(
     budget: u32,
     text: &str,
 ) -> Reply
-    requires policy { IsChecked service.now.policy }
+    requires policy { IsServable service.now.policy }
     requires asker { IsRequestOf service.now.policy asker.old }
     requires limit { budget ≤ most_budget }
     requires of { AreOf service.now passes.old }

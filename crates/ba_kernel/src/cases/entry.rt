@@ -3,7 +3,7 @@ ghost use Rattle.std.specs.Prelude.{◌≡◌, All, IfOk, length, map};
 ghost use Rattle.ba_kernel.specs.Courses.{ProblemFits};
 ghost use Rattle.ba_kernel.specs.Effects.{AreNext, rows_at};
 ghost use Rattle.ba_kernel.specs.Steps.{EntryLeads, EntryPasses, RuleLeads, RulePasses, ViewLeads, ViewPasses};
-ghost use Rattle.ba_kernel.specs.Tests.{IsTidy};
+ghost use Rattle.ba_kernel.specs.SearchStates.{IsTidy};
 ghost use Rattle.ba_kernel.specs.Tidy.{FactsAreThere, HasTerm, IsPartFor};
 
 use crate::cases::build::part_cases;

@@ -4,7 +4,7 @@ ghost use Rattle.std.specs.List.{zip};
 ghost use Rattle.ba_kernel.specs.Courses.{ProblemFits};
 ghost use Rattle.ba_kernel.specs.Effects.{negation, same_at, same_pair, with_lessons};
 ghost use Rattle.ba_kernel.specs.Steps.{KeyLeads, KeyPasses, LinkLeads, LinkPasses, SplitLeads, SplitPasses};
-ghost use Rattle.ba_kernel.specs.Tests.{IsTidy};
+ghost use Rattle.ba_kernel.specs.SearchStates.{IsTidy};
 ghost use Rattle.ba_kernel.specs.Tidy.{HasColumns, Learns, TermsAreThere};
 
 use crate::cases::rounds::round_after;

@@ -3,7 +3,7 @@ ghost use Rattle.std.specs.Prelude.{◌≡◌, ◌↔◌, ◌+◌, ◌≤◌, �
 ghost use Rattle.ba_model.specs.declared.query.Operand.TheVariants.{Val};
 ghost use Rattle.ba_facts.specs.Matches.{round_of};
 ghost use Rattle.ba_kernel.specs.Effects.{IsEntryRound, IsSide};
-ghost use Rattle.ba_kernel.specs.Tidy.{HasLiteral, IsLiteral, IsLiteralOfSome};
+ghost use Rattle.ba_kernel.specs.Tidy.{MentionsLiteral, IsLiteral, IsLiteralOfSome};
 
 use crate::problem::Problem;
 use ba_facts::Branch;
@@ -81,13 +81,13 @@ fn is_literal_of_some(problem: &Problem, operand: &Operand) -> bool
 }
 
 fn is_literal_of(parts: &[Part], value: &Value) -> bool
-    ensures { IsTrue result ↔ Any (HasLiteral value.now) parts.now }
+    ensures { IsTrue result ↔ Any (MentionsLiteral value.now) parts.now }
 {
     parts.iter().any(|part| has_literal(part, value))
 }
 
 fn has_literal(part: &Part, value: &Value) -> bool
-    ensures { IsTrue result ↔ HasLiteral value.now part.now }
+    ensures { IsTrue result ↔ MentionsLiteral value.now part.now }
 {
     some_side(part.conds.as_slice(), value) || some_literal(part.head.as_slice(), value)
 }

@@ -2,7 +2,7 @@
 ghost use Rattle.std.specs.Prelude.{◌↔◌, IsTrue, MatchOption};
 ghost use Rattle.ba_kernel.specs.Effects.{rows_at};
 ghost use Rattle.ba_kernel.specs.Steps.{FactsPass, FactsRefuse, FirstWithout, SomeSide};
-ghost use Rattle.ba_kernel.specs.Tests.{Tested};
+ghost use Rattle.ba_kernel.specs.SearchStates.{Tested};
 ghost use Rattle.ba_facts.specs.Matches.{IsFactOf, IsMapping, IsShown};
 
 use crate::step::StepFault;

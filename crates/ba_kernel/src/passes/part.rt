@@ -1,7 +1,7 @@
 //! The tests of steps by a rule, a view or the question, on the facts of one of its parts.
 ghost use Rattle.std.specs.Prelude.{MatchOption};
 ghost use Rattle.ba_kernel.specs.Steps.{GoalPasses, GoalRefuses, IsRulePart, IsViewPart, RulePasses, RuleRefuses, SomeRulePart, SomeViewPart, ViewPasses, ViewRefuses};
-ghost use Rattle.ba_kernel.specs.Tests.{IsTidy, Tested};
+ghost use Rattle.ba_kernel.specs.SearchStates.{IsTidy, Tested};
 
 use crate::passes::head::first_different;
 use crate::passes::mapping::{first_hidden, side_of, test_facts};

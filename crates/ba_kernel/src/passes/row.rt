@@ -1,7 +1,7 @@
 //! The tests of steps by a key or a link, on the rows that they name.
 ghost use Rattle.std.specs.Prelude.{◌↔◌, IsTrue, MatchOption};
 ghost use Rattle.ba_kernel.specs.Steps.{AreEqualAt, ArePair, FirstWithout, IsKeyOf, IsLinkOf, IsNotNullAt, KeyPasses, KeyRefuses, LinkPasses, LinkRefuses, SomeKey, SomeLink, SomePair};
-ghost use Rattle.ba_kernel.specs.Tests.{Tested};
+ghost use Rattle.ba_kernel.specs.SearchStates.{Tested};
 
 use crate::fact::find_fact;
 use crate::problem::Problem;

@@ -1,7 +1,7 @@
 //! The test of a step that splits a branch by an atom.
 ghost use Rattle.std.specs.Prelude.{◌≡◌, ◌↔◌, IsTrue, MatchOption, option_map, slice_get};
 ghost use Rattle.ba_kernel.specs.Steps.{AreOfKind, MayBeSplit, SidesAreThere, SomeKind, SplitPasses, SplitRefuses};
-ghost use Rattle.ba_kernel.specs.Tests.{Tested};
+ghost use Rattle.ba_kernel.specs.SearchStates.{Tested};
 ghost use Rattle.ba_facts.specs.Knowing.{IsThere};
 ghost use Rattle.ba_facts.specs.Laws.{TermOpFits, kind_of_term};
 ghost use Rattle.ba_facts.specs.Shown.{NeitherNull};

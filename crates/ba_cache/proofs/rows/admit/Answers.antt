@@ -1,6 +1,6 @@
 use Rattle.std.proofs.Common.{◌∙◌, ◌∷◌, ◌++◌, [], List, ap, subst, sym}
 use Rattle.std.specs.Prelude.{All, Contains}
-use Rattle.ba_kernel.specs.Tests.{Proof}
+use Rattle.ba_kernel.specs.SearchStates.{Proof}
 use Rattle.ba_cache.proofs.RowLemmas.{adds_by_key, knows_by_key, none_was}
 use Rattle.ba_cache.specs.Keys.{same_shape, shape_decides}
 use Rattle.ba_cache.specs.Rows.{IsOther, kept, latest, shape_of_template}

@@ -1,5 +1,5 @@
 use Rattle.std.proofs.Common.{ap, subst, sym, ◌∙◌}
-use Rattle.ba_kernel.specs.Tests.{Proof}
+use Rattle.ba_kernel.specs.SearchStates.{Proof}
 use Rattle.ba_template.specs.Templates.{EachVarStands}
 use Rattle.ba_general.proofs.GeneralLemmas.{assuming_stands}
 use Rattle.ba_general.proofs.general.template_of.Goals as goal

@@ -3,7 +3,7 @@ use Rattle.std.specs.Cmp.{unsigned_Decides}
 use Rattle.std.specs.Prelude.{nat_eq}
 use Rattle.ba_kernel.specs.Courses.{branch_of}
 use Rattle.ba_kernel.specs.News.{IsNewRound}
-use Rattle.ba_kernel.specs.Tests.{open_at}
+use Rattle.ba_kernel.specs.SearchStates.{open_at}
 use Rattle.ba_instant.proofs.AgendaLemmas.{here_if}
 use Rattle.ba_instant.proofs.agenda.is_new_here.Goals as goal
 

@@ -1,6 +1,6 @@
 use Rattle.std.proofs.Common.{◌≡◌, ◌∙◌, ◌<◌, length, sym, ap, arith}
 use Rattle.std.specs.Prelude.{is_some}
-use Rattle.ba_kernel.specs.Tests.{open_at}
+use Rattle.ba_kernel.specs.SearchStates.{open_at}
 use Rattle.ba_proof.proofs.CheckLemmas.{is_some_map, none_open, one_open}
 use Rattle.ba_proof.proofs.checking.open_count.Goals as goal
 use Rattle.ba_proof.proofs.checking.open_count.Goals.{then-is_some, else-is_some}

@@ -4,7 +4,7 @@ use Rattle.std.proofs.lemmas.Iterator.Consumers.{YieldsList-end}
 use Rattle.std.proofs.lemmas.List.{map-id}
 use Rattle.std.proofs.lemmas.Result.{err_from_is_err_and}
 use Rattle.ba_kernel.proofs.ReplayLemmas.{given_next}
-use Rattle.ba_kernel.specs.Tests.{Course}
+use Rattle.ba_kernel.specs.SearchStates.{Course}
 use Rattle.ba_proof.specs.Checked.{open_count}
 use Rattle.ba_proof.proofs.CheckLemmas.{refused, stays_open}
 use Rattle.ba_proof.proofs.checking.taken.Goals as goal

@@ -1,6 +1,6 @@
 use Rattle.std.proofs.Common.{◌≡◌, ◌∙◌, ◌∷◌, ◌++◌, [], ap, refl, arith}
 use Rattle.std.specs.declared.snapshot.Snapshot.{Snapshot}
-use Rattle.ba_kernel.specs.Tests.{Proof}
+use Rattle.ba_kernel.specs.SearchStates.{Proof}
 use Rattle.ba_cache.proofs.Histories.{added_here, counts, goes_on, is_template, most_one, told_is}
 use Rattle.ba_cache.specs.Rows.{added_by}
 use Rattle.ba_cache.specs.declared.call.ShelfCall.TheVariants.{Admit, Refused}

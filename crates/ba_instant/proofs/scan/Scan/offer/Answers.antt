@@ -1,7 +1,7 @@
 use Rattle.std.proofs.Common.{refl, subst}
 use Rattle.ba_kernel.specs.Courses.{branch_of}
 use Rattle.ba_kernel.specs.News.{IsNewRound}
-use Rattle.ba_kernel.specs.Tests.{open_at}
+use Rattle.ba_kernel.specs.SearchStates.{open_at}
 use Rattle.ba_instant.proofs.OfferLemmas.{offered_new, offered_old}
 use Rattle.ba_instant.proofs.scan.Scan.offer.Goals as goal
 

@@ -4,7 +4,7 @@ use Rattle.std.specs.Option.{option_copied}
 use Rattle.ba_facts.specs.declared.branch.Branch.{Branch}
 use Rattle.ba_kernel.proofs.SpareLemmas.{brought, leads_on}
 use Rattle.ba_kernel.specs.Spares.{LeadsTo}
-use Rattle.ba_kernel.specs.Tests.{open_at}
+use Rattle.ba_kernel.specs.SearchStates.{open_at}
 use Rattle.ba_kernel.proofs.search.Search.brought_up.Goals as goal
 
 pub again-requires-clause-one : goal.again-requires-clause-one

@@ -1,7 +1,7 @@
 use Rattle.std.proofs.Common.{◌∙◌, subst, sym}
 use Rattle.ba_kernel.proofs.SearchLemmas.{tidy_open}
 use Rattle.ba_kernel.proofs.SpareLemmas.{passed_open}
-use Rattle.ba_kernel.specs.Tests.{PassesAt, open_at}
+use Rattle.ba_kernel.specs.SearchStates.{PassesAt, open_at}
 use Rattle.ba_kernel.proofs.search.Search.cases.Goals as goal
 
 pub base-requires : goal.base-requires
