@@ -96,7 +96,7 @@ module _ {X : Type 0} where
       let rest : drop b xs ≡ drop (b - a) (drop a xs) = sym (drop-drop (b - a) a xs ∙ ap (λ n. drop n xs) (let e : a + (b - a) ≡ b = omega arith in e)) in
       sym (ap (λ ys. take (b - a) (drop a xs) ++ take (c - b) ys) rest ∙ take_two (drop a xs) (b - a) (c - b) ∙ ap (λ n. take n (drop a xs)) (let e : (b - a) + (c - b) ≡ c - a = omega arith in e))
 
-  take_parts : (xs : List X) (a b : ℕ) → a ≤ b → take b xs ≡ take a xs ++ between a b xs
+  pub take_parts : (xs : List X) (a b : ℕ) → a ≤ b → take b xs ≡ take a xs ++ between a b xs
   take_parts xs a b ab = sym (take_two xs a (b - a) ∙ ap (λ n. take n xs) (let e : a + (b - a) ≡ b = omega arith in e))
 
   drop_parts : (xs : List X) (a b : ℕ) → a ≤ b → drop a xs ≡ between a b xs ++ drop b xs

@@ -1,17 +1,14 @@
 -- From the steps that a proof keeps to its template.
-use Rattle.std.proofs.Common.{◌≡◌, ℕ, suc, ◌+◌, ◌<◌, ◌≤◌, List, length, sym, subst, arith}
+use Rattle.std.proofs.Common.{◌≡◌, ℕ, suc, ◌+◌, ◌<◌, ◌≤◌, List, [], ◌∷◌, length, refl, sym, ap₂, subst, arith}
 use Rattle.std.proofs.Math.Nat.{lt_of_not-le}
-use Rattle.std.specs.Prelude.{Result, Err}
+use Rattle.std.specs.Prelude.{Any}
 use Rattle.ba_kernel.proofs.AskedLemmas.{question_is_problem}
-use Rattle.ba_kernel.proofs.OneEnd.{one_end}
 use Rattle.ba_kernel.specs.Courses.{ProblemFits}
-use Rattle.ba_kernel.specs.Replays.{Closes, Replays}
+use Rattle.ba_kernel.specs.Replays.{Closes}
 use Rattle.ba_kernel.specs.SearchStates.{IsProved, Proof}
 use Rattle.ba_kernel.specs.declared.problem.Problem.{Problem}
-use Rattle.ba_kernel.specs.declared.replaying.ReplayFault.{ReplayFault}
 use Rattle.ba_kernel.specs.declared.step.Step.{Step}
-use Rattle.ba_model.specs.declared.failure.Failure.{Failure}
-use Rattle.ba_model.specs.declared.failure.Failure.TheVariants.{Fault}
+use Rattle.ba_kernel.specs.declared.step.Step.TheVariants as steps
 use Rattle.ba_model.specs.declared.query.Atom.{Atom}
 use Rattle.ba_model.specs.declared.value.Value.{Value}
 use Rattle.ba_template.specs.Templates.{EachVarStands}
@@ -23,7 +20,7 @@ use Rattle.ba_general.specs.Conditions.{HasOperands, IsAcceptedFully, IsConditio
 use Rattle.ba_general.specs.Generals.{HasTooMany, HasTooManyCases, IsGeneralised, IsOfQuestion, IsTold, IsToldBy, IsTooWide}
 use Rattle.ba_general.specs.Leaving.{AreKept}
 use Rattle.ba_general.specs.Patterns.{IsPattern, assuming}
-use Rattle.ba_general.specs.Retold.{AreNamed, AreRenumbered, AreWithVariables, IsRenumbered, IsStepWith}
+use Rattle.ba_general.specs.Retold.{AreNamed, AreRenumbered, AreWithVariables, IsRenumbered, IsSplit, IsStepWith}
 use Rattle.ba_model.specs.Limits.{most_entries, most_operands}
 use Rattle.ba_general.specs.declared.pattern.Pattern.{Pattern}
 use Rattle.ba_general.specs.declared.pattern.Valued.{Valued}
@@ -33,12 +30,6 @@ question_fits p h = subst ProblemFits (sym h.is) (question_is_problem p.policy h
 
 pub proved_closes : (p : Problem) (taken : List Step) → IsProved p taken → Closes p taken
 proved_closes p taken h = record { slots = h.slots; runs = h.runs; closed = h.closed }
-
--- steps that close a problem come to no fault
-pub no_fault : (p : Problem) (taken : List Step) (came : Result Proof (Failure ReplayFault)) (failure : Failure ReplayFault) (fault : ReplayFault) → ProblemFits p →
-    Closes p taken → Replays p taken came → came ≡ Err failure → failure ≡ Fault fault → ⊥
-no_fault p taken came failure fault fits closes replays is_err is_fault =
-    (one_end p taken fits).no_fault fault closes (subst (λ f. Replays p taken (Err f)) is_fault (subst (Replays p taken) is_err replays))
 
 -- ---- a pattern with its operands, made of a question's proof
 
@@ -75,6 +66,25 @@ pub told_without : (it : Pattern) (kept tried taken : List Step) → AreWithVari
     IsToldBy it kept taken
 told_without it kept tried taken are refused same =
     record { tried = tried; tried_are = are; told = subst (IsTold it.problem it.operands tried kept) (sym same) (IsTold.without refused) }
+
+step_stays : (values : List Value) (step new : Step) → ¬ (IsSplit step) → IsStepWith values step new → new ≡ step
+step_stays values (steps.Entry branch entry) new none is = is
+step_stays values (steps.Key branch key left right) new none is = is
+step_stays values (steps.Link branch link fact) new none is = is
+step_stays values (steps.Rule branch rule part facts) new none is = is
+step_stays values (steps.View branch view part facts) new none is = is
+step_stays values (steps.Split branch atom) new none is = absurd (none tt)
+step_stays values (steps.Absurd branch) new none is = is
+step_stays values (steps.Goal branch part facts) new none is = is
+
+-- where nothing is split the steps stay
+pub unsplit_stay : (values : List Value) (kept tried : List Step) → ¬ (Any IsSplit kept) → AreWithVariables values kept tried → tried ≡ kept
+unsplit_stay values [] [] none is = refl
+unsplit_stay values [] (new ∷ tried) none is = absurd is
+unsplit_stay values (step ∷ kept) [] none is = absurd is
+unsplit_stay values (step ∷ kept) (new ∷ tried) none is =
+    ap₂ (λ x xs. x ∷ xs) (step_stays values step new (λ split. none (0, step, omega arith, refl, split)) is.0)
+    (unsplit_stay values kept tried (λ it. none (suc it.0, it.1, omega (arith, it.2), it.3, it.4)) is.1)
 
 pub tried_few : (values : List Value) (kept tried : List Step) (n : ℕ) → AreWithVariables values kept tried → length kept ≤ n → length tried ≤ n
 tried_few values kept tried n are few = let same : length kept ≡ length tried = zip_wide (IsStepWith values) kept tried are in omega arith

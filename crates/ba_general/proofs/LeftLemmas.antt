@@ -1,18 +1,13 @@
--- What a pass leaves of the full condition: it fits, and with it the steps are accepted.
-use Rattle.std.proofs.Common.{◌≡◌, List, [], ◌∷◌, ◌++◌, refl, sym, ap, ◌∙◌, subst, append_assoc, append-nil}
+-- What a pass leaves of the full condition: some of its atoms, with which the steps are accepted.
+use Rattle.std.proofs.Common.{◌≡◌, List, [], ◌∷◌, ◌++◌, sym, ap, ◌∙◌, subst, append_assoc, append-nil}
 use Rattle.std.specs.Prelude.{All}
 use Rattle.std.proofs.lemmas.List.Elements.{All-cons, All-head, All-nil, All-tail}
-use Rattle.ba_kernel.specs.Courses.{ProblemFits}
 use Rattle.ba_kernel.specs.declared.problem.Problem.{Problem}
 use Rattle.ba_kernel.specs.declared.step.Step.{Step}
-use Rattle.ba_model.specs.Fit.{AtomFits, kinds_of}
 use Rattle.ba_model.specs.declared.query.Atom.{Atom}
 use Rattle.ba_general.proofs.AcceptedLemmas.{left_some, some_append}
-use Rattle.ba_general.proofs.FullFitsLemmas.{assuming_fits, full_fits, pattern_operands}
-use Rattle.ba_general.specs.Conditions.{IsCondition, PatternFits}
+use Rattle.ba_general.specs.Conditions.{IsCondition}
 use Rattle.ba_general.specs.Dropping.{AreSomeOf, Drops, IsAccepted}
-use Rattle.ba_general.specs.Patterns.{assuming}
-use Rattle.ba_general.specs.declared.pattern.Pattern.{Pattern}
 use Rattle.ba_general.specs.declared.pattern.Valued.{Valued}
 
 pub some_have : (P : Atom → Type 0) {some all : List Atom} → AreSomeOf some all → All P all → All P some
@@ -25,14 +20,6 @@ pub condition_some : (g : Problem) (operands : List Valued) (taken : List Step) 
 condition_some g operands taken condition c =
     subst (λ xs. AreSomeOf xs (c.fixed ++ c.less ++ c.apart ++ c.equal)) (sym c.condition_is)
     (some_append (some_append (some_append (left_some c.fixed_drops) (left_some c.less_drops)) (left_some c.apart_drops)) (left_some c.equal_drops))
-
-pub condition_fits : (it : Pattern) (taken : List Step) (condition : List Atom) → PatternFits it → IsCondition it.problem it.operands taken condition →
-    ProblemFits (assuming it.problem condition)
-condition_fits it taken condition fits c =
-    let g : Problem = it.problem in
-    assuming_fits it.problem condition fits.problem
-    (some_have (AtomFits g.policy.schema (kinds_of g.policy.params) g.vars []) (condition_some it.problem it.operands taken condition c)
-    (full_fits it.problem it.operands c.fixed c.less c.apart c.equal (c.fixed ++ c.less ++ c.apart ++ c.equal) (pattern_operands it fits) c.full refl))
 
 -- ---- with what is left the steps are accepted, if they are so with all
 

@@ -2,6 +2,7 @@ pub mod AskedLemmas
 pub mod ClosesLemmas
 pub mod ConditionLemmas
 pub mod CourseLemmas
+pub mod AtOnceLemmas
 pub mod DroppingLemmas
 pub mod FullFitsLemmas
 pub mod GapLemmas

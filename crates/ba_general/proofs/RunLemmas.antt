@@ -1,11 +1,15 @@
 -- The halves of a run: what is still kept of each, and the same run of equal lists.
-use Rattle.std.proofs.Common.{◌≡◌, ℕ, ◌+◌, ◌-◌, ◌≤◌, Bool, List, length, take, drop, sym, ap, ◌∙◌, subst, arith}
+use Rattle.std.proofs.Common.{◌≡◌, ℕ, ◌+◌, ◌-◌, ◌/◌, ◌≤◌, Bool, List, length, take, drop, sym, ap, ◌∙◌, subst, arith}
 use Rattle.std.proofs.lemmas.List.{drop-take}
 use Rattle.ba_kernel.specs.declared.problem.Problem.{Problem}
 use Rattle.ba_kernel.specs.declared.step.Step.{Step}
 use Rattle.ba_model.specs.declared.query.Atom.{Atom}
 use Rattle.ba_general.proofs.DroppingLemmas.{all_right, all_left, between_two}
 use Rattle.ba_general.specs.Dropping.{AllKept, DropsRun, IsAccepted, between}
+
+-- the middle of a run
+pub middle_in : (first end middle : ℕ) → first ≤ end → middle ≡ first + (end - first) / 2 → (first ≤ middle) × (middle ≤ end)
+middle_in first end middle from is = (omega (arith, is), omega (arith, from, is))
 
 -- ---- what is kept of a part
 

@@ -4,14 +4,16 @@ use Rattle.std.proofs.lemmas.List.{drop-drop, length-append}
 use Rattle.std.proofs.lemmas.List.Elements.{All-drop, All-replicate, All-take}
 use Rattle.std.specs.Prelude.{IfOk, Result, Ok, Err}
 use Rattle.std.specs.declared.alloc.AllocError.{AllocError}
+use Rattle.ba_kernel.specs.SearchStates.{Proof}
 use Rattle.ba_kernel.specs.declared.problem.Problem.{Problem}
 use Rattle.ba_kernel.specs.declared.step.Step.{Step}
 use Rattle.ba_model.specs.declared.query.Atom.{Atom}
 use Rattle.ba_general.proofs.FullFitsLemmas.{full_fits, pattern_operands}
 use Rattle.ba_general.proofs.OneFullLemmas.{full_one}
 use Rattle.ba_general.proofs.PassLemmas.{four_runs}
-use Rattle.ba_general.specs.Conditions.{AtomsFit, IsAcceptedFully, IsCondition, IsFullList, IsFullPass, PatternFits}
+use Rattle.ba_general.specs.Conditions.{AreUp, AtomsFit, DropsGroups, IsAcceptedFully, IsCondition, IsFullList, IsFullPass, PatternFits}
 use Rattle.ba_general.specs.Dropping.{AllKept, DropsRun, IsAccepted, between, kept_atoms}
+use Rattle.ba_general.specs.Patterns.{assuming}
 use Rattle.ba_general.specs.declared.dropping.Ends.{Ends}
 use Rattle.ba_general.specs.declared.dropping.Pass.{Pass}
 use Rattle.ba_general.specs.declared.pattern.Pattern.{Pattern}
@@ -33,11 +35,6 @@ pub still_kept : (old new : List Bool) (count first end : ℕ) → old ≡ repli
 still_kept old new count first end all same =
     subst (λ ks. AllKept (take (end - first) ks)) (sym (same ∙ ap (drop first) all))
     (All-take (λ k. k ≡ true) (end - first) (drop first (replicate count true)) (All-drop (λ k. k ≡ true) first (replicate count true) (All-replicate (λ k. k ≡ true) count true refl)))
-
-pub record AreUp (ends : Ends) (atoms : List Atom) : Type 0 where
-  pub less : ends.fixed ≤ ends.less
-  pub apart : ends.less ≤ ends.apart
-  pub all : ends.apart ≤ length atoms
 
 pub ends_up : (operands : List Valued) (atoms : List Atom) (ends : Ends) → IsFullList operands atoms ends → AreUp ends atoms
 ends_up operands atoms ends h =
@@ -81,36 +78,74 @@ module _ (pattern : Bor Pattern) (steps : Bor (List Step)) (atoms : List Atom) w
   its_flags : (old new : Pass) (first end : ℕ) → DroppedRun old new first end → IsOne pattern steps atoms old → length new.kept.items ≡ length atoms
   its_flags old new first end h is = h.flags ∙ (ap (λ xs. length xs.items) h.atoms ∙ ap length is.atoms_are)
 
+-- what the call that goes through the groups but the last tells
+pub record DroppedGroups (old new : Pass) (ends : Ends) : Type 0 where
+  pub groups : DropsGroups (IsAccepted old.pattern.now.problem old.steps.now) old.atoms.items old.kept.items new.kept.items ends
+  pub atoms : new.atoms ≡ old.atoms
+  pub pattern : new.pattern ≡ old.pattern
+  pub steps : new.steps ≡ old.steps
+
+-- these groups, one after another
+pub groups_dropped : (pattern : Bor Pattern) (steps : Bor (List Step)) (p0 p1 p2 p3 : Pass) (ends : Ends) → p0.pattern ≡ pattern → p0.steps ≡ steps →
+    DroppedRun p0 p1 0 ends.fixed → DroppedRun p1 p2 ends.fixed ends.less → DroppedRun p2 p3 ends.less ends.apart →
+    DropsGroups (IsAccepted pattern.now.problem steps.now) p0.atoms.items p0.kept.items p3.kept.items ends
+groups_dropped pattern steps p0 p1 p2 p3 ends pattern_is steps_are h1 h2 h3 =
+    let atoms = p0.atoms.items in
+    let o0 : IsOne pattern steps p0.atoms.items p0 = record { pattern_is = pattern_is; steps_are = steps_are; atoms_are = refl } in
+    let o1 = still_one pattern steps atoms p0 p1 0 ends.fixed h1 o0 in
+    let o2 = still_one pattern steps atoms p1 p2 ends.fixed ends.less h2 o1 in
+    record {
+      first = p1.kept.items;
+      second = p2.kept.items;
+      first_flags = its_flags pattern steps atoms p0 p1 0 ends.fixed h1 o0;
+      second_flags = its_flags pattern steps atoms p1 p2 ends.fixed ends.less h2 o1;
+      flags = its_flags pattern steps atoms p2 p3 ends.less ends.apart h3 o2;
+      fixed = its_run pattern steps atoms p0 p1 0 ends.fixed h1 o0;
+      less = its_run pattern steps atoms p1 p2 ends.fixed ends.less h2 o1;
+      apart = its_run pattern steps atoms p2 p3 ends.less ends.apart h3 o2;
+    }
+
 -- the groups, one after another
-pub pass_condition : (pattern : Bor Pattern) (steps : Bor (List Step)) (p0 p1 p2 p3 p4 : Pass) (count : ℕ) →
+pub pass_condition : (pattern : Bor Pattern) (steps : Bor (List Step)) (p0 p1 p2 : Pass) (count : ℕ) →
     IsFullPass pattern.now.operands p0.atoms.items p0.kept.items p0.ends → p0.pattern ≡ pattern → p0.steps ≡ steps →
-    IsAcceptedFully pattern.now.problem pattern.now.operands steps.now → count ≡ length p0.atoms.items → DroppedRun p0 p1 0 p0.ends.fixed →
-    DroppedRun p1 p2 p0.ends.fixed p0.ends.less → DroppedRun p2 p3 p0.ends.less p0.ends.apart → DroppedRun p3 p4 p0.ends.apart count →
-    IsCondition pattern.now.problem pattern.now.operands steps.now (kept_atoms p4.atoms.items p4.kept.items)
-pass_condition pattern steps p0 p1 p2 p3 p4 count pass pattern_is steps_are accepted all h1 h2 h3 h4 =
+    IsAcceptedFully pattern.now.problem pattern.now.operands steps.now → count ≡ length p0.atoms.items → DroppedGroups p0 p1 p0.ends →
+    DroppedRun p1 p2 p0.ends.apart count → IsCondition pattern.now.problem pattern.now.operands steps.now (kept_atoms p2.atoms.items p2.kept.items)
+pass_condition pattern steps p0 p1 p2 count pass pattern_is steps_are accepted all h1 h2 =
     let g = pattern.now.problem in
     let operands = pattern.now.operands in
     let atoms = p0.atoms.items in
     let full = pass.full in
-    let o0 : IsOne pattern steps p0.atoms.items p0 = record { pattern_is = pattern_is; steps_are = steps_are; atoms_are = refl } in
-    let o1 = still_one pattern steps atoms p0 p1 0 p0.ends.fixed h1 o0 in
-    let o2 = still_one pattern steps atoms p1 p2 p0.ends.fixed p0.ends.less h2 o1 in
-    let o3 = still_one pattern steps atoms p2 p3 p0.ends.less p0.ends.apart h3 o2 in
-    let o4 = still_one pattern steps atoms p3 p4 p0.ends.apart count h4 o3 in
+    let o1 : IsOne pattern steps p0.atoms.items p1 =
+    record { pattern_is = h1.pattern ∙ pattern_is; steps_are = h1.steps ∙ steps_are; atoms_are = ap (λ xs. xs.items) h1.atoms } in
+    let o2 = still_one pattern steps atoms p1 p2 p0.ends.apart count h2 o1 in
+    let groups : DropsGroups (IsAccepted pattern.now.problem steps.now) p0.atoms.items p0.kept.items p1.kept.items p0.ends =
+    subst (λ taken. DropsGroups (IsAccepted pattern.now.problem taken.now) p0.atoms.items p0.kept.items p1.kept.items p0.ends) steps_are
+    (subst (λ it. DropsGroups (IsAccepted it.now.problem p0.steps.now) p0.atoms.items p0.kept.items p1.kept.items p0.ends) pattern_is h1.groups) in
     let whole : IsAccepted pattern.now.problem steps.now (pass.full.fixed ++ pass.full.less ++ pass.full.apart ++ pass.full.equal) =
     subst (IsAccepted pattern.now.problem steps.now)
     (full_one operands accepted.fixed accepted.less accepted.apart accepted.equal full.fixed full.less full.apart full.equal accepted.full full.full) accepted.accepted in
-    subst (λ xs. IsCondition pattern.now.problem pattern.now.operands steps.now (kept_atoms xs p4.kept.items)) (sym o4.atoms_are)
-    (four_runs g operands steps.now full.fixed full.less full.apart full.equal atoms p0.kept.items p1.kept.items p2.kept.items p3.kept.items p4.kept.items
+    subst (λ xs. IsCondition pattern.now.problem pattern.now.operands steps.now (kept_atoms xs p2.kept.items)) (sym o2.atoms_are)
+    (four_runs g operands steps.now full.fixed full.less full.apart full.equal atoms p0.kept.items groups.first groups.second p1.kept.items p2.kept.items
     p0.ends.fixed p0.ends.less p0.ends.apart full.full whole full.atoms_are pass.kept_are full.fixed_end full.less_end full.apart_end
-    (its_flags pattern steps atoms p0 p1 0 p0.ends.fixed h1 o0) (its_flags pattern steps atoms p1 p2 p0.ends.fixed p0.ends.less h2 o1)
-    (its_flags pattern steps atoms p2 p3 p0.ends.less p0.ends.apart h3 o2) (its_flags pattern steps atoms p3 p4 p0.ends.apart count h4 o3)
-    (its_run pattern steps atoms p0 p1 0 p0.ends.fixed h1 o0) (its_run pattern steps atoms p1 p2 p0.ends.fixed p0.ends.less h2 o1)
-    (its_run pattern steps atoms p2 p3 p0.ends.less p0.ends.apart h3 o2)
-    (subst (DropsRun (IsAccepted pattern.now.problem steps.now) p0.atoms.items p3.kept.items p4.kept.items p0.ends.apart) all
-    (its_run pattern steps atoms p3 p4 p0.ends.apart count h4 o3)))
+    groups.first_flags groups.second_flags groups.flags (its_flags pattern steps atoms p1 p2 p0.ends.apart count h2 o1) groups.fixed groups.less groups.apart
+    (subst (DropsRun (IsAccepted pattern.now.problem steps.now) p0.atoms.items p1.kept.items p2.kept.items p0.ends.apart) all
+    (its_run pattern steps atoms p1 p2 p0.ends.apart count h2 o1)))
 
-pub condition_left : (result : Result (List Atom) AllocError) (g : Problem) (operands : List Valued) (taken : List Step) (left : List Atom) → IsCondition g operands taken left →
-    IfOk result (λ it. it ≡ left) → IfOk result (IsCondition g operands taken)
-condition_left (Ok it) g operands taken left h e = subst (IsCondition g operands taken) (sym e) h
+pub condition_left : (result : Result Proof AllocError) (g : Problem) (operands : List Valued) (taken : List Step) (left : List Atom) → IsCondition g operands taken left →
+    IfOk result (λ it. it ≡ record { problem = assuming g left; steps = taken }) → IfOk result (λ it. IsCondition g operands taken it.problem.assumed)
+condition_left (Ok it) g operands taken left h e = subst (IsCondition g operands taken) (sym (ap (λ (x : Proof). x.problem.assumed) e)) h
 condition_left (Err failed) g operands taken left h e = tt
+
+pub proof_left : (result : Result Proof AllocError) (g : Problem) (taken : List Step) (left : List Atom) →
+    IfOk result (λ it. it ≡ record { problem = assuming g left; steps = taken }) →
+    IfOk result (λ it. it ≡ record { problem = assuming g it.problem.assumed; steps = taken })
+proof_left (Ok it) g taken left e =
+    e ∙ ap (λ (xs : List Atom). record { problem = assuming g xs; steps = taken }) (sym (ap (λ (x : Proof). x.problem.assumed) e))
+proof_left (Err failed) g taken left e = tt
+
+-- the same of the pattern and steps that a pass has
+pub proof_of_pattern : (result : Result Proof AllocError) (g h : Problem) (taken others : List Step) (left : List Atom) → g ≡ h → taken ≡ others →
+    IfOk result (λ it. it ≡ record { problem = assuming g left; steps = taken }) → IfOk result (λ it. it ≡ record { problem = assuming h left; steps = others })
+proof_of_pattern (Ok it) g h taken others left p q e =
+    subst (λ x. it ≡ record { problem = assuming x left; steps = others }) p (subst (λ x. it ≡ record { problem = assuming g left; steps = x }) q e)
+proof_of_pattern (Err failed) g h taken others left p q e = tt

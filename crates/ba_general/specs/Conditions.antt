@@ -1,5 +1,5 @@
 -- The full condition of a pattern, and what one pass leaves of it.
-use Rattle.std.specs.Prelude.{◌≡◌, ◌≢◌, ℤ, Bool, true, replicate, ◌<ℤ◌, List, [], ◌∷◌, ◌++◌, All, length, map, Option, Some, None}
+use Rattle.std.specs.Prelude.{◌≡◌, ◌≢◌, ◌≤◌, ℤ, Bool, true, replicate, ◌<ℤ◌, List, [], ◌∷◌, ◌++◌, All, length, map, Option, Some, None}
 use Rattle.std.specs.List.{AllZip, flat_map, range_with_len, zip}
 use Rattle.ba_model.specs.Fit.{AtomFits, kind_of, kind_of_value, kinds_of}
 use Rattle.ba_model.specs.declared.query.Atom.{Atom}
@@ -14,7 +14,7 @@ use Rattle.ba_kernel.specs.Courses.{ProblemFits}
 use Rattle.ba_kernel.specs.Problems.{param_is}
 use Rattle.ba_kernel.specs.declared.problem.Problem.{Problem}
 use Rattle.ba_kernel.specs.declared.step.Step.{Step}
-use Rattle.ba_general.specs.Dropping.{Drops, IsAccepted}
+use Rattle.ba_general.specs.Dropping.{Drops, DropsRun, IsAccepted}
 use Rattle.ba_general.specs.declared.condition.Group.{Group}
 use Rattle.ba_general.specs.declared.condition.Group.TheVariants.{Fixed, Less, Apart, Equal}
 use Rattle.ba_general.specs.declared.dropping.Ends.{Ends}
@@ -150,6 +150,12 @@ pub record IsFullList (operands : List Valued) (atoms : List Atom) (ends : Ends)
   pub less_end : ends.less ≡ length (fixed ++ less)
   pub apart_end : ends.apart ≡ length (fixed ++ less ++ apart)
 
+-- the groups end one after another, and within the list
+pub record AreUp (ends : Ends) (atoms : List Atom) : Type 0 where
+  pub less : ends.fixed ≤ ends.less
+  pub apart : ends.less ≤ ends.apart
+  pub all : ends.apart ≤ length atoms
+
 -- of which all is kept
 pub record IsFullPass (operands : List Valued) (atoms : List Atom) (kept : List Bool) (ends : Ends) : Type 0 where
   pub full : IsFullList operands atoms ends
@@ -194,3 +200,14 @@ pub record IsCondition (g : Problem) (operands : List Valued) (taken : List Step
   pub apart_drops : Drops (IsAccepted g taken) (fixed_left ++ less_left) apart equal apart_left
   pub equal_drops : Drops (IsAccepted g taken) (fixed_left ++ less_left ++ apart_left) equal [] equal_left
   pub condition_is : condition ≡ fixed_left ++ less_left ++ apart_left ++ equal_left
+
+-- the groups but the last, one after another
+pub record DropsGroups (P : List Atom → Type 0) (atoms : List Atom) (old new : List Bool) (ends : Ends) : Type 0 where
+  pub first : List Bool
+  pub second : List Bool
+  pub first_flags : length first ≡ length atoms
+  pub second_flags : length second ≡ length atoms
+  pub flags : length new ≡ length atoms
+  pub fixed : DropsRun P atoms old first 0 ends.fixed
+  pub less : DropsRun P atoms first second ends.fixed ends.less
+  pub apart : DropsRun P atoms second new ends.less ends.apart

@@ -1,9 +1,10 @@
 -- Atoms that are dropped one by one from what is assumed, as long as the steps still prove the problem.
-use Rattle.std.specs.Prelude.{◌≡◌, ℕ, ◌-◌, Bool, true, false, List, [], ◌∷◌, ◌++◌, All, take, drop}
+use Rattle.std.specs.Prelude.{◌≡◌, ℕ, ◌-◌, Bool, true, false, List, [], ◌∷◌, ◌++◌, All, Option, Some, None, replicate, take, drop}
 use Rattle.ba_model.specs.declared.query.Atom.{Atom}
 use Rattle.ba_model.specs.declared.query.Operand.{Operand}
 use Rattle.ba_model.specs.declared.query.Operand.TheVariants.{Col, Val, Param, Var}
 use Rattle.ba_kernel.specs.Replays.{Closes}
+use Rattle.ba_kernel.specs.SearchStates.{Proof}
 use Rattle.ba_kernel.specs.declared.problem.Problem.{Problem}
 use Rattle.ba_kernel.specs.declared.step.Step.{Step}
 use Rattle.ba_general.specs.Patterns.{assuming}
@@ -81,3 +82,29 @@ pub record DropsRun (P : List Atom → Type 0) (atoms : List Atom) (old new : Li
 
 abbrev pub AllKept : List Bool → Type 0
 AllKept kept = All (λ k. k ≡ true) kept
+
+-- ---- a run at once
+
+-- the flags, where nothing of the run is kept
+abbrev pub without_run : List Bool → ℕ → ℕ → List Bool
+without_run kept first end = take first kept ++ replicate (end - first) false ++ drop end kept
+
+-- P isn't without the run
+abbrev pub IsRefusedAtOnce : (List Atom → Type 0) → List Atom → List Bool → ℕ → ℕ → Type 0
+IsRefusedAtOnce P atoms kept first end = ¬ (P (kept_atoms atoms (without_run kept first end)))
+
+-- all of the run is dropped, if that is asked and P is without it; else all is as before
+pub data IsTriedAtOnce (P : List Atom → Type 0) (atoms : List Atom) (old new : List Bool) (first end : ℕ) (asked : Bool) : Bool → Type 0 where
+  gone : P (kept_atoms atoms (without_run old first end)) → new ≡ without_run old first end → IsTriedAtOnce P atoms old new first end asked true
+  stays : (asked ≡ true → IsRefusedAtOnce P atoms old first end) → new ≡ old → IsTriedAtOnce P atoms old new first end asked false
+
+-- ---- the proof that steps are
+
+-- the steps as a proof of the problem, or that they don't close it
+abbrev pub IsProofBy : Problem → List Step → Option Proof → Type 0
+IsProofBy p taken None = ¬ (Closes p taken)
+IsProofBy p taken (Some it) = Closes p taken × (it ≡ record { problem = p; steps = taken })
+
+-- a proof that is there is of the atoms that are kept
+pub record IsLast (g : Problem) (taken : List Step) (atoms : List Atom) (kept : List Bool) (last : Option Proof) : Type 0 where
+  pub is : (it : Proof) → last ≡ Some it → it ≡ record { problem = assuming g (kept_atoms atoms kept); steps = taken }

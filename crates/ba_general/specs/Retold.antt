@@ -64,3 +64,8 @@ IsStepWith values step new = new ≡ step
 -- the steps where in what is split variables stand for equal literals
 abbrev pub AreWithVariables : List Value → List Step → List Step → Type 0
 AreWithVariables values taken new = AllZip (IsStepWith values) taken new
+
+-- the step splits by an atom
+abbrev pub IsSplit : Step → Type 0
+IsSplit (steps.Split branch atom) = Unit {0}
+IsSplit step = ⊥

@@ -1,10 +1,10 @@
-//! Copies of problems, and whether steps close one.
-ghost use Rattle.std.specs.Prelude.{◌≡◌, ◌↔◌, ◌≤◌, IfOk, IsTrue, length};
+//! Copies of problems, and the proofs that steps are.
+ghost use Rattle.std.specs.Prelude.{◌≡◌, ◌≤◌, IfOk, length};
 ghost use Rattle.ba_model.specs.Limits.{most_steps};
 ghost use Rattle.ba_kernel.specs.Courses.{ProblemFits};
-ghost use Rattle.ba_kernel.specs.Replays.{Closes};
+ghost use Rattle.ba_general.specs.Dropping.{IsProofBy};
 
-use ba_kernel::{Problem, ProblemEntry, Step, replay};
+use ba_kernel::{Problem, ProblemEntry, Proved, Step, replay};
 use ba_model::{Duplicate, Failure, Kind, List};
 use std::alloc::{AllocError, Global};
 
@@ -58,17 +58,21 @@ pub fn copy_entry(alloc: Global, entry: &ProblemEntry) -> Result<ProblemEntry, A
     })
 }
 
-/// Whether the steps are accepted, one after another, from the problem's start and leave no branch
-/// open.
-pub fn closes(alloc: Global, problem: Problem, steps: &List<Step>) -> Result<bool, AllocError>
+/// The proof that the steps are of the problem, if they are accepted, one after another, from its
+/// start and leave no branch open.
+pub fn proof_by(
+    alloc: Global,
+    problem: Problem,
+    steps: &List<Step>,
+) -> Result<Option<Proved>, AllocError>
     requires fits { ProblemFits problem }
     requires few { length steps.now ≤ most_steps }
-    ensures { IfOk result (λ told. IsTrue told ↔ Closes problem steps.now) }
+    ensures { IfOk result (IsProofBy problem steps.now) }
 {
     let steps = steps.copy(alloc)?;
     match replay(alloc, problem, steps) {
-        Ok(_) => Ok(true),
-        Err(Failure::Fault(_)) => Ok(false),
+        Ok(proved) => Ok(Some(proved)),
+        Err(Failure::Fault(_)) => Ok(None),
         Err(Failure::NoMemory) => Err(AllocError),
     }
 }

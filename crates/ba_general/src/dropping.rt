@@ -1,38 +1,37 @@
 //! The one pass over the full condition that drops what the steps don't need.
-ghost use Rattle.std.specs.Prelude.{◌≡◌, ◌↔◌, ◌-◌, ◌≤◌, ◌∷◌, ◌++◌, [], IfOk, IsTrue, OnOk, drop, length, replicate, take, true};
+ghost use Rattle.std.specs.Prelude.{◌≡◌, ◌↔◌, ◌-◌, ◌≤◌, ◌∷◌, ◌++◌, [], IfOk, IsTrue, None, OnOk, drop, length, replicate, take, true};
 ghost use Rattle.ba_model.specs.Limits.{most_steps};
-ghost use Rattle.ba_general.specs.Conditions.{AtomsFit, IsAcceptedFully, AddsGroup, IsCondition, IsFullList, IsFullPass, PatternFits};
-ghost use Rattle.ba_general.specs.Dropping.{AllKept, DropsRun, IsAccepted, atom_if, between, kept_atoms};
+ghost use Rattle.ba_general.specs.Conditions.{AtomsFit, IsAcceptedFully, AddsGroup, AreUp, DropsGroups, IsCondition, IsFullList, IsFullPass, PatternFits};
+ghost use Rattle.ba_general.specs.Dropping.{AllKept, DropsRun, IsAccepted, IsLast, IsProofBy, IsRefusedAtOnce, IsTriedAtOnce, atom_if, between, kept_atoms, without_run};
+ghost use Rattle.ba_general.specs.Patterns.{assuming};
 
 use crate::condition::{Group, add_group};
-use crate::copies::closes;
-use crate::laws::run_drops_each;
+use crate::copies::proof_by;
 use crate::pattern::Pattern;
-use ba_kernel::Step;
+use ba_kernel::{Proved, Step};
 use ba_model::{Atom, Duplicate, List};
 use std::alloc::{AllocError, Global};
 
-/// The condition under which the pattern's problem is proved by the steps: of the full condition the
+/// The steps as a proof of the pattern's problem under its condition: of the full condition the
 /// atoms that stay where, group by group, each from its last atom to its first, an atom is dropped
 /// without which the steps are still accepted.
-pub fn condition(
+pub fn under_condition(
     alloc: Global,
     pattern: &Pattern,
     steps: &List<Step>,
-) -> Result<List<Atom>, AllocError>
+) -> Result<Proved, AllocError>
     requires few { length steps.now ≤ most_steps }
     requires fits { PatternFits pattern.now }
     requires accepted { IsAcceptedFully pattern.now.problem pattern.now.operands steps.now }
-    ensures { IfOk result (IsCondition pattern.now.problem pattern.now.operands steps.now) }
+    ensures condition { IfOk result (λ it. IsCondition pattern.now.problem pattern.now.operands steps.now it.problem.assumed) }
+    ensures is { IfOk result (λ it. it ≡ record { problem = assuming pattern.now.problem it.problem.assumed; steps = steps.now }) }
 {
     let mut pass = Pass::full(alloc, pattern, steps)?;
-    let Ends { fixed, less, apart } = pass.ends;
+    let ends = pass.ends;
     let all = pass.atoms.len();
-    pass.drop_run(alloc, 0, fixed)?;
-    pass.drop_run(alloc, fixed, less)?;
-    pass.drop_run(alloc, less, apart)?;
-    pass.drop_run(alloc, apart, all)?;
-    pass.kept_atoms(alloc)
+    pass.drop_unequal(alloc, ends)?;
+    pass.drop_equal(alloc, ends.apart, all)?;
+    pass.proof(alloc)
 }
 
 /// Whether the steps are accepted under the full condition.
@@ -42,7 +41,8 @@ pub fn is_accepted(alloc: Global, pattern: &Pattern, steps: &List<Step>) -> Resu
     ensures { IfOk result (λ told. IsTrue told ↔ IsAcceptedFully pattern.now.problem pattern.now.operands steps.now) }
 {
     let pass = Pass::full(alloc, pattern, steps)?;
-    pass.accepts(alloc)
+    let proof = pass.tried(alloc)?;
+    Ok(proof.is_some())
 }
 
 /// Where the atoms of each group but the last end.
@@ -61,6 +61,8 @@ struct Pass<'a> {
     atoms: Vec<Atom>,
     kept: Vec<bool>,
     ends: Ends,
+    /// The proof under the atoms that are kept, once some were dropped.
+    last: Option<Proved>,
 }
 
 impl<'a> Pass<'a> {
@@ -71,6 +73,7 @@ impl<'a> Pass<'a> {
     ) -> Result<Pass<'a>, AllocError>
         ensures full { IfOk result (λ it. IsFullPass pattern.now.operands it.atoms.items it.kept.items it.ends) }
         ensures of { IfOk result (λ it. (it.pattern ≡ pattern.entry) × (it.steps ≡ steps.entry)) }
+        ensures last { IfOk result (λ it. it.last ≡ None) }
     {
         let ends = Ends {
             fixed: 0,
@@ -83,6 +86,7 @@ impl<'a> Pass<'a> {
             atoms: Vec::new(alloc),
             kept: Vec::new(alloc),
             ends,
+            last: None,
         };
         pass.add_groups(alloc)?;
         pass.keep_all()?;
@@ -92,7 +96,7 @@ impl<'a> Pass<'a> {
     fn add_groups(&mut self, alloc: Global) -> Result<(), AllocError>
         requires { self.old.atoms.items ≡ [] }
         ensures full { OnOk result (IsFullList self.old.pattern.now.operands self.new.atoms.items self.new.ends) }
-        ensures same { (self.new.kept ≡ self.old.kept) × (self.new.pattern ≡ self.old.pattern) × (self.new.steps ≡ self.old.steps) }
+        ensures same { (self.new.kept ≡ self.old.kept) × (self.new.pattern ≡ self.old.pattern) × (self.new.steps ≡ self.old.steps) × (self.new.last ≡ self.old.last) }
     {
         self.ends.fixed = self.add(alloc, Group::Fixed)?;
         self.ends.less = self.add(alloc, Group::Less)?;
@@ -105,7 +109,7 @@ impl<'a> Pass<'a> {
     fn add(&mut self, alloc: Global, group: Group) -> Result<usize, AllocError>
         ensures added { OnOk result (AddsGroup group self.old.pattern.now.operands self.old.atoms.items self.new.atoms.items) }
         ensures end { IfOk result (λ end. end ≡ length self.new.atoms.items) }
-        ensures same { (self.new.ends ≡ self.old.ends) × (self.new.kept ≡ self.old.kept) × (self.new.pattern ≡ self.old.pattern) × (self.new.steps ≡ self.old.steps) }
+        ensures same { (self.new.ends ≡ self.old.ends) × (self.new.kept ≡ self.old.kept) × (self.new.pattern ≡ self.old.pattern) × (self.new.steps ≡ self.old.steps) × (self.new.last ≡ self.old.last) }
     {
         add_group(alloc, &mut self.atoms, group, &self.pattern.operands)?;
         Ok(self.atoms.len())
@@ -114,7 +118,7 @@ impl<'a> Pass<'a> {
     fn keep_all(&mut self) -> Result<(), AllocError>
         requires { self.old.kept.items ≡ [] }
         ensures kept { OnOk result (self.new.kept.items ≡ replicate (length self.old.atoms.items) true) }
-        ensures same { (self.new.atoms ≡ self.old.atoms) × (self.new.ends ≡ self.old.ends) × (self.new.pattern ≡ self.old.pattern) × (self.new.steps ≡ self.old.steps) }
+        ensures same { (self.new.atoms ≡ self.old.atoms) × (self.new.ends ≡ self.old.ends) × (self.new.pattern ≡ self.old.pattern) × (self.new.steps ≡ self.old.steps) × (self.new.last ≡ self.old.last) }
     {
         for _ in 0..self.atoms.len() {
             self.kept.push(true)?;
@@ -122,60 +126,173 @@ impl<'a> Pass<'a> {
         Ok(())
     }
 
+    /// Drops what can be dropped of the groups but the last: all at once, as most proofs need
+    /// equal values alone, or else group by group.
+    fn drop_unequal(&mut self, alloc: Global, ends: Ends) -> Result<(), AllocError>
+        requires fits { PatternFits self.old.pattern.now }
+        requires few { length self.old.steps.now ≤ most_steps }
+        requires atoms { AtomsFit self.old.pattern.now.problem self.old.atoms.items }
+        requires ends { AreUp ends self.old.atoms.items }
+        requires kept { self.old.kept.items ≡ replicate (length self.old.atoms.items) true }
+        requires last { IsLast self.old.pattern.now.problem self.old.steps.now self.old.atoms.items self.old.kept.items self.old.last }
+        ensures groups { OnOk result (DropsGroups (IsAccepted self.old.pattern.now.problem self.old.steps.now) self.old.atoms.items self.old.kept.items self.new.kept.items ends) }
+        ensures last { OnOk result (IsLast self.old.pattern.now.problem self.old.steps.now self.old.atoms.items self.new.kept.items self.new.last) }
+        ensures same { (self.new.atoms ≡ self.old.atoms) × (self.new.pattern ≡ self.old.pattern) × (self.new.steps ≡ self.old.steps) }
+    {
+        let Ends { fixed, less, apart } = ends;
+        let gone = self.drops(alloc, 0, apart, fixed < apart)?;
+        if gone {
+            return Ok(());
+        }
+        self.drop_run(alloc, 0, fixed, false)?;
+        self.drop_run(alloc, fixed, less, false)?;
+        self.drop_run(alloc, less, apart, false)?;
+        Ok(())
+    }
+
+    /// Drops what can be dropped of the last group, as from the last to the first: by halves at
+    /// once, as it rarely goes as a whole.
+    fn drop_equal(&mut self, alloc: Global, first: usize, end: usize) -> Result<(), AllocError>
+        requires fits { PatternFits self.old.pattern.now }
+        requires few { length self.old.steps.now ≤ most_steps }
+        requires atoms { AtomsFit self.old.pattern.now.problem self.old.atoms.items }
+        requires first { first ≤ end }
+        requires there { end ≤ length self.old.atoms.items }
+        requires flags { length self.old.kept.items ≡ length self.old.atoms.items }
+        requires kept { AllKept (between first end self.old.kept.items) }
+        requires last { IsLast self.old.pattern.now.problem self.old.steps.now self.old.atoms.items self.old.kept.items self.old.last }
+        ensures run { OnOk result (DropsRun (IsAccepted self.old.pattern.now.problem self.old.steps.now) self.old.atoms.items self.old.kept.items self.new.kept.items first end) }
+        ensures flags { OnOk result (length self.new.kept.items ≡ length self.new.atoms.items) }
+        ensures last { OnOk result (IsLast self.old.pattern.now.problem self.old.steps.now self.old.atoms.items self.new.kept.items self.new.last) }
+        ensures same { (self.new.atoms ≡ self.old.atoms) × (self.new.pattern ≡ self.old.pattern) × (self.new.steps ≡ self.old.steps) }
+    {
+        let half = first + (end - first) / 2;
+        self.drop_run(alloc, half, end, false)?;
+        self.drop_run(alloc, first, half, false)?;
+        Ok(())
+    }
+
     /// Drops what can be dropped of the atoms from one number up to another, as from the last to the
-    /// first: all at once, or else half by half. What is accepted without all is accepted without
-    /// each, since acceptance only grows with what is assumed.
-    fn drop_run(&mut self, alloc: Global, first: usize, end: usize) -> Result<(), AllocError>
+    /// first: all at once, unless that is known to be refused, or else half by half. What is
+    /// accepted without all is accepted without each, since acceptance only grows with what is
+    /// assumed; and where all of the later half is gone, the earlier one can't go at once.
+    ///
+    /// Told of a run that is gone as a whole.
+    fn drop_run(
+        &mut self,
+        alloc: Global,
+        first: usize,
+        end: usize,
+        refused: bool,
+    ) -> Result<bool, AllocError>
         requires fits { PatternFits self.old.pattern.now }
         requires few { length self.old.steps.now ≤ most_steps }
         requires atoms { AtomsFit self.old.pattern.now.problem self.old.atoms.items }
         requires there { end ≤ length self.old.atoms.items }
         requires flags { length self.old.kept.items ≡ length self.old.atoms.items }
         requires kept { AllKept (between first end self.old.kept.items) }
+        requires last { IsLast self.old.pattern.now.problem self.old.steps.now self.old.atoms.items self.old.kept.items self.old.last }
+        requires refused { IsTrue refused → IsRefusedAtOnce (IsAccepted self.old.pattern.now.problem self.old.steps.now) self.old.atoms.items self.old.kept.items first end }
         ensures run { OnOk result (DropsRun (IsAccepted self.old.pattern.now.problem self.old.steps.now) self.old.atoms.items self.old.kept.items self.new.kept.items first end) }
+        ensures gone { IfOk result (λ gone. IsTrue gone → self.new.kept.items ≡ without_run self.old.kept.items first end) }
         ensures flags { OnOk result (length self.new.kept.items ≡ length self.new.atoms.items) }
+        ensures last { OnOk result (IsLast self.old.pattern.now.problem self.old.steps.now self.old.atoms.items self.new.kept.items self.new.last) }
         ensures same { (self.new.atoms ≡ self.old.atoms) × (self.new.pattern ≡ self.old.pattern) × (self.new.steps ≡ self.old.steps) }
     {
         if first >= end {
-            return Ok(());
+            return Ok(false);
         }
-        self.set(first, end, false);
-        let told = self.accepts(alloc)?;
-        if told {
-            run_drops_each();
-            return Ok(());
+        let gone = self.drops(alloc, first, end, !refused)?;
+        if gone {
+            return Ok(true);
         }
-        self.set(first, end, true);
         if end - first == 1 {
-            return Ok(());
+            return Ok(false);
         }
         let middle = first + (end - first) / 2;
-        self.drop_run(alloc, middle, end)?;
-        self.drop_run(alloc, first, middle)
+        let later = self.drop_run(alloc, middle, end, false)?;
+        self.drop_run(alloc, first, middle, later)?;
+        Ok(false)
+    }
+
+    /// Drops all of a run at once, if that is asked and the steps are accepted without it. Else
+    /// what is kept is as before.
+    fn drops(
+        &mut self,
+        alloc: Global,
+        first: usize,
+        end: usize,
+        asked: bool,
+    ) -> Result<bool, AllocError>
+        requires fits { PatternFits self.old.pattern.now }
+        requires few { length self.old.steps.now ≤ most_steps }
+        requires atoms { AtomsFit self.old.pattern.now.problem self.old.atoms.items }
+        requires first { first ≤ end }
+        requires there { end ≤ length self.old.atoms.items }
+        requires flags { length self.old.kept.items ≡ length self.old.atoms.items }
+        requires kept { AllKept (between first end self.old.kept.items) }
+        requires last { IsLast self.old.pattern.now.problem self.old.steps.now self.old.atoms.items self.old.kept.items self.old.last }
+        ensures tried { IfOk result (IsTriedAtOnce (IsAccepted self.old.pattern.now.problem self.old.steps.now) self.old.atoms.items self.old.kept.items self.new.kept.items first end asked) }
+        ensures last { OnOk result (IsLast self.old.pattern.now.problem self.old.steps.now self.old.atoms.items self.new.kept.items self.new.last) }
+        ensures same { (self.new.atoms ≡ self.old.atoms) × (self.new.pattern ≡ self.old.pattern) × (self.new.steps ≡ self.old.steps) }
+    {
+        if !asked {
+            return Ok(false);
+        }
+        self.set(first, end, false);
+        let proof = self.tried(alloc)?;
+        let Some(proof) = proof else {
+            self.set(first, end, true);
+            return Ok(false);
+        };
+        self.last = Some(proof);
+        Ok(true)
     }
 
     fn set(&mut self, first: usize, end: usize, kept: bool)
         requires first { first ≤ end }
         requires there { end ≤ length self.old.kept.items }
         ensures kept { self.new.kept.items ≡ take first self.old.kept.items ++ replicate (end - first) kept ++ drop end self.old.kept.items }
-        ensures same { (self.new.atoms ≡ self.old.atoms) × (self.new.pattern ≡ self.old.pattern) × (self.new.steps ≡ self.old.steps) × (self.new.ends ≡ self.old.ends) }
+        ensures same { (self.new.atoms ≡ self.old.atoms) × (self.new.pattern ≡ self.old.pattern) × (self.new.steps ≡ self.old.steps) × (self.new.ends ≡ self.old.ends) × (self.new.last ≡ self.old.last) }
     {
         for n in first..end {
             self.kept[n] = kept;
         }
     }
 
-    /// Whether the steps are accepted under the atoms that are kept.
-    fn accepts(&self, alloc: Global) -> Result<bool, AllocError>
+    /// The proof that the steps are under the atoms that are kept, if they are accepted so.
+    fn tried(&self, alloc: Global) -> Result<Option<Proved>, AllocError>
         requires fits { PatternFits self.now.pattern.now }
         requires few { length self.now.steps.now ≤ most_steps }
         requires flags { length self.now.kept.items ≡ length self.now.atoms.items }
         requires atoms { AtomsFit self.now.pattern.now.problem self.now.atoms.items }
-        ensures { IfOk result (λ told. IsTrue told ↔ IsAccepted self.now.pattern.now.problem self.now.steps.now (kept_atoms self.now.atoms.items self.now.kept.items)) }
+        ensures { IfOk result (IsProofBy (assuming self.now.pattern.now.problem (kept_atoms self.now.atoms.items self.now.kept.items)) self.now.steps.now) }
     {
         let assumed = self.kept_atoms(alloc)?;
         let problem = self.pattern.assuming(alloc, assumed)?;
-        closes(alloc, problem, self.steps)
+        proof_by(alloc, problem, self.steps)
+    }
+
+    /// The proof that the steps are under the atoms that are kept, with which they are accepted. It
+    /// is made already, if some atoms were dropped.
+    fn proof(&mut self, alloc: Global) -> Result<Proved, AllocError>
+        requires fits { PatternFits self.old.pattern.now }
+        requires few { length self.old.steps.now ≤ most_steps }
+        requires flags { length self.old.kept.items ≡ length self.old.atoms.items }
+        requires atoms { AtomsFit self.old.pattern.now.problem self.old.atoms.items }
+        requires last { IsLast self.old.pattern.now.problem self.old.steps.now self.old.atoms.items self.old.kept.items self.old.last }
+        requires accepted { IsAccepted self.old.pattern.now.problem self.old.steps.now (kept_atoms self.old.atoms.items self.old.kept.items) }
+        ensures { IfOk result (λ it. it ≡ record { problem = assuming self.old.pattern.now.problem (kept_atoms self.old.atoms.items self.old.kept.items); steps = self.old.steps.now }) }
+    {
+        let last = self.last.take();
+        if let Some(proof) = last {
+            return Ok(proof);
+        }
+        let proof = self.tried(alloc)?;
+        match proof {
+            Some(proof) => Ok(proof),
+            None => unreachable!(),
+        }
     }
 
     fn kept_atoms(&self, alloc: Global) -> Result<List<Atom>, AllocError>

@@ -2,21 +2,18 @@
 ghost use Rattle.std.specs.Prelude.{◌≡◌, ◌↔◌, ◌≤◌, IfErr, IfOk, IsTrue, length};
 ghost use Rattle.ba_model.specs.Readings.{OfFault};
 ghost use Rattle.ba_model.specs.Limits.{most_steps};
-ghost use Rattle.ba_kernel.specs.Courses.{ProblemFits};
-ghost use Rattle.ba_kernel.specs.Replays.{Closes};
 ghost use Rattle.ba_template.specs.Templates.{EachVarStands};
 ghost use Rattle.ba_general.specs.Conditions.{IsAcceptedFully, IsCondition, PatternFits};
-ghost use Rattle.ba_general.specs.Dropping.{IsAccepted};
 ghost use Rattle.ba_general.specs.Generals.{HasTooMany, HasTooManyCases, IsGeneralised, IsMinimal, IsOfQuestion, IsToldBy, IsTooWide, OwnInstance};
 ghost use Rattle.ba_general.specs.Patterns.{assuming};
 
-use crate::dropping::{condition, is_accepted};
+use crate::dropping::{is_accepted, under_condition};
 use crate::leaving::kept_steps;
 use crate::pattern::Pattern;
-use crate::retold::{named_entries, renumbered, with_variables};
+use crate::retold::{has_split, named_entries, renumbered, with_variables};
 use crate::staying::entries_of_cases;
-use ba_kernel::{Problem, Proved, Step, replay};
-use ba_model::{Atom, Duplicate, Failure, List, MAX_KEPT_ENTRIES, MAX_OPERANDS};
+use ba_kernel::{Problem, Proved, Step};
+use ba_model::{Duplicate, Failure, List, MAX_KEPT_ENTRIES, MAX_OPERANDS};
 use ba_template::Template;
 use std::alloc::{AllocError, Global};
 
@@ -98,12 +95,12 @@ fn made_general(alloc: Global, pattern: &Pattern, kept: &List<Step>) -> Result<T
     ensures problem { IfOk result (λ it. it.problem ≡ assuming pattern.now.problem it.problem.assumed) }
 {
     let steps = general_steps(alloc, pattern, kept)?;
-    let condition = condition(alloc, pattern, &steps)?;
-    template_of(alloc, pattern, condition, steps)
+    let proof = under_condition(alloc, pattern, &steps)?;
+    Template::of(alloc, proof)
 }
 
 /// The steps with variables for literals in what is split, if they are accepted so; else as they
-/// are.
+/// are. Where nothing is split both are the same.
 fn general_steps(
     alloc: Global,
     pattern: &Pattern,
@@ -117,36 +114,9 @@ fn general_steps(
     ensures few { IfOk result (λ it. length it ≤ most_steps) }
 {
     let steps = with_variables(alloc, kept, pattern.values.as_slice())?;
+    if !has_split(kept) {
+        return Ok(steps);
+    }
     let told = is_accepted(alloc, pattern, &steps)?;
     if told { Ok(steps) } else { kept.copy(alloc) }
-}
-
-/// The template of the pattern under a condition with which the steps are accepted.
-fn template_of(
-    alloc: Global,
-    pattern: &Pattern,
-    condition: List<Atom>,
-    steps: List<Step>,
-) -> Result<Template, AllocError>
-    requires fits { ProblemFits (assuming pattern.now.problem condition) }
-    requires few { length steps ≤ most_steps }
-    requires stands { EachVarStands pattern.now.problem }
-    requires accepted { IsAccepted pattern.now.problem steps condition }
-    ensures { IfOk result (λ it. it ≡ record { problem = assuming pattern.now.problem condition; steps = steps }) }
-{
-    let problem = pattern.assuming(alloc, condition)?;
-    Template::of(alloc, proof_of(alloc, problem, steps)?)
-}
-
-fn proof_of(alloc: Global, problem: Problem, steps: List<Step>) -> Result<Proved, AllocError>
-    requires fits { ProblemFits problem }
-    requires few { length steps ≤ most_steps }
-    requires closes { Closes problem steps }
-    ensures { IfOk result (λ it. it ≡ record { problem = problem; steps = steps }) }
-{
-    match replay(alloc, problem, steps) {
-        Ok(proved) => Ok(proved),
-        Err(Failure::NoMemory) => Err(AllocError),
-        Err(Failure::Fault(_)) => unreachable!(),
-    }
 }

@@ -1,6 +1,6 @@
 //! Steps that are told of the pattern in place of the problem.
-ghost use Rattle.std.specs.Prelude.{◌≡◌, ◌++◌, Contains, IfOk, OnOk, Some, slice_get};
-ghost use Rattle.ba_general.specs.Retold.{AreNamed, AreRenumbered, AreWithVariables, IsFirstWith, IsRenumbered, IsStepWith, IsTermWith, NamesOneOf, named};
+ghost use Rattle.std.specs.Prelude.{◌≡◌, ◌++◌, ◌↔◌, Any, Contains, IfOk, IsTrue, OnOk, Some, slice_get};
+ghost use Rattle.ba_general.specs.Retold.{AreNamed, AreRenumbered, AreWithVariables, IsFirstWith, IsRenumbered, IsSplit, IsStepWith, IsTermWith, NamesOneOf, named};
 
 use ba_facts::{Term, TermAtom, number_of};
 use ba_kernel::Step;
@@ -85,6 +85,19 @@ pub fn with_variables(
         all.push(step_with(alloc, step, values)?)?;
     }
     Ok(all)
+}
+
+/// Whether a step splits by an atom.
+pub fn has_split(steps: &List<Step>) -> bool
+    ensures { IsTrue result ↔ Any IsSplit steps.now }
+{
+    steps.as_slice().iter().any(|step| is_split(step))
+}
+
+fn is_split(step: &Step) -> bool
+    ensures { IsTrue result ↔ IsSplit step.now }
+{
+    matches!(step, Step::Split { .. })
 }
 
 fn step_with(alloc: Global, step: &Step, values: &[Value]) -> Result<Step, AllocError>

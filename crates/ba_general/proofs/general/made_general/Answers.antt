@@ -1,9 +1,37 @@
-use Rattle.ba_general.proofs.LeftLemmas.{condition_accepted, condition_fits}
+use Rattle.std.proofs.Common.{◌≡◌, ap, subst, sym}
+use Rattle.std.proofs.lemmas.Result.{IfOk-weaker}
+use Rattle.ba_kernel.specs.SearchStates.{Proof}
+use Rattle.ba_template.specs.Templates.{EachVarStands}
+use Rattle.ba_general.proofs.GeneralLemmas.{assuming_stands}
+use Rattle.ba_general.specs.Conditions.{IsCondition}
+use Rattle.ba_general.specs.Generals.{IsToldBy}
+use Rattle.ba_general.specs.Patterns.{assuming}
 use Rattle.ba_general.proofs.general.made_general.Goals as goal
 
-pub template_of-requires-clause-fits : goal.template_of-requires-clause-fits
-template_of-requires-clause-fits c = condition_fits c.args.pattern.now c.in_ok-steps.steps c.in_ok-condition.condition c.requires.fits c.in_ok-condition.ensures
+pub of-requires : goal.of-requires
+of-requires c =
+    subst EachVarStands (sym (ap (λ (it : Proof). it.problem) c.in_ok-proof.ensures.is))
+    (assuming_stands c.args.pattern.now.problem c.in_ok-proof.proof.problem.assumed c.requires.stands)
 
-pub template_of-requires-clause-accepted : goal.template_of-requires-clause-accepted
-template_of-requires-clause-accepted c =
-    condition_accepted c.args.pattern.now.problem c.args.pattern.now.operands c.in_ok-steps.steps c.in_ok-condition.condition c.in_ok-condition.ensures
+pub returns-clause-told : goal.returns-clause-told
+returns-clause-told c =
+    IfOk-weaker c.of.result (λ it. it ≡ c.in_ok-proof.proof) (λ it. IsToldBy c.args.pattern.now c.args.kept.now it.steps)
+    (λ it e. subst (λ (x : Proof). IsToldBy c.args.pattern.now c.args.kept.now x.steps) (sym e)
+    (subst (IsToldBy c.args.pattern.now c.args.kept.now) (sym (ap (λ (x : Proof). x.steps) c.in_ok-proof.ensures.is)) c.in_ok-steps.ensures.told))
+    c.of.ensures
+
+pub returns-clause-condition : goal.returns-clause-condition
+returns-clause-condition c =
+    let it = c.args.pattern.now in
+    IfOk-weaker c.of.result (λ x. x ≡ c.in_ok-proof.proof) (λ x. IsCondition it.problem it.operands x.steps x.problem.assumed)
+    (λ x e. subst (λ (y : Proof). IsCondition it.problem it.operands y.steps y.problem.assumed) (sym e)
+    (subst (λ taken. IsCondition it.problem it.operands taken c.in_ok-proof.proof.problem.assumed) (sym (ap (λ (y : Proof). y.steps) c.in_ok-proof.ensures.is))
+    c.in_ok-proof.ensures.condition))
+    c.of.ensures
+
+pub returns-clause-problem : goal.returns-clause-problem
+returns-clause-problem c =
+    IfOk-weaker c.of.result (λ it. it ≡ c.in_ok-proof.proof) (λ it. it.problem ≡ assuming c.args.pattern.now.problem it.problem.assumed)
+    (λ it e. subst (λ (x : Proof). x.problem ≡ assuming c.args.pattern.now.problem x.problem.assumed) (sym e)
+    (ap (λ (x : Proof). x.problem) c.in_ok-proof.ensures.is))
+    c.of.ensures

@@ -11,4 +11,5 @@ loop-n-preserved c = (
   c.loop-n.invariant.2,
   c.loop-n.invariant.3,
   c.loop-n.invariant.4,
+  c.loop-n.invariant.5,
 )

@@ -4,10 +4,10 @@ use Rattle.ba_kernel.specs.declared.problem.Problem.{Problem}
 use Rattle.ba_model.specs.Fit.{AtomFits, kinds_of}
 use Rattle.ba_general.proofs.FullFitsLemmas.{assuming_fits, kept_fit}
 use Rattle.ba_general.specs.Conditions.{AtomsFit}
-use Rattle.ba_general.proofs.dropping.Pass.accepts.Goals as goal
+use Rattle.ba_general.proofs.dropping.Pass.tried.Goals as goal
 
-pub closes-requires-clause-fits : goal.closes-requires-clause-fits
-closes-requires-clause-fits c =
+pub proof_by-requires-clause-fits : goal.proof_by-requires-clause-fits
+proof_by-requires-clause-fits c =
     let g : Problem = c.args.self.now.pattern.now.problem in
     subst ProblemFits (sym c.in_ok-problem.ensures)
     (assuming_fits g c.in_ok-assumed.assumed c.requires.fits.problem
