@@ -162,6 +162,9 @@ fn names_there(
         _ => sight.called_there(alloc, at),
     };
     let names = names?;
+    if names.is_empty() {
+        return String::from_str(alloc, "(none)");
+    }
     listed(alloc, &names)
 }
 

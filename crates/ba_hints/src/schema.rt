@@ -7,11 +7,24 @@ use crate::query::stop_hint;
 use crate::rule::{open_hint, rule_hint};
 use crate::walk::take_tokens;
 use crate::words::Words;
-use ba_grammar::is_keyword;
+use ba_grammar::{is_among, is_keyword};
 use ba_lex::{Token, tokens_of_bytes};
-use ba_model::{Counted, Failure, List, MAX_TEXT_BYTES, SchemaFault};
+use ba_model::{Counted, Failure, List, MAX_TEXT_BYTES, SchemaFault, Str};
 use ba_sql_ddl::{DdlFault, read_schema};
 use std::alloc::{AllocError, Global};
+
+/// Words of clauses that a schema may go without: with less said of its databases no more is
+/// answered.
+const NEEDLESS: [&str; 8] = [
+    "DEFAULT",
+    "CHECK",
+    "INDEX",
+    "ENGINE",
+    "AUTO_INCREMENT",
+    "AUTOINCREMENT",
+    "ON",
+    "CASCADE",
+];
 
 /// The tokens of a file, of which there are none where it has a fault of its characters.
 pub fn tokens_in(alloc: Global, bytes: &[u8]) -> Result<List<Token>, AllocError> {
@@ -196,14 +209,24 @@ fn tables_hint(
     Hint::plain(alloc, general_text(fault))
 }
 
+// What is told of a word that isn't supported.
+fn unsupported_text(alloc: Global, word: &Str) -> Result<String, AllocError> {
+    if is_among(word, &NEEDLESS) {
+        format!(in alloc; "{word} isn't supported; it may be left out")
+    } else {
+        format!(in alloc; "{word} isn't supported")
+    }
+}
+
 // A hint on the first of the words outside of the queries of rules that spells one that isn't supported.
 fn unsupported_hint(
     alloc: Global,
     bytes: &[u8],
     words: &Words<'_>,
-    word: &str,
+    word: &Str,
 ) -> Result<Hint, AllocError> {
-    let text = format!(in alloc; "{word} isn't supported")?;
+    let text = unsupported_text(alloc, word)?;
+    let word = word.as_str();
     for (at, token) in words.tokens.iter().enumerate() {
         let is_in_query = at < words.taken.len() && words.is(at, Term::Any);
         if !is_in_query && is_keyword(&token.lexeme, word) {
@@ -227,7 +250,7 @@ fn fault_hint(
     };
     match fault {
         DdlFault::Lex(fault) => lex_hint(alloc, bytes, *fault, MAX_TEXT_BYTES),
-        DdlFault::Unsupported(word) => unsupported_hint(alloc, bytes, &words, word.as_str()),
+        DdlFault::Unsupported(word) => unsupported_hint(alloc, bytes, &words, word),
         DdlFault::Syntax if walk.is_whole => {
             Hint::plain(alloc, "its words aren't those of a schema")
         }

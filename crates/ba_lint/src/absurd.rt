@@ -2,7 +2,7 @@
 
 use crate::finding::Finding;
 use crate::report::Report;
-use crate::terms::Terms;
+use crate::terms::{Terms, says_null};
 use crate::written::ViewText;
 use ba_classes::Order;
 use ba_model::{Atom, Op, Operand, Part, Same, Value};
@@ -75,9 +75,56 @@ fn denies_equal(order: &Order, terms: &Terms<'_>, atom: &Atom) -> bool {
     left == right || (order.shows(left, 0, right) && order.shows(right, 0, left))
 }
 
+// Whether the side of a condition is never NULL by itself: it is no column where NULL may stand.
+fn is_never_null(text: &ViewText<'_>, part: &Part, side: &Operand) -> bool {
+    let Operand::Col(place, column) = side else {
+        return true;
+    };
+    match text.table(part, *place) {
+        Some(table) => match table.columns.find(*column as usize) {
+            Some(column) => !column.nullable,
+            None => false,
+        },
+        None => false,
+    }
+}
+
+// Whether a condition is true only where a side of it isn't NULL. (No comparison is true of NULL.)
+fn denies_null(atom: &Atom, side: &Operand) -> bool {
+    !says_null(atom) && (atom.left.same(side) || atom.right.same(side))
+}
+
+// Whether what a condition says to be NULL can't be, by its table or by another condition.
+fn nulls_differ(text: &ViewText<'_>, part: &Part) -> bool {
+    for atom in part.conds.as_slice() {
+        if says_null(atom) && is_denied(text, part, &atom.left) {
+            return true;
+        }
+    }
+    false
+}
+
+// Whether a side of a condition isn't NULL, by its table or by a condition.
+fn is_denied(text: &ViewText<'_>, part: &Part, side: &Operand) -> bool {
+    if is_never_null(text, part, side) {
+        return true;
+    }
+    for atom in part.conds.as_slice() {
+        if denies_null(atom, side) {
+            return true;
+        }
+    }
+    false
+}
+
 // Whether the conditions of a part contradict each other.
-fn is_absurd(alloc: Global, part: &Part, terms: &Terms<'_>) -> Result<bool, AllocError> {
-    if literals_differ(terms) {
+fn is_absurd(
+    alloc: Global,
+    text: &ViewText<'_>,
+    part: &Part,
+    terms: &Terms<'_>,
+) -> Result<bool, AllocError> {
+    if literals_differ(terms) || nulls_differ(text, part) {
         return Ok(true);
     }
     let order = order_of(alloc, part, terms)?;
@@ -99,9 +146,12 @@ pub fn find_absurd(
     part: &Part,
     terms: &Terms<'_>,
 ) -> Result<(), AllocError> {
-    if !is_absurd(report.alloc, part, terms)? {
+    if !is_absurd(report.alloc, text, part, terms)? {
         return Ok(());
     }
-    let finding = Finding::NeverMet { view: text.name() };
+    let finding = Finding::NeverMet {
+        view: text.name(),
+        is_whole: text.view.query.parts.len() == 1,
+    };
     report.add(text.file(), text.name_spot(), &finding)
 }

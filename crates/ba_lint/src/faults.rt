@@ -1,16 +1,19 @@
-//! All faults of a policy, statement by statement.
+//! All faults of a schema and of a policy, statement by statement.
 
 use crate::finding::Finding;
+use crate::lost::Lost;
 use crate::report::{File, Report};
 use ba_grammar::{is_keyword, is_sign};
-use ba_hints::{Hint, Spot, policy_hint, tokens_in};
+use ba_hints::{Hint, Spot, policy_hint, schema_hint, tokens_in};
 use ba_lex::{Lexeme, Sign, Token, tokens_of_bytes};
-use ba_model::{Failure, MAX_TEXT_BYTES, Schema, Shared, Str};
+use ba_model::{Failure, MAX_TEXT_BYTES, Schema, SchemaFault, Shared, Str};
 use ba_place::Mark;
 use ba_policy::{PolicyFault, read_policy};
+use ba_sql_ddl::{DdlFault, read_schema};
+use ba_sql_query::ReadQueryFault;
 use std::alloc::{AllocError, Global};
 
-/// How many faults of a policy are told at most.
+/// How many faults of a file are told at most.
 const MOST_FAULTS: usize = 100;
 
 // The statement at a place of a text, by its tokens: from behind the `;` before it to the next one.
@@ -67,23 +70,32 @@ struct Named {
     keyword: &'static str,
     name: Str,
     is_second: bool,
+    // Whether the fault is that a parameter isn't there.
+    wants_param: bool,
 }
 
 impl Named {
-    fn new(keyword: &'static str, name: Str, is_second: bool) -> Option<Named> {
+    fn new(keyword: &'static str, name: Str, is_second: bool, wants_param: bool) -> Option<Named> {
         Some(Named {
             keyword,
             name,
             is_second,
+            wants_param,
         })
+    }
+
+    // The view that has a fault.
+    fn of_view(name: Str, fault: &ReadQueryFault) -> Option<Named> {
+        let wants_param = matches!(fault, ReadQueryFault::UnknownParam);
+        Named::new("VIEW", name, false, wants_param)
     }
 
     // The statement that a fault names, if it names one.
     fn of_fault(fault: PolicyFault) -> Option<Named> {
         match fault {
-            PolicyFault::View(name, _fault) => Named::new("VIEW", name, false),
-            PolicyFault::DuplicateView(name) => Named::new("VIEW", name, true),
-            PolicyFault::DuplicateParam(name) => Named::new("PARAM", name, true),
+            PolicyFault::View(name, fault) => Named::of_view(name, &fault),
+            PolicyFault::DuplicateView(name) => Named::new("VIEW", name, true, false),
+            PolicyFault::DuplicateParam(name) => Named::new("PARAM", name, true, false),
             PolicyFault::Lex(_fault) => None,
             PolicyFault::Syntax => None,
             PolicyFault::TooMany {
@@ -149,12 +161,11 @@ fn is_word(token: &Token, name: &str) -> bool {
 // the name of its view.
 fn mark_of(
     alloc: Global,
-    schema: &Shared<Schema>,
     bytes: &[u8],
     hint: &Hint,
+    named: &Option<Named>,
 ) -> Result<Option<Mark>, AllocError> {
-    let named = Named::of(alloc, schema, bytes)?;
-    if !is_second(&named)
+    if !is_second(named)
         && let Spot::Marked(mark) = hint.spot
     {
         return Ok(Some(mark));
@@ -166,8 +177,19 @@ fn mark_of(
     Ok(named.mark(tokens.as_slice(), bytes.len()))
 }
 
-// Tells the first fault of a policy, if it has one, and gives it without the statement that has it.
-// It gives nothing where there is no such statement.
+// Whether a fault is that a parameter isn't there which a lost statement names, and may declare.
+fn wants_lost_param(lost: Lost<'_>, named: &Option<Named>, mark: Option<Mark>) -> bool {
+    match (named, mark) {
+        (Some(named), Some(mark)) => {
+            named.wants_param && lost.declares(name_in(lost.sound, mark))
+        }
+        _ => false,
+    }
+}
+
+// Tells the first fault of a policy without its lost statements, if it has one, and gives it
+// without the statement that has it. It isn't told where it may come of a lost one. It gives
+// nothing where there is no such statement.
 fn next_fault(
     report: &mut Report,
     schema: &Shared<Schema>,
@@ -176,12 +198,19 @@ fn next_fault(
     hint: &Hint,
 ) -> Result<Option<Vec<u8>>, AllocError> {
     let alloc = report.alloc;
-    let mark = mark_of(alloc, schema, bytes, hint)?;
-    let spot = match mark {
-        Some(mark) => Spot::Marked(mark),
-        None => hint.spot,
+    let named = Named::of(alloc, schema, bytes)?;
+    let mark = mark_of(alloc, bytes, hint, &named)?;
+    let lost = Lost {
+        bytes: file.bytes,
+        sound: bytes,
     };
-    report.add(file, spot, &Finding::Fault(hint.text.as_str()))?;
+    if !wants_lost_param(lost, &named, mark) {
+        let spot = match mark {
+            Some(mark) => Spot::Marked(mark),
+            None => hint.spot,
+        };
+        report.add(file, spot, &Finding::Fault(hint.text.as_str()))?;
+    }
     let Some(mark) = mark else {
         return Ok(None);
     };
@@ -189,8 +218,9 @@ fn next_fault(
     Ok(Some(without(alloc, bytes, statement)?))
 }
 
-/// Finds the faults of a policy's statements, at most a hundred, and gives its bytes with blanks in
-/// place of the statements that have one. It gives nothing where the reader can't go on.
+/// Finds the faults of a policy's statements, at most a hundred: the first of each. What may come of
+/// a statement that has one isn't told. Gives the policy's bytes with blanks in place of the
+/// statements that have one, or nothing where the reader can't go on.
 pub fn find_faults(
     report: &mut Report,
     schema: &Shared<Schema>,
@@ -209,4 +239,103 @@ pub fn find_faults(
         }
     }
     Ok(None)
+}
+
+// What a fault of a schema is of.
+#[derive(Clone, Copy)]
+enum Subject {
+    // The queries of its rules.
+    Rule,
+    // A table that isn't there.
+    Table,
+    // Anything else.
+    Other,
+}
+
+impl Subject {
+    fn of_fault(fault: &DdlFault) -> Subject {
+        match fault {
+            DdlFault::Rule(_, _) => Subject::Rule,
+            DdlFault::Schema(SchemaFault::UnknownTable) => Subject::Table,
+            _ => Subject::Other,
+        }
+    }
+
+    // What the first fault of a schema is of.
+    fn of(alloc: Global, bytes: &[u8]) -> Result<Subject, AllocError> {
+        match read_schema(alloc, bytes) {
+            Err(Failure::Fault(fault)) => Ok(Subject::of_fault(&fault)),
+            Err(Failure::NoMemory) => Err(AllocError),
+            Ok(_schema) => Ok(Subject::Other),
+        }
+    }
+}
+
+// The name that a text spells: in quotes, behind a `?`, or plain.
+fn name_in(bytes: &[u8], mark: Mark) -> &str {
+    let text = match bytes.get(mark.start..mark.end).unwrap_or(&[]) {
+        [b'"' | b'`', name @ .., _] => name,
+        [b'?', name @ ..] => name,
+        name => name,
+    };
+    std::str::from_utf8(text).unwrap_or("")
+}
+
+// Tells the first fault of a schema without its lost statements, if it has one, and gives it
+// without the statement that has it. It isn't told where it may come of a lost one. It gives
+// nothing where there is no such statement, and behind a fault of a rule's query.
+fn next_schema_fault(
+    report: &mut Report,
+    file: File<'_>,
+    bytes: &[u8],
+    hint: &Hint,
+) -> Result<Option<Vec<u8>>, AllocError> {
+    let alloc = report.alloc;
+    let lost = Lost {
+        bytes: file.bytes,
+        sound: bytes,
+    };
+    let subject = Subject::of(alloc, bytes)?;
+    let mark = match hint.spot {
+        Spot::Marked(mark) => Some(mark),
+        Spot::Line(_) | Spot::Unknown => None,
+    };
+    if !may_follow(lost, subject, mark) {
+        report.add(file, hint.spot, &Finding::Fault(hint.text.as_str()))?;
+    }
+    match (subject, mark) {
+        (Subject::Table | Subject::Other, Some(mark)) => {
+            let statement = statement_at(alloc, bytes, mark.start)?;
+            Ok(Some(without(alloc, bytes, statement)?))
+        }
+        _ => Ok(None),
+    }
+}
+
+// Whether a fault may come of a lost statement: that of a rule's query, or that a table isn't there
+// which such a statement names, and may make.
+fn may_follow(lost: Lost<'_>, subject: Subject, mark: Option<Mark>) -> bool {
+    match (subject, mark) {
+        (Subject::Rule, _) => !lost.is_empty(),
+        (Subject::Table, Some(mark)) => lost.declares(name_in(lost.sound, mark)),
+        _ => false,
+    }
+}
+
+/// Finds the faults of a schema's statements, at most a hundred: the first of each. What may come
+/// of a statement that has one isn't told.
+pub fn find_schema_faults(report: &mut Report, file: File<'_>) -> Result<(), AllocError> {
+    let mut bytes = file.bytes.to_vec(report.alloc)?;
+    for _ in 0..MOST_FAULTS {
+        let hint = schema_hint(report.alloc, &bytes)?;
+        let Some(hint) = hint else {
+            return Ok(());
+        };
+        let rest = next_schema_fault(report, file, &bytes, &hint)?;
+        match rest {
+            Some(rest) => bytes = rest,
+            None => return Ok(()),
+        }
+    }
+    Ok(())
 }

@@ -82,9 +82,10 @@ pub enum Finding<'a> {
         table: &'a str,
         columns: &'a str,
     },
-    /// No row meets the conditions of a view's part.
+    /// No row meets the conditions of a view, or of one of its parts where it has several.
     NeverMet {
         view: &'a str,
+        is_whole: bool,
     },
     /// Another view shows all that a view shows.
     ShownBy {
@@ -105,9 +106,11 @@ pub enum Finding<'a> {
         table: &'a str,
         target: &'a str,
     },
-    /// A question is refuted. The views would cover it.
+    /// A question is refuted. The views would cover it; which of their literals are no parameters,
+    /// though they are values of some, is said before them.
     Refuted {
         views: &'a str,
+        kept: &'a str,
     },
     /// The views that show a column, each with its parameters.
     Shown {
@@ -146,11 +149,7 @@ impl Finding<'_> {
                     "this link of {table} to {target} leads back to {table}, so that a search may take it until its budget is spent; leave it out where no question needs it"
                 )
             }
-            Finding::Refuted { views } => {
-                format!(in alloc;
-                    "the question is blocked as refuted; what would cover it widens the policy: {views}"
-                )
-            }
+            Finding::Refuted { views, kept } => refuted_text(alloc, views, kept),
             Finding::Shown {
                 table,
                 column,
@@ -191,9 +190,14 @@ impl Finding<'_> {
                     "view {view} puts out no key of {table}, so that its rows aren't known among those of other views; put out {columns}"
                 )
             }
-            Finding::NeverMet { view } => {
+            Finding::NeverMet { view, is_whole } => {
+                let whose = if is_whole {
+                    "its conditions"
+                } else {
+                    "the conditions of one of its parts, a SELECT with a choice of each OR and IN"
+                };
                 format!(in alloc;
-                    "view {view}: no row can meet its conditions, which contradict each other, or those of one of its selects or of a choice of its ORs"
+                    "view {view}: no row can meet {whose}: they contradict each other"
                 )
             }
             Finding::ShownBy { view, other } => {
@@ -206,10 +210,19 @@ impl Finding<'_> {
                 literal,
             } => {
                 format!(in alloc;
-                    "view {view} compares {table}.{column} with {literal}, which stands in no row of the tables"
+                    "view {view} compares {table}.{column} with {literal}, which no row has there"
                 )
             }
             _ => Ok(String::new(alloc)),
         }
     }
+}
+
+// That a question is refuted, with the views that would cover it.
+fn refuted_text(alloc: Global, views: &str, kept: &str) -> Result<String, AllocError> {
+    let front = "the question is blocked as refuted; what would cover it widens the policy";
+    if kept.is_empty() {
+        return format!(in alloc; "{front}: {views}");
+    }
+    format!(in alloc; "{front} ({kept}): {views}")
 }

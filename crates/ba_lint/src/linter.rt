@@ -2,9 +2,10 @@
 
 use crate::absurd::find_absurd;
 use crate::columns::{find_hidden, find_keyless};
-use crate::faults::find_faults;
+use crate::faults::{find_faults, find_schema_faults};
 use crate::finding::Finding;
 use crate::literals::find_literals;
+use crate::lost::Lost;
 use crate::overlap::find_shown;
 use crate::report::{File, Report};
 use crate::schema::{SchemaText, find_cycles};
@@ -13,9 +14,7 @@ use crate::ties::find_untied;
 use crate::usage::{find_unused, note_usage};
 use crate::words::LintWords;
 use crate::written::{PolicyText, ViewText};
-use ba_hints::{
-    POLICY, QUERY, SCHEMA, Sight, Stage, Words, rows_hint, schema_hint, take_tokens, tokens_in,
-};
+use ba_hints::{POLICY, QUERY, SCHEMA, Sight, Stage, Words, rows_hint, take_tokens, tokens_in};
 use ba_lex::Token;
 use ba_model::{
     Counted, Failure, List, MAX_FILE_BYTES, MAX_TEXT_BYTES, Part, Policy, Row, RowSet, Schema,
@@ -56,13 +55,10 @@ fn read_text<F: Files>(files: &mut F, name: &str) -> Result<Vec<u8>, Failure<Unr
     read(files, name, Counted::TextBytes, MAX_TEXT_BYTES as u64)
 }
 
-// The schema that a file is, or its first fault.
+// The schema that a file is, or its faults.
 fn schema_of(report: &mut Report, file: File<'_>) -> Result<Option<Shared<Schema>>, AllocError> {
     let alloc = report.alloc;
-    if let Some(hint) = schema_hint(alloc, file.bytes)? {
-        report.add(file, hint.spot, &Finding::Fault(hint.text.as_str()))?;
-        return Ok(None);
-    }
+    find_schema_faults(report, file)?;
     match read_schema(alloc, file.bytes) {
         Ok(schema) => Ok(Some(Shared::new(alloc, schema)?)),
         Err(Failure::NoMemory) => Err(AllocError),
@@ -187,24 +183,20 @@ fn find_in_view<'a>(
     Ok(())
 }
 
-// Finds what is to be said of a policy without the statements that have a fault, or of a whole one.
+// Finds what is to be said of a policy without the statements that were lost to a fault.
 fn find_in_policy<'a>(
     report: &mut Report,
     scene: Scene<'_>,
     text: &PolicyText<'a>,
     policy: &'a Policy,
-    is_whole: bool,
+    lost: Lost<'_>,
 ) -> Result<(), AllocError> {
     for view in policy.views.as_slice() {
         find_in_view(report, text, policy, view, scene.rows)?;
     }
     find_shown(report, text, policy)?;
-    // (A statement that has a fault may use what no other does.)
-    if !is_whole {
-        return Ok(());
-    }
-    find_unused(report, text, policy)?;
-    note_usage(report, &scene.schema, policy)
+    find_unused(report, text, policy, lost)?;
+    note_usage(report, scene.schema, policy, lost)
 }
 
 // Finds what is to be said of a policy's file.
@@ -233,13 +225,11 @@ fn find_in_file(
             taken: &walk.taken,
         },
     };
-    find_in_policy(
-        report,
-        scene,
-        &text,
-        &policy,
-        sound.as_slice() == file.bytes,
-    )
+    let lost = Lost {
+        bytes: file.bytes,
+        sound: &sound,
+    };
+    find_in_policy(report, scene, &text, &policy, lost)
 }
 
 // Finds what is to be said of a schema, and then of a policy.

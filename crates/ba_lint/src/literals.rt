@@ -15,21 +15,21 @@ fn has_value(row: &Row, column: u32, value: &Value) -> bool {
     }
 }
 
-// Whether a row of a table has a value in a column, by their numbers.
-fn is_in_rows(rows: &RowSet, table: u32, column: u32, value: &Value) -> bool {
+// Whether a table has rows, and none of them has a value in a column, by their numbers.
+fn is_in_no_row(rows: &RowSet, table: u32, column: u32, value: &Value) -> bool {
     let Some(rows) = rows.tables.find(table as usize) else {
         return false;
     };
     for row in rows.as_slice() {
         if has_value(row, column, value) {
-            return true;
+            return false;
         }
     }
-    false
+    !rows.as_slice().is_empty()
 }
 
-// A value as a literal.
-fn literal_text(alloc: Global, value: &Value) -> Result<String, AllocError> {
+/// A value as a literal.
+pub fn literal_text(alloc: Global, value: &Value) -> Result<String, AllocError> {
     match value {
         Value::Null => String::from_str(alloc, "NULL"),
         Value::Int(number) => number.to_string(alloc),
@@ -56,7 +56,7 @@ fn find_compared(
     else {
         return Ok(());
     };
-    if is_in_rows(rows, *number, *column, value) {
+    if !is_in_no_row(rows, *number, *column, value) {
         return Ok(());
     }
     let literal = literal_text(report.alloc, value)?;
@@ -66,7 +66,8 @@ fn find_compared(
         column: column_name(table, *column),
         literal: literal.as_str(),
     };
-    report.add(text.file(), text.value_spot(value), &finding)
+    let spot = text.value_spot(table.name.as_str(), column_name(table, *column), value);
+    report.add(text.file(), spot, &finding)
 }
 
 // Whether a condition says that two sides are equal or that they differ.
@@ -78,7 +79,7 @@ fn tells_same(atom: &Atom) -> bool {
 }
 
 /// Finds literals that a part of a view compares with columns by `=` or `<>`, and that no row has
-/// there.
+/// there. A table that has no row tells nothing.
 pub fn find_literals(
     report: &mut Report,
     text: &ViewText<'_>,

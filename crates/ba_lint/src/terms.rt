@@ -1,7 +1,7 @@
 //! Which operands of a part its equations make equal.
 
 use ba_classes::Classes;
-use ba_model::{Operand, Part, Same, Value};
+use ba_model::{Atom, Op, Operand, Part, Same, Value};
 use std::alloc::{AllocError, Global};
 
 // How many operands a part may have: more than its limits on conditions and columns leave room for.
@@ -135,9 +135,20 @@ impl<'a> Terms<'a> {
             }
         }
         for operand in part.head.as_slice() {
-            if let Some(class) = self.class(operand) {
-                self.known.push(class)?;
+            self.push_known(operand)?;
+        }
+        for atom in part.conds.as_slice() {
+            if says_null(atom) {
+                self.push_known(&atom.left)?;
             }
+        }
+        Ok(())
+    }
+
+    // Adds the class of an operand to those that are known.
+    fn push_known(&mut self, operand: &Operand) -> Result<(), AllocError> {
+        if let Some(class) = self.class(operand) {
+            self.known.push(class)?;
         }
         Ok(())
     }
@@ -165,7 +176,7 @@ impl<'a> Terms<'a> {
     }
 
     /// Whether the value of an operand is known to whoever sees the part's rows and the parameters:
-    /// it is put out, or equal to what is, or to a constant or a parameter.
+    /// it is put out, or equal to what is, or to a constant or a parameter, or said to be NULL.
     pub fn is_known(&self, operand: &Operand) -> bool {
         match self.class(operand) {
             Some(class) => self.known.contains(&class),
@@ -180,4 +191,9 @@ fn is_given(operand: &Operand) -> bool {
         Operand::Val(_) | Operand::Param(_) => true,
         Operand::Col(_, _) | Operand::Var(_) => false,
     }
+}
+
+/// Whether a condition says that its side is NULL.
+pub fn says_null(atom: &Atom) -> bool {
+    matches!(&atom.op, Op::IsNull)
 }

@@ -1,8 +1,11 @@
 //! Which parameters a policy's views use, and which tables and columns they show.
 
 use crate::finding::Finding;
+use crate::fits::Field;
+use crate::lost::Lost;
 use crate::report::Report;
 use crate::schema::SchemaText;
+use crate::terms::Terms;
 use crate::written::PolicyText;
 use ba_hints::{Term, listed};
 use ba_model::{CacheKey, Operand, Part, Policy, Query, Table, View};
@@ -63,16 +66,17 @@ fn is_used(policy: &Policy, number: u32) -> bool {
     false
 }
 
-/// Finds parameters that no view and no cache key uses.
+/// Finds parameters that no view and no cache key uses, and no statement that has a fault names.
 pub fn find_unused(
     report: &mut Report,
     text: &PolicyText<'_>,
     policy: &Policy,
+    lost: Lost<'_>,
 ) -> Result<(), AllocError> {
     let mut number = 0u32;
     for param in policy.params.as_slice() {
-        if !is_used(policy, number) {
-            let name = param.name.as_str();
+        let name = param.name.as_str();
+        if !is_used(policy, number) && !lost.names(name) {
             let spot = text.spot(Term::Param, name);
             report.add(text.file, spot, &Finding::UnusedParam(name))?;
         }
@@ -100,33 +104,68 @@ fn is_read(policy: &Policy, table: u32) -> bool {
     false
 }
 
-// Whether an operand of a part is that column of that table, by their numbers.
-fn is_of(part: &Part, operand: &Operand, table: u32, column: u32) -> bool {
-    let Operand::Col(place, other) = operand else {
-        return false;
-    };
-    match part.from.find(*place as usize) {
-        Some(number) => *number == table && *other == column,
-        None => false,
+// Adds the columns of a class of a part.
+fn push_class(
+    shown: &mut Vec<Field>,
+    part: &Part,
+    terms: &Terms<'_>,
+    class: u32,
+) -> Result<(), AllocError> {
+    for member in terms.members.iter() {
+        if member.class == class
+            && let Some(field) = Field::of(part, member.operand)
+        {
+            shown.push(field)?;
+        }
     }
+    Ok(())
 }
 
-fn part_shows(part: &Part, table: u32, column: u32) -> bool {
+// Adds the columns that a part puts out, and those that it makes equal to them.
+fn push_shown(alloc: Global, shown: &mut Vec<Field>, part: &Part) -> Result<(), AllocError> {
+    let terms = Terms::of(alloc, part)?;
     for operand in part.head.as_slice() {
-        if is_of(part, operand, table, column) {
-            return true;
+        if let Some(class) = terms.class(operand) {
+            push_class(shown, part, &terms, class)?;
         }
     }
-    false
+    Ok(())
 }
 
-fn view_shows(view: &View, table: u32, column: u32) -> bool {
-    for part in view.query.parts.as_slice() {
-        if part_shows(part, table, column) {
-            return true;
+// A view, and the columns that it shows.
+#[derive(Drop)]
+struct Showing<'a> {
+    view: &'a View,
+    fields: Vec<Field>,
+}
+
+impl<'a> Showing<'a> {
+    fn of(alloc: Global, view: &'a View) -> Result<Showing<'a>, AllocError> {
+        let mut fields = Vec::new(alloc);
+        for part in view.query.parts.as_slice() {
+            push_shown(alloc, &mut fields, part)?;
         }
+        Ok(Showing { view, fields })
     }
-    false
+
+    // Whether the view shows a column.
+    fn has(&self, field: Field) -> bool {
+        for other in self.fields.iter() {
+            if other.is(field) {
+                return true;
+            }
+        }
+        false
+    }
+}
+
+// The views of a policy, each with the columns that it shows.
+fn showings(alloc: Global, policy: &Policy) -> Result<Vec<Showing<'_>>, AllocError> {
+    let mut all = Vec::new(alloc);
+    for view in policy.views.as_slice() {
+        all.push(Showing::of(alloc, view)?)?;
+    }
+    Ok(all)
 }
 
 // A view with the parameters that it uses.
@@ -146,72 +185,117 @@ fn view_text(alloc: Global, policy: &Policy, view: &View) -> Result<String, Allo
     format!(in alloc; "{} ({params})", view.name)
 }
 
-// The views that show a column, each with its parameters.
-fn views_text(
+// What the notes on a policy's tables are made from.
+#[derive(Drop)]
+struct Notes<'a> {
     alloc: Global,
-    policy: &Policy,
-    table: u32,
-    column: u32,
-) -> Result<String, AllocError> {
-    let mut texts = Vec::new(alloc);
-    for view in policy.views.as_slice() {
-        if view_shows(view, table, column) {
-            texts.push(view_text(alloc, policy, view)?)?;
-        }
-    }
-    let mut names = Vec::new(alloc);
-    for text in texts.iter() {
-        names.push(text.as_str())?;
-    }
-    listed(alloc, &names)
+    policy: &'a Policy,
+    text: SchemaText<'a>,
+    lost: Lost<'a>,
+    showings: Vec<Showing<'a>>,
 }
 
-// Notes who is shown the columns of a table.
-fn note_columns(
-    report: &mut Report,
-    text: &SchemaText<'_>,
-    policy: &Policy,
-    table: &Table,
-    number: u32,
-) -> Result<(), AllocError> {
-    let mut place = 0u32;
-    for it in table.columns.as_slice() {
-        let column = it.name.as_str();
-        let views = views_text(report.alloc, policy, number, place)?;
-        let table = table.name.as_str();
-        let finding = if views.is_empty() {
-            Finding::Unseen { table, column }
-        } else {
+impl Notes<'_> {
+    // The views that show a column, each with its parameters.
+    fn views_text(&self, field: Field) -> Result<String, AllocError> {
+        let mut texts = Vec::new(self.alloc);
+        for showing in self.showings.iter() {
+            if showing.has(field) {
+                texts.push(view_text(self.alloc, self.policy, showing.view)?)?;
+            }
+        }
+        let mut names = Vec::new(self.alloc);
+        for text in texts.iter() {
+            names.push(text.as_str())?;
+        }
+        listed(self.alloc, &names)
+    }
+
+    // Notes who is shown a column of a table. Whether it is said that nobody is, is given.
+    fn note_column(
+        &self,
+        report: &mut Report,
+        table: &str,
+        column: &str,
+        field: Field,
+        tells_unseen: bool,
+    ) -> Result<(), AllocError> {
+        let views = self.views_text(field)?;
+        let finding = if !views.is_empty() {
             Finding::Shown {
                 table,
                 column,
                 views: views.as_str(),
             }
+        } else if tells_unseen {
+            Finding::Unseen { table, column }
+        } else {
+            return Ok(());
         };
-        report.add(text.file, text.column_spot(table, column), &finding)?;
-        place = place.saturating_add(1);
+        let spot = self.text.column_spot(table, column);
+        report.add(self.text.file, spot, &finding)
     }
-    Ok(())
+
+    // Notes who is shown the columns of a table. That nobody is isn't said where a statement that
+    // has a fault names the table.
+    fn note_columns(
+        &self,
+        report: &mut Report,
+        table: &Table,
+        number: u32,
+    ) -> Result<(), AllocError> {
+        let name = table.name.as_str();
+        let tells_unseen = !self.lost.names(name);
+        let mut place = 0u32;
+        for it in table.columns.as_slice() {
+            let field = Field {
+                table: number,
+                column: place,
+            };
+            self.note_column(report, name, it.name.as_str(), field, tells_unseen)?;
+            place = place.saturating_add(1);
+        }
+        Ok(())
+    }
+
+    // Notes of a table that no view reads it, unless a statement that has a fault names it, or else
+    // who is shown its columns.
+    fn note_table(
+        &self,
+        report: &mut Report,
+        table: &Table,
+        number: u32,
+    ) -> Result<(), AllocError> {
+        let name = table.name.as_str();
+        if is_read(self.policy, number) {
+            self.note_columns(report, table, number)
+        } else if self.lost.names(name) {
+            Ok(())
+        } else {
+            let spot = self.text.table_spot(name);
+            report.add(self.text.file, spot, &Finding::UnreadTable(name))
+        }
+    }
 }
 
 /// Notes of each column which views show it, and which tables no view reads.
 pub fn note_usage(
     report: &mut Report,
-    text: &SchemaText<'_>,
+    text: SchemaText<'_>,
     policy: &Policy,
+    lost: Lost<'_>,
 ) -> Result<(), AllocError> {
+    let alloc = report.alloc;
+    let notes = Notes {
+        alloc,
+        policy,
+        text,
+        lost,
+        showings: showings(alloc, policy)?,
+    };
     let mut number = 0u32;
     for table in policy.schema.tables.as_slice() {
-        if is_read(policy, number) {
-            note_columns(report, text, policy, table, number)?;
-        } else {
-            let name = table.name.as_str();
-            report.add(
-                text.file,
-                text.table_spot(name),
-                &Finding::UnreadTable(name),
-            )?;
-        }
+        notes.note_table(report, table, number)?;
         number = number.saturating_add(1);
     }
     Ok(())

@@ -186,21 +186,36 @@ impl<'a> ViewText<'a> {
         self.name_spot()
     }
 
-    // Whether a token is a literal of that value in a condition.
+    // Whether a token is a literal of that value.
     fn is_literal(&self, at: usize, value: &Value) -> bool {
-        let words = &self.sight.words;
-        let is_value = words.is(at, Term::Value) || words.is(at, Term::Listed);
-        match words.tokens.get(at) {
-            Some(token) => is_value && spells(token, value) && self.is_behind_from(at),
+        match self.sight.words.tokens.get(at) {
+            Some(token) => spells(token, value),
             None => false,
         }
     }
 
-    /// Where it compares with a literal first.
-    pub fn value_spot(&self, value: &Value) -> Spot {
+    // The literal of that value with which a comparison, or a constant behind IN, compares that
+    // column of that table, if the token is one.
+    fn literal_at(&self, at: usize, table: &str, column: &str, value: &Value) -> Option<usize> {
+        let words = &self.sight.words;
+        if !words.is(at, Term::Compare) && !words.is(at, Term::Listed) {
+            return None;
+        }
+        let (left, right) = self.sight.sides(at)?;
+        if self.is_compared(left, table, column) && self.is_literal(right, value) {
+            Some(right)
+        } else if self.is_compared(right, table, column) && self.is_literal(left, value) {
+            Some(left)
+        } else {
+            None
+        }
+    }
+
+    /// Where it compares a column of a table with a literal first.
+    pub fn value_spot(&self, table: &str, column: &str, value: &Value) -> Spot {
         for at in 0..self.sight.words.taken.len() {
-            if self.is_literal(at, value) {
-                return self.spot(Some(at));
+            if let Some(place) = self.literal_at(at, table, column, value) {
+                return self.spot(Some(place));
             }
         }
         self.name_spot()
