@@ -1,5 +1,6 @@
 -- A shelf: its shapes with their templates, the shape that was used last first, and the calls on it.
-use Rattle.std.specs.Prelude.{◌≡◌, ◌≢◌, ℕ, ◌-◌, Bool, true, false, List, [], ◌∷◌, ◌++◌, All, Contains, count_by, drop, length, take, ◌⊎◌}
+use Rattle.std.specs.Prelude.{◌≡◌, ◌≢◌, ℕ, ◌-◌, Bool, true, false, List, [], ◌∷◌, ◌++◌, All, Contains, count_by, drop, length, map, take, ◌⊎◌}
+use Rattle.std.specs.List.{flat_map}
 use Rattle.ba_model.specs.Limits.{most_alike, most_shapes}
 use Rattle.ba_kernel.specs.Problems.{StrongAll}
 use Rattle.ba_kernel.specs.SearchStates.{Proof}
@@ -38,6 +39,14 @@ pub record IsAbsent (shape : Shape) (rows : List Row) (templates : List Kept) (r
 -- every instance of the template that meets its condition is strongly compliant
 abbrev pub IsSound : Kept → Type 0
 IsSound k = StrongAll k.template.problem
+
+-- the templates that a shape has, the oldest first
+abbrev pub templates_under : List Kept → List Proof
+templates_under its = map (λ (k : Kept). k.template) its
+
+-- all templates of the rows: row by row, and of a row the oldest first
+abbrev pub templates_in : List Row → List Proof
+templates_in rows = flat_map (λ (row : Row). templates_under row.1) rows
 
 -- ---- calls
 

@@ -1,9 +1,9 @@
 //! The rows of a shelf: its shapes with their templates, as `lru` keeps them.
-ghost use Rattle.std.specs.Prelude.{◌≡◌, ◌≤◌, [], ◌∷◌, ◌++◌, All, Contains, IfOk, IfSome, None, OnErr, drop, length, unwrap_or};
+ghost use Rattle.std.specs.Prelude.{◌≡◌, ◌≤◌, [], ◌∷◌, ◌++◌, All, Contains, IfOk, IfSome, None, OnErr, OnOk, drop, length, unwrap_or};
 ghost use Rattle.std.specs.Map.{lookup};
 ghost use Rattle.ba_model.specs.Limits.{most_shapes};
 ghost use Rattle.ba_cache.specs.Keys.{same_shape};
-ghost use Rattle.ba_cache.specs.Rows.{Admits, IsOther, IsSound, Looks, kept as kept_as, latest};
+ghost use Rattle.ba_cache.specs.Rows.{Admits, IsOther, IsSound, Looks, kept as kept_as, latest, templates_in, templates_under};
 
 use crate::call::{Admit, Kept};
 use crate::key::Key;
@@ -113,4 +113,29 @@ fn with_newest(alloc: Global, templates: &[Kept], newest: Kept) -> Result<List<K
     let mut all = copied(alloc, &templates[older..])?;
     all.push(newest)?;
     Ok(all)
+}
+
+/// The templates of all rows: shape by shape, and of a shape the oldest first.
+pub fn templates(rows: &Rows, alloc: Global) -> Result<List<Shared<Template>>, AllocError>
+    ensures { IfOk result (λ all. all ≡ templates_in rows.now.entries) }
+{
+    let mut all = Vec::new(alloc);
+    for (_, kept) in rows.iter() {
+        read_out(alloc, kept.as_slice(), &mut all)?;
+    }
+    Ok(List::from_vec(all))
+}
+
+/// Puts the templates of a shape behind those of earlier ones, each shared once more.
+fn read_out(
+    alloc: Global,
+    templates: &[Kept],
+    all: &mut Vec<Shared<Template>>,
+) -> Result<(), AllocError>
+    ensures { OnOk result (all.new.items ≡ all.old.items ++ templates_under templates.now) }
+{
+    for kept in templates {
+        all.push(kept.template.copy(alloc)?)?;
+    }
+    Ok(())
 }

@@ -6,7 +6,7 @@ ghost use Rattle.ba_cache.specs.Rows.{Legal, added_by, count_added};
 use crate::call::{Admit, Found, ShelfCall};
 use crate::rows;
 use crate::rows::Rows;
-use ba_model::{MAX_SHAPES, Shared};
+use ba_model::{List, MAX_SHAPES, Shared};
 use ba_template::{Shape, Template};
 use ba_turn::Storied;
 use lru::LruCache;
@@ -53,7 +53,7 @@ impl Storied for Shelf {
 
 impl Shelf {
     ghost use Rattle.std.specs.Prelude.{[], ◌∷◌, ◌++◌, All, IfOk};
-    ghost use Rattle.ba_cache.specs.Rows.{IsSound, Steps};
+    ghost use Rattle.ba_cache.specs.Rows.{IsSound, Steps, templates_in};
     ghost use Rattle.ba_cache.specs.Reads.{admitted, calls_of, looked, room_of, rows_of};
 
     /// A shelf with nothing on it.
@@ -76,6 +76,15 @@ impl Shelf {
         ensures legal { ∥ Legal result.now (rows_of self.now) ∥₁ }
     {
         self.calls.as_slice()
+    }
+
+    /// The templates that stand on it, each shared once more: shapes from the one that was used last
+    /// on, and the templates of a shape from the oldest on. It is no call on the shelf, which stays
+    /// as it is. The error is want of memory.
+    pub fn templates(&self, alloc: Global) -> Result<List<Shared<Template>>, AllocError>
+        ensures { IfOk result (λ found. found ≡ templates_in (rows_of self.now)) }
+    {
+        rows::templates(&self.rows, alloc)
     }
 
     /// The templates of the shape, which comes to the front. Where there are none, nothing changes. After want of memory the

@@ -10,7 +10,7 @@ use Rattle.clap.specs.declared.ArgMatches.{ArgMatches}
 use Rattle.clap.specs.declared.Error.{Error}
 use Rattle.clap.specs.declared.error.ErrorKind.TheVariants.{OutOfMemory}
 use Rattle.clap.proofs.WalkLemmas.{first_value-rows}
-use Rattle.ba_command.specs.Words.{check_app, check_from, check_of, command_from, gen_app, gen_from, gen_of, run_app, run_of, unless_fault}
+use Rattle.ba_command.specs.Words.{check_app, check_from, check_of, gen_app, gen_from, gen_of, run_app, run_from, run_of, store_app, store_from, store_of, unless_fault}
 use Rattle.ba_command.specs.declared.command.Command.{Command}
 use Rattle.ba_command.specs.declared.command.WordsFault.{WordsFault}
 use Rattle.ba_command.specs.declared.command.WordsFault.TheVariants.{NoForm}
@@ -51,11 +51,41 @@ form_refuses known app words e (Fault NoForm) found is has other = faulty (fault
 run_plain : is_simple run_app ≡ true
 run_plain = refl
 
-pub free : is_simple_and_free run_app ≡ true
-free = refl
+pub run_free : is_simple_and_free run_app ≡ true
+run_free = refl
 
-run_values : AreValues command_from
+run_values : AreValues run_from
 run_values f g same = rw (
+  same (codes "schema"),
+  same (codes "policy"),
+  same (codes "tables"),
+  same (codes "script"),
+  same (codes "load"),
+  same (codes "workers"),
+  same (codes "budget"),
+) refl
+
+pub run_ok : (app : App) (words : List Text) (m : ArgMatches) → app ≡ run_app → HasMatchesOf app words m → fault_of app words ≡ []
+    → run_from (first_value (found_of m)) ≡ run_of words
+unfolding run_of
+run_ok app words m is has none = form_reads run_app app run_from words m run_plain run_values is has none
+
+pub run_refused : (app : App) (words : List Text) (e : Error) (x : Failure WordsFault) → app ≡ run_app → HasKind (fault_of app words) e
+    → (x ≡ Fault NoForm → kind_of e ≢ OutOfMemory)
+    → Gives (Err x) (run_of words)
+unfolding run_of
+run_refused app words e x is has other = form_refuses run_app app words e x _ is has other
+
+-- ---- store
+
+store_plain : is_simple store_app ≡ true
+store_plain = refl
+
+pub store_free : is_simple_and_free store_app ≡ true
+store_free = refl
+
+store_values : AreValues store_from
+store_values f g same = rw (
   same (codes "schema"),
   same (codes "policy"),
   same (codes "tables"),
@@ -64,16 +94,16 @@ run_values f g same = rw (
   same (codes "budget"),
 ) refl
 
-pub form_ok : (app : App) (words : List Text) (m : ArgMatches) → app ≡ run_app → HasMatchesOf app words m → fault_of app words ≡ []
-    → command_from (first_value (found_of m)) ≡ run_of words
-unfolding run_of
-form_ok app words m is has none = form_reads run_app app command_from words m run_plain run_values is has none
+pub store_ok : (app : App) (words : List Text) (m : ArgMatches) → app ≡ store_app → HasMatchesOf app words m → fault_of app words ≡ []
+    → store_from (first_value (found_of m)) ≡ store_of words
+unfolding store_of
+store_ok app words m is has none = form_reads store_app app store_from words m store_plain store_values is has none
 
-pub refused : (app : App) (words : List Text) (e : Error) (x : Failure WordsFault) → app ≡ run_app → HasKind (fault_of app words) e
+pub store_refused : (app : App) (words : List Text) (e : Error) (x : Failure WordsFault) → app ≡ store_app → HasKind (fault_of app words) e
     → (x ≡ Fault NoForm → kind_of e ≢ OutOfMemory)
-    → Gives (Err x) (run_of words)
-unfolding run_of
-refused app words e x is has other = form_refuses run_app app words e x _ is has other
+    → Gives (Err x) (store_of words)
+unfolding store_of
+store_refused app words e x is has other = form_refuses store_app app words e x _ is has other
 
 -- ---- check
 

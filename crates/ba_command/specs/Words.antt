@@ -10,9 +10,10 @@ use Rattle.clap.specs.Walk.{Rule, Text, first_of}
 use Rattle.clap.specs.declared.builder.action.ArgAction.TheVariants.{Set, SetTrue}
 use Rattle.clap.specs.declared.builder.value_parser.ValueParser.TheVariants as parser
 use Rattle.ba_command.specs.declared.command.Command.{Command}
-use Rattle.ba_command.specs.declared.command.Command.TheVariants.{Run, Check, Gen}
+use Rattle.ba_command.specs.declared.command.Command.TheVariants.{Run, Check, Gen, Store}
 use Rattle.ba_command.specs.declared.command.WordsFault.{WordsFault}
 use Rattle.ba_command.specs.declared.command.WordsFault.TheVariants.{NoForm}
+use Rattle.ba_command.specs.declared.served.Served.{Served}
 use Rattle.ba_model.specs.Limits.{least_budget, least_workers, most_budget, most_requests, most_seed, most_workers, usual_budget, usual_workers}
 
 -- an option with one value: `--id VALUE` or `--id=VALUE`
@@ -35,15 +36,23 @@ needed rule = record rule { required = true }
 abbrev pub bare : Text → App
 bare name = on_top (λ s. record s { no_binary_name = true; disable_help_flag = true; disable_version_flag = true }) (new_app name)
 
--- run --schema S --policy P --tables D --script F [--workers N] [--budget B]
-abbrev pub run_app : App
-run_app = with_rule (with_rule (with_rule (with_rule (with_rule (with_rule (bare (codes "run"))
+-- a command that serves a script: --schema S --policy P --tables D --script F [--workers N] [--budget B]
+abbrev pub served_app : Text → App
+served_app name = with_rule (with_rule (with_rule (with_rule (with_rule (with_rule (bare name)
     (needed (option_rule (codes "schema"))))
     (needed (option_rule (codes "policy"))))
     (needed (option_rule (codes "tables"))))
     (needed (option_rule (codes "script"))))
     (number_rule (codes "workers") least_workers most_workers))
     (number_rule (codes "budget") least_budget most_budget)
+
+-- run, with [--load T]
+abbrev pub run_app : App
+run_app = with_rule (served_app (codes "run")) (option_rule (codes "load"))
+
+-- store, which loads none
+abbrev pub store_app : App
+store_app = served_app (codes "store")
 
 -- check --schema S --policy P --proof F
 abbrev pub check_app : App
@@ -76,17 +85,33 @@ abbrev pub is_set : Option Text → Bool
 is_set None = false
 is_set (Some text) = bytes_eq text (codes "true")
 
-abbrev pub with_texts : Option Text → Option Text → Option Text → Option Text → ℕ → ℕ → Result Command WordsFault
-with_texts (Some schema) (Some policy) (Some tables) (Some script) workers budget = Ok (Run schema policy tables script workers budget)
+abbrev pub with_texts : Option Text → Option Text → Option Text → Option Text → ℕ → ℕ → Result Served WordsFault
+with_texts (Some schema) (Some policy) (Some tables) (Some script) workers budget = Ok (record { schema = schema; policy = policy; tables = tables; script = script; workers = workers; budget = budget })
 with_texts None policy tables script workers budget = Err NoForm
 with_texts (Some schema) None tables script workers budget = Err NoForm
 with_texts (Some schema) (Some policy) None script workers budget = Err NoForm
 with_texts (Some schema) (Some policy) (Some tables) None workers budget = Err NoForm
 
--- the command that the values of the options are
-abbrev pub command_from : (Text → Option Text) → Result Command WordsFault
-command_from given = with_texts (given (codes "schema")) (given (codes "policy")) (given (codes "tables")) (given (codes "script"))
+-- which script is served, over what, and how, by the values of the options
+abbrev pub served_from : (Text → Option Text) → Result Served WordsFault
+served_from given = with_texts (given (codes "schema")) (given (codes "policy")) (given (codes "tables")) (given (codes "script"))
     (number_or least_workers most_workers usual_workers (given (codes "workers"))) (number_or least_budget most_budget usual_budget (given (codes "budget")))
+
+abbrev pub as_run : Option Text → Result Served WordsFault → Result Command WordsFault
+as_run load (Ok it) = Ok (Run it.schema it.policy it.tables it.script load it.workers it.budget)
+as_run load (Err e) = Err e
+
+-- the run that the values of the options are
+abbrev pub run_from : (Text → Option Text) → Result Command WordsFault
+run_from given = as_run (given (codes "load")) (served_from given)
+
+abbrev pub as_store : Result Served WordsFault → Result Command WordsFault
+as_store (Ok it) = Ok (Store it.schema it.policy it.tables it.script it.workers it.budget)
+as_store (Err e) = Err e
+
+-- the store that the values of the options are
+abbrev pub store_from : (Text → Option Text) → Result Command WordsFault
+store_from given = as_store (served_from given)
 
 abbrev pub with_files : Option Text → Option Text → Option Text → Result Command WordsFault
 with_files (Some schema) (Some policy) (Some proof) = Ok (Check schema policy proof)
@@ -115,13 +140,15 @@ unless_fault (kind ∷ kinds) found = Err NoForm
 
 -- how many steps a search may take; a check searches for none
 abbrev pub budget_of : Command → ℕ
-budget_of (Run schema policy tables script workers budget) = budget
+budget_of (Run schema policy tables script load workers budget) = budget
+budget_of (Store schema policy tables script workers budget) = budget
 budget_of (Check schema policy proof) = 0
 budget_of (Gen seed requests workers print) = usual_budget
 
 -- how many workers serve a script; a check has none
 abbrev pub workers_of : Command → Option ℕ
-workers_of (Run schema policy tables script workers budget) = Some workers
+workers_of (Run schema policy tables script load workers budget) = Some workers
+workers_of (Store schema policy tables script workers budget) = Some workers
 workers_of (Check schema policy proof) = None
 workers_of (Gen seed requests workers print) = Some workers
 
@@ -131,13 +158,18 @@ AreWorkers n = (least_workers ≤ n) × (n ≤ most_workers)
 
 -- a workload that is generated has a seed and a number of requests within the limits
 abbrev pub WorkloadFits : Command → Type 0
-WorkloadFits (Run schema policy tables script workers budget) = Unit {0}
+WorkloadFits (Run schema policy tables script load workers budget) = Unit {0}
+WorkloadFits (Store schema policy tables script workers budget) = Unit {0}
 WorkloadFits (Check schema policy proof) = Unit {0}
 WorkloadFits (Gen seed requests workers print) = (seed ≤ most_seed) × (requests ≤ most_requests)
 
 -- what the words behind `run` ask for
 unfoldable pub run_of : List Text → Result Command WordsFault
-run_of words = unless_fault (fault_of run_app words) (command_from (λ id. first_of id (matches_of run_app words)))
+run_of words = unless_fault (fault_of run_app words) (run_from (λ id. first_of id (matches_of run_app words)))
+
+-- what the words behind `store` ask for
+unfoldable pub store_of : List Text → Result Command WordsFault
+store_of words = unless_fault (fault_of store_app words) (store_from (λ id. first_of id (matches_of store_app words)))
 
 -- what the words behind `check` ask for
 unfoldable pub check_of : List Text → Result Command WordsFault
@@ -154,4 +186,5 @@ command_of (name ∷ words) =
     if bytes_eq name (codes "run") then run_of words
     else (if bytes_eq name (codes "check") then check_of words
     else (if bytes_eq name (codes "gen") then gen_of words
-    else Err NoForm))
+    else (if bytes_eq name (codes "store") then store_of words
+    else Err NoForm)))

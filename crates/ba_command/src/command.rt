@@ -5,8 +5,25 @@ use ba_model::Str;
 /// A command with its options.
 #[derive(Debug, Drop)]
 pub enum Command {
-    /// `run --schema S --policy P --tables D --script F [--workers N] [--budget B]`
+    /// `run --schema S --policy P --tables D --script F [--load T] [--workers N] [--budget B]`
     Run {
+        /// The name of the schema's file.
+        schema: Str,
+        /// The name of the policy's file.
+        policy: Str,
+        /// The name of the table set.
+        tables: Str,
+        /// The name of the script's file.
+        script: Str,
+        /// The name of the file of the templates to begin with, if there is one.
+        load: Option<Str>,
+        /// How many workers answer, from 1 to 16; 1 where the words don't say.
+        workers: u32,
+        /// How many steps a search may take, from 16 to 100,000; 2000 where the words don't say.
+        budget: u32,
+    },
+    /// `store --schema S --policy P --tables D --script F [--workers N] [--budget B]`
+    Store {
         /// The name of the schema's file.
         schema: Str,
         /// The name of the policy's file.

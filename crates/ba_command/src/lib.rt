@@ -7,6 +7,8 @@ mod form;
 mod generate;
 mod number;
 mod run;
+mod served;
+mod store;
 mod words;
 
 pub use command::{Command, WordsFault};

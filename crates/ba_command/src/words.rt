@@ -8,13 +8,16 @@ use crate::check::read_check;
 use crate::command::{Command, WordsFault};
 use crate::generate::read_gen;
 use crate::run::read_run;
+use crate::store::read_store;
 use ba_model::Failure;
 use std::alloc::Global;
 
-/// The command that the words ask for, without the program's name: `run`, `check` or `gen` and its options, in any order, each once and with
-/// one value, as `--option VALUE` or `--option=VALUE`; `--print` has none. Numbers are in decimal, and within their ranges.
+/// The command that the words ask for, without the program's name: `run`, `check`, `gen` or `store` and
+/// its options, in any order, each once and with one value, as `--option VALUE` or `--option=VALUE`;
+/// `--print` has none. Numbers are in decimal, and within their ranges.
 ///
-/// All else is `NoForm`: other commands, no words, a missing or repeated option or one of another command, an abbreviation, a word left over.
+/// All else is `NoForm`: other commands, no words, a missing or repeated option or one of another
+/// command, as `--load` behind `store`, an abbreviation, a word left over.
 pub fn read_words(alloc: Global, words: &[String]) -> Result<Command, Failure<WordsFault>>
     ensures exact { Gives result (command_of (map string_bytes words.now)) }
     ensures budget { IfOk result (λ command. budget_of command ≤ most_budget) }
@@ -30,6 +33,8 @@ pub fn read_words(alloc: Global, words: &[String]) -> Result<Command, Failure<Wo
         read_check(alloc, rest)
     } else if name.as_str() == "gen" {
         read_gen(alloc, rest)
+    } else if name.as_str() == "store" {
+        read_store(alloc, rest)
     } else {
         Err(Failure::Fault(WordsFault::NoForm))
     }

@@ -7,6 +7,7 @@
 mod grammar;
 mod hint;
 mod lex;
+mod lines;
 mod policy;
 mod query;
 mod rows;
@@ -15,6 +16,7 @@ mod rules;
 mod schema;
 mod script;
 mod sight;
+mod template;
 mod walk;
 mod words;
 
@@ -27,5 +29,6 @@ pub use rules::rule_hint;
 pub use schema::{schema_hint, tokens_in};
 pub use script::script_hint;
 pub use sight::{Sight, Sources};
+pub use template::template_hint;
 pub use walk::{State, Taken, Walk, take_tokens};
 pub use words::Words;

@@ -1,6 +1,7 @@
 //! Lines of a script that are none.
 
 use crate::hint::{Hint, Spot, listed};
+use crate::lines::{json_text, line_at};
 use ba_model::{Counted, Failure, Kind, List, Parameter, Str};
 use ba_place::{WORD_CHARS, shown};
 use ba_script::{
@@ -14,18 +15,6 @@ use std::alloc::{AllocError, Global};
 struct Life {
     begun: u64,
     ended: u64,
-}
-
-// The line of a number, from 1.
-fn line_at(bytes: &[u8], line: u64) -> &[u8] {
-    let mut number = 0u64;
-    for found in script_lines(bytes) {
-        number = number.saturating_add(1);
-        if number == line {
-            return found;
-        }
-    }
-    &[]
 }
 
 // What became of the requests of a name before a line.
@@ -48,21 +37,6 @@ fn life_before(alloc: Global, bytes: &[u8], line: u64, name: &Str) -> Result<Lif
         }
     }
     Ok(life)
-}
-
-// Why a line is no JSON.
-fn json_text(alloc: Global, line: &[u8]) -> Result<String, AllocError> {
-    if line.is_empty() {
-        return String::from_str(alloc, "an empty line is no JSON: each line is an object");
-    }
-    match Value::from_slice(alloc, line) {
-        Err(e) if e.is_memory() => Err(AllocError),
-        Err(e) if e.column() > 0 => format!(in alloc;
-            "it is no JSON from byte {} of the line on",
-            e.column()
-        ),
-        _ => String::from_str(alloc, "it is no JSON"),
-    }
 }
 
 // Why a JSON value is no line.

@@ -1,5 +1,5 @@
 -- How the input is read, stage by stage.
-use Rattle.std.proofs.Common.{false, ◌≡◌, ◌∙◌, ◌<◌, ◌≤◌, ◌+◌, [], ◌∷◌, ◌++◌, inr, refl, sym, ap, subst, ℕ, suc, List, Result, Ok, Err, length, drop, take, get_or, add-one, drop-cons, Option, Some, None, length-append, arith}
+use Rattle.std.proofs.Common.{false, ◌≡◌, ◌∙◌, ◌<◌, ◌≤◌, ◌+◌, [], ◌∷◌, ◌++◌, inl, inr, refl, sym, ap, subst, ℕ, suc, List, Result, Ok, Err, length, drop, take, get_or, add-one, drop-cons, Option, Some, None, length-append, arith}
 use Rattle.std.proofs.lemmas.List.{take_more}
 use Rattle.std.proofs.lemmas.List.Elements.{All-append, All-cons, All-nil}
 use Rattle.std.specs.List.{All, AllZip}
@@ -10,20 +10,27 @@ use Rattle.ba_proof.specs.Checked.{IsPolicy}
 use Rattle.ba_proof.specs.declared.proof.Proof.{Proof}
 use Rattle.ba_model.specs.SchemaFaults.{AreTables}
 use Rattle.ba_kernel.specs.SearchStates as kernel
+use Rattle.ba_command.specs.Words.{command_of}
+use Rattle.ba_command.specs.declared.command.Command.{Command}
+use Rattle.ba_command.specs.declared.command.Command.TheVariants.{Check}
+use Rattle.ba_command.specs.declared.command.WordsFault.{WordsFault}
+use Rattle.ba_command.specs.declared.command.WordsFault.TheVariants.{NoForm}
 use Rattle.ba_model.specs.Conform.{RowFits}
 use Rattle.ba_model.specs.Fit.{PolicyFits}
-use Rattle.ba_model.specs.Readings.{widened}
+use Rattle.ba_model.specs.Readings.{Fails, widened}
+use Rattle.ba_model.specs.declared.failure.Failure.{Failure}
+use Rattle.ba_model.specs.declared.failure.Failure.TheVariants.{Fault as FailedBy}
 use Rattle.ba_model.specs.declared.policy.Policy.{Policy}
 use Rattle.ba_model.specs.declared.schema.Schema.{Schema}
 use Rattle.ba_model.specs.declared.schema.Table.{Table}
 use Rattle.ba_model.specs.declared.value.Value.{Value}
-use Rattle.ba_model.specs.Limits.{most_budget, most_file_bytes, most_workers}
+use Rattle.ba_model.specs.Limits.{most_budget, most_file_bytes, most_templates, most_workers}
 use Rattle.ba_outside.specs.Seen.{FilesSeen}
 use Rattle.ba_plan.proofs.Plans.{found_ok, memory_now, then_err, then_ok}
 use Rattle.ba_plan.specs.Follows.{Follows, Gives, Got}
-use Rattle.ba_plan.specs.Plan.{done, found}
+use Rattle.ba_plan.specs.Plan.{Plan, done, found}
 use Rattle.ba_plan.specs.declared.stop.Stop.{Stop}
-use Rattle.ba_plan.specs.declared.stop.Stop.TheVariants.{NoMemory}
+use Rattle.ba_plan.specs.declared.stop.Stop.TheVariants.{NoMemory, Refused}
 use Rattle.ba_policy.specs.Reading.{policy_of}
 use Rattle.ba_script.proofs.TrackingLemmas.{published-push}
 use Rattle.ba_script.specs.Reading.{published, published_by}
@@ -36,12 +43,16 @@ use Rattle.ba_tables.specs.Checked.{checked}
 use Rattle.ba_tables.specs.TableSet.{TableSet}
 use Rattle.ba_input.specs.Inputs.{IsInput, RowsOfTables}
 use Rattle.ba_input.specs.Published.{IsSetOf}
-use Rattle.ba_input.specs.Reading.{Names, ProofNames, check_plan, policy_and_proof_plan, policy_plan, proof_plan, proof_reading_of, published_plan, reading_of, rest_plan, rows_plan, run_plan, script_plan, set_plan, sets_plan, table_plan, tables_plan, workload_plan, workload_reading}
+use Rattle.ba_input.specs.Reading.{Gathered, Names, ProofNames, check_plan, command_plan, gathered, load_plan, loading, plan_at, policy_and_proof_plan, policy_plan, proof_plan, proof_reading_of, published_plan, reading_of, ready, rest_plan, rows_plan, script_plan, served_plan, set_plan, sets_plan, table_plan, tables_plan, workload_plan, workload_reading}
+use Rattle.ba_input.specs.Reads.{Comes, Finds, Reads, run_with}
 use Rattle.ba_input.specs.Refusals.{broken_refusal, ddl_refusal, policy_refusal}
 use Rattle.ba_input.specs.declared.input.Input.{Input}
 use Rattle.ba_wire.specs.declared.fault.Fault.{Fault}
+use Rattle.ba_wire.specs.declared.fault.Fault.TheVariants.{Words}
+use Rattle.ba_input.specs.declared.task.Task.{Task}
 use Rattle.ba_input.specs.declared.task.Task.TheVariants as task
-use Rattle.ba_input.specs.declared.task.Told.TheVariants.{Lines, Summary}
+use Rattle.ba_input.specs.declared.task.Told.{Told}
+use Rattle.ba_input.specs.declared.task.Told.TheVariants.{Summary}
 
 -- what was read belongs together
 pub input_fits : (policy : Policy) (tables : TableSet) (script : Script) (sets : List TableSet) (workers budget : ℕ) → PolicyFits policy → IsSetOf policy.schema tables → IsScript policy.params script
@@ -58,8 +69,27 @@ input_fits policy tables script sets workers budget fits set is all count many f
   budget = few;
   tables_are = tables_are;
   rules = rules.fit;
-  none_loaded = refl;
+  loaded = All-nil (λ (it : kernel.Proof). it.problem.policy ≡ policy);
+  few_loaded = omega arith;
   one_order = refl;
+}
+
+-- the same with templates
+pub loaded_fits : (input : Input) (templates : List kernel.Proof) → IsInput input → All (λ it. it.problem.policy ≡ input.policy) templates → length templates ≤ most_templates → IsInput (record input { loaded = templates })
+loaded_fits input templates is all few = record {
+  policy = is.policy;
+  schema = is.schema;
+  conform = is.conform;
+  script = is.script;
+  sets = is.sets;
+  one_each = is.one_each;
+  workers = is.workers;
+  budget = is.budget;
+  tables_are = is.tables_are;
+  rules = is.rules;
+  loaded = all;
+  few_loaded = few;
+  one_order = is.one_order;
 }
 
 zip_end : {A B : Type 0} (R : A → B → Type 0) (xs : List A) (ys : List B) (x : A) (y : B) → AllZip R xs ys → R x y → AllZip R (xs ++ x ∷ []) (ys ++ y ∷ [])
@@ -223,12 +253,79 @@ proof_ok names bytes text schema policy s m n t r got read given is rest = inr (
 
 -- ---- the commands
 
--- the input, and then the run of it
-pub run_ok : (names : Names) (input : Input) (s t : FilesSeen) → Follows (reading_of names) s t (Ok input) → Follows (run_plan names) s t (Ok (task.Run input Lines))
-run_ok names input s t follows = then_ok (reading_of names) (λ z. done (task.Run z Lines)) s t t input (Ok (task.Run input Lines)) follows (refl, refl)
+-- the templates of a file were found, or why there are none
+pub loading_found : (told : Told) (file : List ℕ) (input : Input) (s t : FilesSeen) (templates : Result (List kernel.Proof) (Stop Fault)) → Finds input.policy file s t templates → Comes (load_plan told (Some file) input) s t (run_with input told templates)
+loading_found told file input s t (Ok templates) (inl missed) = absurd missed
+loading_found told file input s t (Err e) (inl missed) = record {
+  gave = Err e;
+  follows = inl missed;
+  becomes = refl;
+}
+loading_found told file input s t templates (inr (bytes, got, loaded)) = record {
+  gave = Ok (loading input told file bytes);
+  follows = inr (bytes, t, got, (refl, refl));
+  becomes = record { templates = templates; loaded = loaded; is = refl };
+}
 
-pub run_err : (names : Names) (s t : FilesSeen) (e : Stop Fault) → Follows (reading_of names) s t (Err e) → Follows (run_plan names) s t (Err e)
-run_err names s t e follows = then_err (reading_of names) (λ z. done (task.Run z Lines)) s t e follows
+-- the input, and then the run of it, with no file named
+pub served_none : (told : Told) (load : Option (List ℕ)) (names : Names) (input : Input) (s t : FilesSeen) → load ≡ None → Follows (reading_of names) s t (Ok input) → Comes (served_plan told load names) s t (Ok (task.Run input told))
+served_none told load names input s t none follows = subst (λ z. Comes (served_plan told z names) s t (Ok (task.Run input told))) (sym none) (record {
+  gave = Ok (ready (task.Run input told));
+  follows = then_ok (reading_of names) (load_plan told None) s t t input (Ok (ready (task.Run input told))) follows (refl, refl);
+  becomes = refl;
+})
+
+-- with one
+pub served_some : (told : Told) (load : Option (List ℕ)) (file : List ℕ) (names : Names) (input : Input) (s m t : FilesSeen) (r : Result Task (Stop Fault)) → load ≡ Some file → Follows (reading_of names) s m (Ok input) → Comes (load_plan told (Some file) input) m t r → Comes (served_plan told load names) s t r
+served_some told load file names input s m t r some follows rest = subst (λ z. Comes (served_plan told z names) s t r) (sym some) (record {
+  gave = rest.gave;
+  follows = then_ok (reading_of names) (load_plan told (Some file)) s m t input rest.gave follows rest.follows;
+  becomes = rest.becomes;
+})
+
+pub served_err : (told : Told) (load : Option (List ℕ)) (names : Names) (s t : FilesSeen) (e : Stop Fault) → Follows (reading_of names) s t (Err e) → Comes (served_plan told load names) s t (Err e)
+served_err told load names s t e follows = record {
+  gave = Err e;
+  follows = then_err (reading_of names) (load_plan told load) s t e follows;
+  becomes = refl;
+}
+
+-- a task that needs no templates
+pub comes_ready : (plan : Plan Fault Task) (s t : FilesSeen) (r : Result Task (Stop Fault)) → Follows plan s t r → Comes (gathered plan) s t r
+comes_ready plan s t (Ok it) follows = record {
+  gave = Ok (ready it);
+  follows = then_ok plan (λ z. done (ready z)) s t t it (Ok (ready it)) follows (refl, refl);
+  becomes = refl;
+}
+comes_ready plan s t (Err e) follows = record {
+  gave = Err e;
+  follows = then_err plan (λ z. done (ready z)) s t e follows;
+  becomes = refl;
+}
+
+-- a check, with the names of its files
+pub comes_check : (command : Command) (schema policy proof a b d : List ℕ) (s t : FilesSeen) (r : Result Task (Stop Fault)) → command ≡ Check schema policy proof → a ≡ schema → b ≡ policy → d ≡ proof → Follows (check_plan (record { schema = a; policy = b; proof = d })) s t r → Comes (command_plan command) s t r
+comes_check command schema policy proof a b d s t r is first second third follows =
+    let third_is = subst (λ z. Follows (check_plan (record { schema = a; policy = b; proof = z })) s t r) third follows in
+    let second_is = subst (λ z. Follows (check_plan (record { schema = a; policy = z; proof = proof })) s t r) second third_is in
+    let whole = subst (λ z. Follows (check_plan (record { schema = z; policy = policy; proof = proof })) s t r) first second_is in
+    subst (λ z. Comes (command_plan z) s t r) (sym is) (comes_ready (check_plan (record { schema = schema; policy = policy; proof = proof })) s t r whole)
+
+-- the words are a command's form
+pub reads_command : (words : List (List ℕ)) (command : Command) (s t : FilesSeen) (r : Result Task (Stop Fault)) → command_of words ≡ Ok command → Comes (command_plan command) s t r → Reads words s t r
+reads_command words command s t r is comes = subst (λ z. Comes (plan_at z) s t r) (sym is) comes
+
+-- they are none
+pub reads_no_form : (words : List (List ℕ)) (e : Failure WordsFault) (why : WordsFault) (s : FilesSeen) → e ≡ FailedBy why → Fails e (command_of words) → Reads words s s (Err (Refused Words))
+reads_no_form words e NoForm s is fails = subst (λ z. Comes (plan_at z) s s (Err (Refused Words))) (sym (subst (λ z. Fails z (command_of words)) is fails)) (record {
+  gave = Err (Refused Words);
+  follows = (refl, refl);
+  becomes = refl;
+})
+
+-- want of memory at once
+pub comes_memory : (plan : Plan Fault Gathered) (s : FilesSeen) → Comes plan s s (Err NoMemory)
+comes_memory plan s = record { gave = Err NoMemory; follows = memory_now plan s; becomes = refl }
 
 -- the proof, and then the check of it
 pub check_ok : (names : ProofNames) (proof : Proof) (s t : FilesSeen) → Follows (proof_reading_of names) s t (Ok proof) → Follows (check_plan names) s t (Ok (task.Check proof))

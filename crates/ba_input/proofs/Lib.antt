@@ -1,3 +1,4 @@
 pub mod InputLemmas
 pub mod WorkloadLemmas
+pub mod ReadsLemmas
 pub mod RefusalLemmas

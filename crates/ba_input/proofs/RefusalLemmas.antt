@@ -1,10 +1,10 @@
 -- A reading refuses words and what was read, and never for a file that can't be read.
-use Rattle.std.proofs.Common.{◌≡◌, inl, inr, subst, ℕ, List, [], ◌∷◌, ◌++◌, Bool, true, false, Some, Result, Ok, Err, length, cond, nat_lt}
+use Rattle.std.proofs.Common.{◌≡◌, ◌⊎◌, inl, inr, sym, subst, ℕ, List, [], ◌∷◌, ◌++◌, Bool, true, false, Option, Some, None, Result, Ok, Err, length, cond, nat_lt}
 use Rattle.std.specs.Prelude.{⊤, unwrap_or}
 use Rattle.std.specs.Option.{option_to_list}
 use Rattle.ba_command.specs.Words.{command_of}
 use Rattle.ba_command.specs.declared.command.Command.{Command}
-use Rattle.ba_command.specs.declared.command.Command.TheVariants.{Run, Check, Gen}
+use Rattle.ba_command.specs.declared.command.Command.TheVariants.{Run, Check, Gen, Store}
 use Rattle.ba_command.specs.declared.command.WordsFault.{WordsFault}
 use Rattle.ba_command.specs.declared.command.WordsFault.TheVariants.{NoForm}
 use Rattle.ba_lex.specs.declared.token.LexFault.{LexFault}
@@ -36,6 +36,8 @@ use Rattle.ba_script.specs.declared.fault.ScriptFault.TheVariants.{BadLine, TooM
 use Rattle.ba_sql_ddl.specs.Reading.{schema_of}
 use Rattle.ba_sql_ddl.specs.declared.fault.DdlFault.{DdlFault}
 use Rattle.ba_sql_ddl.specs.declared.fault.DdlFault.TheVariants as ddl
+use Rattle.ba_store.specs.declared.fault.StoreFault.{StoreFault}
+use Rattle.ba_store.specs.declared.fault.StoreFault.TheVariants as store
 use Rattle.ba_tables.specs.Checked.{checked}
 use Rattle.ba_tables.specs.TableFile.{rows_of_file}
 use Rattle.ba_tables.specs.TableSet.{TableSet}
@@ -43,12 +45,17 @@ use Rattle.ba_tables.specs.declared.broken.TablesFault.{TablesFault}
 use Rattle.ba_tables.specs.declared.broken.TablesFault.TheVariants.{KeyBroken, LinkBroken, RuleBroken}
 use Rattle.ba_tables.specs.declared.fault.TableFault.{TableFault}
 use Rattle.ba_tables.specs.declared.fault.TableFault.TheVariants as table_fault
+use Rattle.ba_input.proofs.ReadsLemmas.{OfTemplates, stopped}
 use Rattle.ba_input.specs.Path.{path_of}
-use Rattle.ba_input.specs.Reading.{Names, ProofNames, command_plan, file_of, over, plan_at, plan_of, policy_and_proof_plan, policy_plan, proof_plan, proof_reading_of, published_plan, reading_of, rest_plan, rows_plan, script_plan, set_plan, sets_plan, table_plan, tables_plan, workload_names, workload_plan, workload_reading}
-use Rattle.ba_input.specs.Refusals.{broken_refusal, ddl_refusal, lex_fault, policy_refusal, proof_refusal, schema_fault, script_refusal, table_refusal}
+use Rattle.ba_input.specs.Reading.{Names, ProofNames, check_plan, command_plan, file_of, gathered, load_plan, over, plan_at, plan_of, policy_and_proof_plan, policy_plan, proof_plan, proof_reading_of, published_plan, reading_of, ready, rest_plan, rows_plan, script_plan, served_plan, set_plan, sets_plan, table_plan, tables_plan, workload_names, workload_plan, workload_reading}
+use Rattle.ba_input.specs.Reads.{Reads}
+use Rattle.ba_input.specs.Refusals.{broken_refusal, ddl_refusal, lex_fault, policy_refusal, proof_refusal, schema_fault, script_refusal, table_refusal, template_refusal}
 use Rattle.ba_input.specs.Stops.{IsRefusal}
+use Rattle.ba_input.specs.declared.input.Input.{Input}
+use Rattle.ba_input.specs.declared.task.Task.{Task}
 use Rattle.ba_input.specs.declared.task.Task.TheVariants as task
-use Rattle.ba_input.specs.declared.task.Told.TheVariants.{Lines, Summary}
+use Rattle.ba_input.specs.declared.task.Told.{Told}
+use Rattle.ba_input.specs.declared.task.Told.TheVariants.{Lines, Summary, Templates}
 use Rattle.ba_workload.specs.Files.{bytes_in, files_of}
 use Rattle.ba_wire.specs.declared.fault.Fault.{Fault}
 use Rattle.ba_wire.specs.declared.fault.Fault.TheVariants as fault
@@ -143,6 +150,14 @@ proof_is file proof_fault.BadJson = tt
 proof_is file proof_fault.TooLong = tt
 proof_is file (proof_fault.BadField field) = tt
 
+template_is : (file : List ℕ) (e : StoreFault) → IsRefusal (template_refusal file e)
+unfolding template_refusal
+template_is file (store.TooMany limit) = tt
+template_is file (store.Json line) = tt
+template_is file (store.Field line field) = tt
+template_is file (store.NotShown line step it) = tt
+template_is file (store.StillOpen line branches) = tt
+
 -- ---- a run
 
 table_refuses : (set : List ℕ) (table : Table) → Refuses (table_plan set table)
@@ -216,19 +231,35 @@ proof_refuses names = λ bytes.
     then_refuses (found (widened (policy_refusal names.policy) (policy_of schema text))) (proof_plan names.proof) (found_refuses (policy_refusal names.policy) (policy_of schema text) (policy_is names.policy))
     (λ policy it. found_refuses (proof_refusal names.proof) (proof_of policy it) (proof_is names.proof)))
 
+load_refuses : (told : Told) (load : Option (List ℕ)) (input : Input) → Refuses (load_plan told load input)
+load_refuses told None input = tt
+load_refuses told (Some file) input = λ bytes. tt
+
+served_refuses : (told : Told) (load : Option (List ℕ)) (names : Names) → Refuses (served_plan told load names)
+served_refuses told load names = then_refuses (reading_of names) (load_plan told load) (reading_refuses names) (load_refuses told load)
+
+gathered_refuses : (plan : Plan Fault Task) → Refuses plan → Refuses (gathered plan)
+gathered_refuses plan h = then_refuses plan (λ it. done (ready it)) h (λ it. tt)
+
+check_refuses : (names : ProofNames) → Refuses (check_plan names)
+check_refuses names = then_refuses (proof_reading_of names) (λ it. done (task.Check it)) (proof_refuses names) (λ it. tt)
+
 command_refuses : (command : Command) → Refuses (command_plan command)
-command_refuses (Run schema policy tables script workers budget) =
-    let names : Names = record { schema = schema; policy = policy; tables = tables; script = script; workers = workers; budget = budget } in
-    then_refuses (reading_of names) (λ input. done (task.Run input Lines)) (reading_refuses names) (λ input. tt)
-command_refuses (Gen seed requests workers print) = workload_refuses seed requests workers print
+command_refuses (Run schema policy tables script load workers budget) = served_refuses Lines load (record { schema = schema; policy = policy; tables = tables; script = script; workers = workers; budget = budget })
+command_refuses (Store schema policy tables script workers budget) = served_refuses Templates None (record { schema = schema; policy = policy; tables = tables; script = script; workers = workers; budget = budget })
+command_refuses (Gen seed requests workers print) = gathered_refuses (workload_plan seed requests workers print) (workload_refuses seed requests workers print)
 command_refuses (Check schema policy proof) =
     let names : ProofNames = record { schema = schema; policy = policy; proof = proof } in
-    then_refuses (proof_reading_of names) (λ it. done (task.Check it)) (proof_refuses names) (λ it. tt)
+    gathered_refuses (check_plan names) (check_refuses names)
 
 plan_refuses : (command : Result Command WordsFault) → Refuses (plan_at command)
 plan_refuses (Err NoForm) = tt
 plan_refuses (Ok command) = command_refuses command
 
 -- what the words or the files are refused with isn't that a file can't be read
-pub refused_is : (words : List (List ℕ)) (f g : FilesSeen) (e : Fault) → Follows (plan_of words) f g (Err (Refused e)) → IsRefusal e
-refused_is words f g e follows = refused_one (plan_of words) f g e (plan_refuses (command_of words)) follows
+pub refused_is : (words : List (List ℕ)) (f g : FilesSeen) (e : Fault) → Reads words f g (Err (Refused e)) → IsRefusal e
+refused_is words f g e reads = by (stopped (plan_of words) f g (Refused e) reads.gave reads.follows reads.becomes)
+  where
+    by : Follows (plan_of words) f g (Err (Refused e)) ⊎ OfTemplates (Refused e) → IsRefusal e
+    by (inl follows) = refused_one (plan_of words) f g e (plan_refuses (command_of words)) follows
+    by (inr (file, why, is)) = subst IsRefusal (sym is) (template_is file why)

@@ -1,9 +1,9 @@
 -- What a run is given.
-use Rattle.std.specs.Prelude.{◌≡◌, ◌<◌, ◌≤◌, List, [], All, length}
+use Rattle.std.specs.Prelude.{◌≡◌, ◌<◌, ◌≤◌, List, All, length}
 use Rattle.std.specs.List.{AllZip}
 use Rattle.ba_model.specs.Conform.{Conforms, RowFits}
 use Rattle.ba_model.specs.Fit.{PolicyFits}
-use Rattle.ba_model.specs.Limits.{most_budget, most_workers}
+use Rattle.ba_model.specs.Limits.{most_budget, most_templates, most_workers}
 use Rattle.ba_model.specs.RuleFaults.{RuleFits}
 use Rattle.ba_model.specs.SchemaFaults.{AreTables}
 use Rattle.ba_model.specs.declared.schema.Table.{Table}
@@ -20,8 +20,8 @@ RowsOfTables tables lists = AllZip (λ table list. All (RowFits table) list) tab
 
 -- The input belongs together: the policy fits its schema, which is well formed, the tables are of
 -- that schema and conform to it, the script is one for the policy's parameters, there is a table set
--- for each of its publish lines, of that schema too, and the workers and the budget are within their
--- limits. No template is loaded, and a search is made in one order.
+-- for each of its publish lines, of that schema too, the templates to begin with are of the policy,
+-- and they, the workers and the budget are within their limits. A search is made in one order.
 pub record IsInput (input : Input) : Type 0 where
   pub policy : PolicyFits input.policy
   pub schema : input.tables.schema ≡ input.policy.schema
@@ -33,7 +33,8 @@ pub record IsInput (input : Input) : Type 0 where
   pub budget : input.budget ≤ most_budget
   pub tables_are : AreTables input.policy.schema.tables
   pub rules : All (RuleFits input.policy.schema) input.policy.schema.rules
-  pub none_loaded : input.loaded ≡ []
+  pub loaded : All (λ it. it.problem.policy ≡ input.policy) input.loaded
+  pub few_loaded : length input.loaded ≤ most_templates
   pub one_order : input.orders ≡ 1
 
 -- how a question's proof is searched for in a run

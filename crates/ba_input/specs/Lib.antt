@@ -5,4 +5,5 @@ pub mod Path
 pub mod Refusals
 pub mod Stops
 pub mod Reading
+pub mod Reads
 pub mod Causes

@@ -3,7 +3,7 @@ use Rattle.std.specs.Prelude.{ℕ, List, [], ◌∷◌, ◌++◌, Bool, true, fa
 use Rattle.std.specs.Option.{option_to_list}
 use Rattle.ba_command.specs.Words.{command_of}
 use Rattle.ba_command.specs.declared.command.Command.{Command}
-use Rattle.ba_command.specs.declared.command.Command.TheVariants.{Run, Check, Gen}
+use Rattle.ba_command.specs.declared.command.Command.TheVariants.{Run, Check, Gen, Store}
 use Rattle.ba_command.specs.declared.command.WordsFault.{WordsFault}
 use Rattle.ba_command.specs.declared.command.WordsFault.TheVariants.{NoForm}
 use Rattle.ba_model.specs.Readings.{widened}
@@ -32,7 +32,8 @@ use Rattle.ba_wire.specs.declared.fault.Fault.{Fault}
 use Rattle.ba_wire.specs.declared.fault.Fault.TheVariants.{Limit, Words}
 use Rattle.ba_input.specs.declared.task.Task.{Task}
 use Rattle.ba_input.specs.declared.task.Task.TheVariants as task
-use Rattle.ba_input.specs.declared.task.Told.TheVariants.{Lines, Summary}
+use Rattle.ba_input.specs.declared.task.Told.{Told}
+use Rattle.ba_input.specs.declared.task.Told.TheVariants.{Lines, Summary, Templates}
 use Rattle.ba_workload.specs.Files.{bytes_in, files_of}
 use Rattle.ba_workload.specs.Requests.{script_text}
 
@@ -157,10 +158,30 @@ proof_reading_of names = do
 
 -- ---- the commands
 
-abbrev pub run_plan : Names → Plan Fault Task
-run_plan names = do
+-- What the files give: a task; or one that is whole once the input has its templates, those that the
+-- bytes of a file come to. Whether steps are accepted is no function of bytes, so that is said behind
+-- the plan (Becomes of Reads).
+pub data Gathered : Type 0 where
+  ready : Task → Gathered
+  loading : Input → Told → (file bytes : List ℕ) → Gathered
+
+abbrev pub gathered : Plan Fault Task → Plan Fault Gathered
+gathered plan = do
+  it ← plan
+  done (ready it)
+
+-- the file of the templates, if one is named: the last that is asked for
+abbrev pub load_plan : Told → Option (List ℕ) → Input → Plan Fault Gathered
+load_plan told None input = done (ready (task.Run input told))
+load_plan told (Some file) input = do
+  bytes ← file_of file
+  done (loading input told file bytes)
+
+-- a script that is served, and told so
+abbrev pub served_plan : Told → Option (List ℕ) → Names → Plan Fault Gathered
+served_plan told load names = do
   input ← reading_of names
-  done (task.Run input Lines)
+  load_plan told load input
 
 -- a workload is run, or its script is printed
 abbrev pub workload_plan : ℕ → ℕ → ℕ → Bool → Plan Fault Task
@@ -174,15 +195,16 @@ check_plan names = do
   proof ← proof_reading_of names
   done (task.Check proof)
 
-abbrev pub command_plan : Command → Plan Fault Task
-command_plan (Run schema policy tables script workers budget) = run_plan (record { schema = schema; policy = policy; tables = tables; script = script; workers = workers; budget = budget })
-command_plan (Gen seed requests workers print) = workload_plan seed requests workers print
-command_plan (Check schema policy proof) = check_plan (record { schema = schema; policy = policy; proof = proof })
+abbrev pub command_plan : Command → Plan Fault Gathered
+command_plan (Run schema policy tables script load workers budget) = served_plan Lines load (record { schema = schema; policy = policy; tables = tables; script = script; workers = workers; budget = budget })
+command_plan (Store schema policy tables script workers budget) = served_plan Templates None (record { schema = schema; policy = policy; tables = tables; script = script; workers = workers; budget = budget })
+command_plan (Gen seed requests workers print) = gathered (workload_plan seed requests workers print)
+command_plan (Check schema policy proof) = gathered (check_plan (record { schema = schema; policy = policy; proof = proof }))
 
-abbrev pub plan_at : Result Command WordsFault → Plan Fault Task
+abbrev pub plan_at : Result Command WordsFault → Plan Fault Gathered
 plan_at (Err NoForm) = refuse Words
 plan_at (Ok command) = command_plan command
 
 -- the plan of the words
-abbrev pub plan_of : List (List ℕ) → Plan Fault Task
+abbrev pub plan_of : List (List ℕ) → Plan Fault Gathered
 plan_of words = plan_at (command_of words)

@@ -20,6 +20,9 @@ use Rattle.ba_sql_ddl.specs.declared.fault.DdlFault.{DdlFault}
 use Rattle.ba_sql_ddl.specs.declared.fault.DdlFault.TheVariants as ddl
 use Rattle.ba_sql_query.specs.declared.fault.ReadQueryFault.{ReadQueryFault}
 use Rattle.ba_sql_query.specs.declared.fault.ReadQueryFault.TheVariants as query
+use Rattle.ba_store.specs.Shapes.{field_name as template_field_name}
+use Rattle.ba_store.specs.declared.fault.StoreFault.{StoreFault}
+use Rattle.ba_store.specs.declared.fault.StoreFault.TheVariants as store
 use Rattle.ba_tables.specs.declared.broken.TablesFault.{TablesFault}
 use Rattle.ba_tables.specs.declared.broken.TablesFault.TheVariants.{KeyBroken, LinkBroken, RuleBroken}
 use Rattle.ba_tables.specs.declared.fault.TableFault.{TableFault}
@@ -28,6 +31,8 @@ use Rattle.ba_input.specs.Path.{path_of}
 use Rattle.ba_wire.specs.declared.fault.Fault.{Fault}
 use Rattle.ba_wire.specs.declared.fault.Fault.TheVariants.{Input, Limit}
 use Rattle.ba_wire.specs.declared.fault.Reason.TheVariants as reason
+use Rattle.ba_wire.specs.declared.fault.TemplateFault.{TemplateFault}
+use Rattle.ba_wire.specs.declared.fault.TemplateFault.TheVariants as template
 
 -- a fault that query texts have too
 abbrev pub text_fault : List ℕ → ReadQueryFault → Fault
@@ -111,3 +116,16 @@ unfoldable pub proof_refusal : List ℕ → ProofFault → Fault
 proof_refusal file proof.BadJson = Input file reason.Json
 proof_refusal file proof.TooLong = Limit what.Steps most_steps
 proof_refusal file (proof.BadField field) = Input file (reason.Field (field_name field))
+
+-- ---- templates
+
+-- a line of a template file that is none, which is told of its number
+abbrev pub template_fault : List ℕ → ℕ → TemplateFault → Fault
+template_fault file line why = Input file (reason.Template line why)
+
+unfoldable pub template_refusal : List ℕ → StoreFault → Fault
+template_refusal file (store.TooMany limit) = Limit what.Templates limit
+template_refusal file (store.Json line) = template_fault file line template.Json
+template_refusal file (store.Field line field) = template_fault file line (template.Field (template_field_name field))
+template_refusal file (store.NotShown line step fault) = template_fault file line (template.NotShown step fault)
+template_refusal file (store.StillOpen line branches) = template_fault file line (template.StillOpen branches)

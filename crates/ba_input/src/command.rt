@@ -1,26 +1,45 @@
 //! Reads what the words of a command name.
-ghost use Rattle.std.specs.Prelude.{◌<◌, ◌≤◌, IfOk, IfSome, map, string_bytes};
+ghost use Rattle.std.specs.Prelude.{◌≡◌, ◌<◌, ◌≤◌, IfOk, IfSome, map, string_bytes};
+ghost use Rattle.std.specs.Option.{option_copied};
 ghost use Rattle.ba_command.specs.Words.{budget_of, workers_of};
 ghost use Rattle.ba_model.specs.Limits.{most_budget, most_workers};
-ghost use Rattle.ba_plan.specs.Follows.{Follows};
-ghost use Rattle.ba_input.specs.Reading.{command_plan, plan_of, run_plan};
+ghost use Rattle.ba_input.specs.Reading.{command_plan, served_plan};
+ghost use Rattle.ba_input.specs.Reads.{Comes, Reads};
 ghost use Rattle.ba_input.specs.Tasks.{IsTask};
 
 use crate::proof_input::{NamedProof, read_check};
 use crate::run_input::{Named, read_named};
 use crate::task::{Task, Told};
+use crate::template_input::read_loading;
 use crate::workload::read_workload;
 use ba_command::{Command, WordsFault, read_words};
-use ba_model::Failure;
+use ba_model::{Failure, Str};
 use ba_outside::Files;
 use ba_plan::Stop;
 use ba_wire::Fault;
 use std::alloc::Global;
 
-fn read_run<F: Files>(alloc: Global, files: &mut F, named: &Named<'_>) -> Result<Task, Stop<Fault>>
+// The name of the file of templates, if there is one.
+fn name_of(load: &Option<Str>) -> Option<&str>
+    ensures { option_copied result ≡ load.now }
+{
+    match load {
+        Some(file) => Some(file.as_str()),
+        None => None,
+    }
+}
+
+// A script that is served, and told so; to begin with the templates of a file, if one is named.
+fn read_served<F: Files>(
+    alloc: Global,
+    files: &mut F,
+    named: &Named<'_>,
+    load: Option<&str>,
+    told: Told,
+) -> Result<Task, Stop<Fault>>
     requires workers { (0 < named.now.workers) × (named.now.workers ≤ most_workers) }
     requires budget { named.now.budget ≤ most_budget }
-    ensures follows { Follows (run_plan (record {
+    ensures comes { Comes (served_plan told (option_copied load.entry) (record {
       schema = named.now.schema.now;
       policy = named.now.policy.now;
       tables = named.now.tables.now;
@@ -32,7 +51,10 @@ fn read_run<F: Files>(alloc: Global, files: &mut F, named: &Named<'_>) -> Result
     ensures task { IfOk result IsTask }
 {
     let input = read_named(alloc, files, named)?;
-    Ok(Task::Run(input, Told::Lines))
+    match load {
+        Some(file) => read_loading(alloc, files, input, told, file),
+        None => Ok(Task::Run(input, told)),
+    }
 }
 
 fn read_command<F: Files>(
@@ -42,12 +64,31 @@ fn read_command<F: Files>(
 ) -> Result<Task, Stop<Fault>>
     requires workers { IfSome (workers_of command.now) (λ n. (0 < n) × (n ≤ most_workers)) }
     requires budget { budget_of command.now ≤ most_budget }
-    ensures follows { Follows (command_plan command.now)
+    ensures comes { Comes (command_plan command.now)
         (F.seen files.old) (F.seen files.new) result }
     ensures task { IfOk result IsTask }
 {
     match command {
         Command::Run {
+            schema,
+            policy,
+            tables,
+            script,
+            load,
+            workers,
+            budget,
+        } => {
+            let named = Named {
+                schema: schema.as_str(),
+                policy: policy.as_str(),
+                tables: tables.as_str(),
+                script: script.as_str(),
+                workers: *workers,
+                budget: *budget,
+            };
+            read_served(alloc, files, &named, name_of(load), Told::Lines)
+        }
+        Command::Store {
             schema,
             policy,
             tables,
@@ -63,7 +104,7 @@ fn read_command<F: Files>(
                 workers: *workers,
                 budget: *budget,
             };
-            read_run(alloc, files, &named)
+            read_served(alloc, files, &named, None, Told::Templates)
         }
         Command::Gen {
             seed,
@@ -87,18 +128,19 @@ fn read_command<F: Files>(
 }
 
 /// Reads what the words name, and the table sets that a script publishes: file by file, in order, up
-/// to the first fault. What was read belongs together.
+/// to the first fault. The file of templates, if the words name one, is the last; nothing in it is
+/// believed, and each template's steps are taken anew. What was read belongs together.
 ///
 /// # Errors
 /// `Refused` where the words are no command's form, a file has no reading, rows break a key or a link,
-/// or a count is above its limit: never with [`Fault::Read`]. `Read` and `TooLong` name the file that
+/// a template isn't proved, or a count is above its limit: never with [`Fault::Read`]. `Read` and `TooLong` name the file that
 /// was asked for last. `NoMemory` may come at any point.
 pub fn read_task<F: Files>(
     alloc: Global,
     words: &[String],
     files: &mut F,
 ) -> Result<Task, Stop<Fault>>
-    ensures follows { Follows (plan_of (map string_bytes words.now))
+    ensures reads { Reads (map string_bytes words.now)
         (F.seen files.old) (F.seen files.new) result }
     ensures task { IfOk result IsTask }
 {

@@ -17,7 +17,8 @@ pub struct Input {
     pub workers: u32,
     /// How many steps the search for a question's proof may take.
     pub budget: u32,
-    /// The templates that the shelves have before the first line is served. No command loads any.
+    /// The templates of the file that the words name, in its order: with these the shelves begin. None
+    /// where no file is named.
     pub loaded: List<Shared<Template>>,
     /// In how many orders of its due steps a proof is searched for, side by side: in one.
     pub orders: u32,

@@ -8,6 +8,7 @@ mod proof_input;
 mod refusal;
 mod run_input;
 mod task;
+mod template_input;
 mod workload;
 
 pub use command::read_task;

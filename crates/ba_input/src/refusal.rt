@@ -3,7 +3,7 @@ ghost use Rattle.std.specs.Prelude.{◌≡◌, Err, IfOk, string_bytes};
 ghost use Rattle.ba_plan.specs.Follows.{Gives};
 ghost use Rattle.ba_input.specs.Path.{path_of};
 ghost use Rattle.ba_input.specs.Stops.{fault_of};
-ghost use Rattle.ba_input.specs.Refusals.{broken_refusal, ddl_refusal, file_of_table, lex_fault, policy_refusal, proof_refusal, read_fault, schema_fault, script_refusal, table_refusal, text_fault};
+ghost use Rattle.ba_input.specs.Refusals.{broken_refusal, ddl_refusal, file_of_table, lex_fault, policy_refusal, proof_refusal, read_fault, schema_fault, script_refusal, table_refusal, template_fault, template_refusal, text_fault};
 
 use ba_lex::LexFault;
 use ba_model::{Counted, MAX_STEPS, MAX_TEXT_BYTES, QueryFault, Schema, SchemaFault, Str};
@@ -13,8 +13,9 @@ use ba_proof::ProofFault;
 use ba_script::ScriptFault;
 use ba_sql_ddl::DdlFault;
 use ba_sql_query::ReadQueryFault;
+use ba_store::StoreFault;
 use ba_tables::{TableFault, TablesFault};
-use ba_wire::{Fault, Reason};
+use ba_wire::{Fault, Reason, TemplateFault};
 use std::alloc::{AllocError, Global};
 
 /// The fault that is told of a reading that stopped, in the run's one line: why the words or what was
@@ -228,5 +229,47 @@ pub(crate) fn proof_refusal(
                 reason: Reason::Field { name },
             })
         }
+    }
+}
+
+// A line of a template file that is none, which is told of its number.
+fn template_fault(file: Str, line: u64, reason: TemplateFault) -> Fault
+    ensures { result ≡ template_fault file line reason }
+{
+    Fault::Input {
+        file,
+        reason: Reason::Template { line, reason },
+    }
+}
+
+/// A template file's fault.
+#[tactic(auto, unfolding(crate::specs::Refusals::template_refusal))]
+pub(crate) fn template_refusal(
+    alloc: Global,
+    file: Str,
+    fault: StoreFault,
+) -> Result<Fault, AllocError>
+    ensures { IfOk result (λ refusal. refusal ≡ template_refusal file fault) }
+{
+    match fault {
+        StoreFault::TooMany { limit } => Ok(Fault::Limit {
+            what: Counted::Templates,
+            limit,
+        }),
+        StoreFault::Json(line) => Ok(template_fault(file, line, TemplateFault::Json)),
+        StoreFault::Field(line, field) => {
+            let name = Str::new(alloc, field.name())?;
+            Ok(template_fault(file, line, TemplateFault::Field { name }))
+        }
+        StoreFault::NotShown(line, step, fault) => Ok(template_fault(
+            file,
+            line,
+            TemplateFault::NotShown { step, fault },
+        )),
+        StoreFault::StillOpen(line, branches) => Ok(template_fault(
+            file,
+            line,
+            TemplateFault::StillOpen { branches },
+        )),
     }
 }

@@ -272,6 +272,7 @@ fn read_published<F: Files>(
     ensures follows { Follows (published_plan workers budget policy tables script)
         (F.seen files.old) (F.seen files.new) result }
     ensures input { IfOk result IsInput }
+    ensures rules { IfOk result (λ input. AreRules input.policy.schema) }
 {
     let published = read_sets(alloc, files, &policy.schema, script.entries.as_slice())?;
     let loaded = List::new(alloc);
@@ -306,6 +307,7 @@ fn read_rest<F: Files>(
     ensures follows { Follows (script_plan name.now workers budget policy tables)
         (F.seen files.old) (F.seen files.new) result }
     ensures input { IfOk result IsInput }
+    ensures rules { IfOk result (λ input. AreRules input.policy.schema) }
 {
     let bytes = read_file(alloc, files, name, MAX_FILE_BYTES)?;
     let script = script_at(alloc, name, &policy.params, &bytes)?;
@@ -329,6 +331,7 @@ pub(crate) fn read_named<F: Files>(
     }))
         (F.seen files.old) (F.seen files.new) result }
     ensures input { IfOk result IsInput }
+    ensures rules { IfOk result (λ input. AreRules input.policy.schema) }
 {
     let bytes = read_file(alloc, files, named.schema, MAX_FILE_BYTES)?;
     let schema = schema_at(alloc, named.schema, &bytes)?;

@@ -11,6 +11,8 @@ pub enum Told {
     Lines,
     /// The summary alone.
     Summary,
+    /// The templates that the shelves are left with, a line for each, and nothing else.
+    Templates,
 }
 
 /// What is done, with what was read for it.

@@ -1,12 +1,15 @@
 -- The history that the passes of all lanes leave, once they were split off one pass and joined into it.
-use Rattle.std.proofs.Common.{◌≡◌, ◌≢◌, ◌∙◌, refl, sym, ap, subst, ℕ, suc, zero, ◌+◌, ◌<◌, ◌≤◌, ◌==◌, ◌⊎◌, inl, inr, Bool, true, false, List, [], ◌∷◌, ◌++◌, length, map, filter, cond, get_or, arith}
+use mathlib.Core.List.{IsPrefix, map-append}
+use Rattle.std.proofs.Common.{◌≡◌, ◌≢◌, ◌∙◌, refl, sym, ap, subst, ℕ, suc, zero, ◌+◌, ◌<◌, ◌≤◌, ◌==◌, ◌⊎◌, inl, inr, Bool, true, false, List, [], ◌∷◌, ◌++◌, length, map, filter, cond, get_or, append-nil, append_assoc, length-append, arith}
 use Rattle.std.proofs.lemmas.Bool.{eqb-false, eqb-true}
+use Rattle.std.proofs.lemmas.List.{length-map}
 use Rattle.std.proofs.lemmas.List.Elements.{All-cons, All-head, All-nil, All-tail}
 use Rattle.std.specs.Prelude.{All, Contains, nat_le}
 use Rattle.ba_lanes.specs.Lanes.{AreOfLanes, HasJoined, HasSplit, SeesFirst, by_opening}
 use Rattle.ba_lanes.proofs.LineLemmas.{differ_false, same_true}
 use Rattle.ba_turn.specs.History.{HasCalls, calls_by, entry_of, longer_of, number_of}
-use Rattle.ba_turn.specs.Knowing.{HasAllCalls, SumsToAllowance, after_join, after_split, opening_known}
+use Rattle.ba_turn.specs.Knowing.{HasAllCalls, SumsToAllowance, after_join, after_split, opening_known, split_known}
+use Rattle.ba_turn.specs.Passes.{MakesCall}
 use Rattle.ba_turn.specs.declared.known.Known.{Known}
 
 -- ---- elements
@@ -129,12 +132,95 @@ module _ {E : Type 0} where
       by true = (y, b_is)
       by false = (x, a_is)
 
+-- the pass that was split off has seen them, and sees them still once it has seen more
+pub sees_split : {S E : Type 0} (opening : List E) (splits a : ℕ) (v w : Known S E) → HasSplit opening splits v → w ≡ split_known a v → SeesFirst opening w
+sees_split opening splits a v w h is = subst (SeesFirst opening) (sym is) (record { others = h.first.others; seen = h.first.seen })
+
+pub sees_still : {S E : Type 0} (opening : List E) (v w : Known S E) → SeesFirst opening v → IsPrefix v.seen w.seen → SeesFirst opening w
+sees_still opening v w h more = record {
+  others = h.others ++ more.0;
+  seen = sym more.1 ∙ ap (λ z. z ++ more.0) h.seen ∙ append_assoc (by_opening opening) h.others more.0;
+}
+
 -- where the opening pass made none, each pass has seen them
 pub sees_none : {S E : Type 0} (v : Known S E) → SeesFirst [] v
 sees_none v = record { others = v.seen; seen = refl }
 
 sees_joined : {S E : Type 0} (opening : List E) (v o : Known S E) → SeesFirst opening v → SeesFirst opening o → SeesFirst opening (after_join v o)
 sees_joined opening v o a b = let it = longer_first opening v.seen o.seen a.others b.others a.seen b.seen in record { others = it.0; seen = it.1 }
+
+-- ---- the opening pass alone
+
+-- What the opening pass knows once it has made these calls, before it splits off any pass: they are all that it has seen.
+pub record IsAlone {S E : Type 0} (opening : List E) (allowance : ℕ) (v : Known S E) : Type 0 where
+  pub number : v.number ≡ 0
+  pub splits : v.splits ≡ 0
+  pub joined : v.joined ≡ []
+  pub made : v.made ≡ opening
+  pub seen : v.seen ≡ by_opening opening
+  pub left : v.left + length opening ≡ allowance
+  pub allowance_is : v.allowance ≡ allowance
+
+pub alone_first : {S E : Type 0} (start : S) (allowance : ℕ) (v : Known S E) → v ≡ opening_known start allowance → IsAlone [] allowance v
+alone_first start allowance v is =
+    subst (IsAlone [] allowance) (sym is) (record { number = refl; splits = refl; joined = refl; made = refl; seen = refl; left = omega arith; allowance_is = refl })
+
+nothing_else : {X : Type 0} (xs : List X) → length xs ≡ 0 → xs ≡ []
+nothing_else [] e = refl
+nothing_else (x ∷ xs) e = absurd (omega (arith, e))
+
+-- one call more: no other stands between it and the earlier ones, since what is left and what was called sum to the allowance
+pub alone_more : {S E : Type 0} (opening : List E) (allowance : ℕ) (v w : Known S E) (e : E) → IsAlone opening allowance v → MakesCall v w e → IsAlone (opening ++ e ∷ []) allowance w
+alone_more {S} {E} opening allowance v w e h call = record {
+  number = call.number ∙ h.number;
+  splits = call.splits ∙ h.splits;
+  joined = call.joined ∙ h.joined;
+  made = call.made ∙ ap (λ z. z ++ e ∷ []) h.made;
+  seen = last
+      ∙ ap (λ z. z ++ (v.number, e) ∷ []) (sym front ∙ ap (λ z. v.seen ++ z) (nothing_else rest none) ∙ append-nil v.seen ∙ h.seen)
+      ∙ ap (λ n. by_opening opening ++ (n, e) ∷ []) h.number ∙ sym (map-append (λ c. (0, c)) opening (e ∷ []));
+  left = omega (arith, before, spent, long);
+  allowance_is = call.allowance ∙ h.allowance_is;
+}
+  where
+    between : List (ℕ × E)
+    between = call.seen.0
+
+    rest : List (ℕ × E)
+    rest = call.seen.1.0
+
+    front : v.seen ++ rest ≡ between
+    front = call.seen.1.1
+
+    last : w.seen ≡ between ++ (v.number, e) ∷ []
+    last = call.seen.2
+
+    before : v.left + length opening ≡ allowance
+    before = h.left
+
+    spent : w.left + 1 ≡ v.left
+    spent = call.left
+
+    long : length (opening ++ e ∷ []) ≡ length opening + 1
+    long = length-append opening (e ∷ [])
+
+    none : length rest ≡ 0
+    none =
+        let sums : w.left + length w.seen ≡ allowance =
+        call.sums (call.number ∙ h.number) (call.splits ∙ h.splits ∙ sym (ap length (call.joined ∙ h.joined))) ∙ call.allowance ∙ h.allowance_is in
+        let all : length w.seen ≡ length between + 1 = ap length last ∙ length-append between ((v.number, e) ∷ []) in
+        let parts : length between ≡ length v.seen + length rest = sym (ap length front) ∙ length-append v.seen rest in
+        let earlier : length v.seen ≡ length opening = ap length h.seen ∙ length-map opening (λ c. (0, c)) in
+        omega (arith, before, spent, sums, all, parts, earlier)
+
+pub alone_split : {S E : Type 0} (opening : List E) (allowance : ℕ) (v : Known S E) → IsAlone opening allowance v → HasSplit opening 0 v
+alone_split opening allowance v h = record {
+  number = h.number;
+  splits_are = h.splits;
+  made = h.made;
+  joined = h.joined;
+  first = record { others = []; seen = h.seen ∙ sym (append-nil (by_opening opening)) };
+}
 
 -- ---- splits and joins
 

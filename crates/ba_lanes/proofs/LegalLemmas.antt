@@ -18,7 +18,7 @@ use Rattle.ba_versions.specs.Reads.{opening_of}
 module _ (input : Input) (service : Service) (entries_of : ℕ → List Entry) (p : Passes) (gathered : AreGathered input entries_of p) where
   -- the passes have come back
   pub whole : AreOf service p → AreWhole service p
-  whole of = are_whole service input.workers gathered.done p gathered.joined gathered.sums of
+  whole of = are_whole service gathered.loads input.workers gathered.done p gathered.joined gathered.sums of
 
   pub legal : IsInput input → (entries : List Entry) → AreMerged input entries_of entries → (closed : Closed) → AreClosed service p closed → opening_of (start_of service.versions) ≡ input.tables →
       (journal : Journal) → journal.entries ≡ entries → journal.histories ≡ closed → Legal input journal
@@ -26,11 +26,13 @@ module _ (input : Input) (service : Service) (entries_of : ℕ → List Entry) (
       let some = is.workers.0 in
       let all = all_lines input some gathered.done gathered.lines in record {
         input_fits = is;
+        loads = gathered.loads;
+        loaded = gathered.loaded;
         served = all.its;
         entries = entries_are ∙ all_entries input some gathered.done gathered.lines entries_of entries merged gathered.entries;
         lines = all.served;
         versions = subst (HasVersions input all.its) (sym histories_are)
-            (has_versions service input.workers gathered.done p gathered.joined input refl all.its (λ k low. sym (all.each k low)) closed is_closed opening);
-        shelves = subst (HasShelves input all.its) (sym histories_are)
-            (has_shelves service input.workers gathered.done p gathered.joined input refl all.its (λ k low. sym (all.each k low)) closed is_closed opening);
+            (has_versions service gathered.loads input.workers gathered.done p gathered.joined input refl all.its (λ k low. sym (all.each k low)) closed is_closed opening);
+        shelves = subst (HasShelves input gathered.loads all.its) (sym histories_are)
+            (has_shelves service gathered.loads input.workers gathered.done p gathered.joined input refl all.its (λ k low. sym (all.each k low)) closed is_closed opening);
       }

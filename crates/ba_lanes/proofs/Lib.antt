@@ -5,6 +5,7 @@ pub mod PublishedLemmas
 pub mod LaneLemmas
 pub mod ServeLemmas
 pub mod MergeLemmas
+pub mod LoadLemmas
 pub mod HistoryLemmas
 pub mod WorkLemmas
 pub mod LegalLemmas

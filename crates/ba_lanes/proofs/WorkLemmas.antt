@@ -4,17 +4,17 @@ use Rattle.std.proofs.Math.ListN.{get_or-append}
 use Rattle.std.proofs.Math.Seq.{get_or-append_seam}
 use Rattle.std.proofs.lemmas.Bool.Decides.{nat_tests}
 use Rattle.std.proofs.lemmas.List.{take_all, take_more}
-use Rattle.std.specs.Prelude.{OnOk, nat_lt, slice_set}
+use Rattle.std.specs.Prelude.{IfOk, nat_lt, slice_set}
 use Rattle.ba_input.specs.declared.input.Input.{Input}
 use Rattle.ba_session.specs.Passing.{AreJoined, AreOf}
 use Rattle.ba_session.specs.declared.service.Passes.{Passes}
 use Rattle.ba_session.specs.declared.service.Service.{Service}
-use Rattle.ba_lanes.proofs.HistoryLemmas.{have_joined_more, have_joined_none, has_made, sum_up}
+use Rattle.ba_lanes.proofs.HistoryLemmas.{have_joined_more, have_joined_none, has_made, still_see, sum_up}
 use Rattle.ba_lanes.proofs.LineLemmas.{nothing_more, other_end, other_line, own_end, own_line, same_or_not}
 use Rattle.ba_lanes.specs.Lanes.{lines_of, of_lane}
-use Rattle.ba_lanes.specs.Legal.{LineDone}
-use Rattle.ba_lanes.specs.Serving.{AreUnused, HasDone, HasServed, HaveJoined, HaveSplit, IsDone, SumUp}
-use Rattle.ba_lanes.specs.Working.{AreGathered}
+use Rattle.ba_lanes.specs.Legal.{AreLoads, LineDone, Load}
+use Rattle.ba_lanes.specs.Serving.{AreUnused, HasDone, HasServed, HaveJoined, IsDone, SeeLoads, SeeMore, SumUp}
+use Rattle.ba_lanes.specs.Working.{AreGathered, AreSplitOff, IsWork}
 use Rattle.ba_lanes.specs.declared.lane.Lane.{Lane}
 use Rattle.ba_lanes.specs.declared.journal.Entry.{Entry}
 use Rattle.ba_lanes.specs.declared.work.Work.{Work}
@@ -183,35 +183,54 @@ get_any [] k d e low = absurd (omega (arith, low))
 get_any (x ∷ xs) zero d e low = refl
 get_any (x ∷ xs) (suc k) d e low = get_any xs k d e (omega (arith, low))
 
--- a call that went well, of whatever it gives
-pub on_ok : {X E : Type 0} (r : Result X E) (P : Type 0) → P → OnOk r P
-on_ok (Ok x) P p = p
-on_ok (Err e) P p = tt
+-- a call that went well gives a value of which a part is known
+pub when_ok : {X E A : Type 0} (r : Result X E) (part : X → A) (a : A) → IfOk r (λ x. part x ≡ a) → (P : A → Type 0) → P a → IfOk r (λ x. P (part x))
+when_ok (Ok x) part a is P p = subst P (sym is) p
+when_ok (Err e) part a is P p = tt
 
 pub some_of : {X : Type 0} (xs : List X) → 0 < length xs → X
 some_of [] low = absurd (omega (arith, low))
 some_of (x ∷ xs) low = x
 
+-- the lanes are done, each over the input and the service that its work had
+pub off_done : {R S : Type 0} (input : Input) (works done : List (Work R S)) (p : Passes) → AreSplitOff input works p →
+    ((k : ℕ) (d : Work R S) → k < input.workers → SeeMore (get_or works k d).lane.passes (get_or done k d).lane.passes) → AreSplitOff input done p
+off_done input works done p off more = record {
+  loads = off.loads;
+  loaded = off.loaded;
+  split = off.split;
+  see = λ k d low. still_see off.loads (get_or works k d).lane.passes (get_or done k d).lane.passes (more k d low) (off.see k d low);
+}
+
+pub done_by : {R S : Type 0} (orders_of : S → ℕ) (input : Input) (service : Service) (k : ℕ) (it new : Work R S) → IsWork orders_of input service k it → IsDone it.input.now it.service.now k new.lane → IsDone input service k new.lane
+done_by orders_of input service k it new work h = subst (λ (z : Input × Service). IsDone z.0 z.1 k new.lane) (λ i. (work.input_is i, work.service_is i)) h
+
 module _ {R S Q : Type 0} (items : Q → List Entry) (input : Input) (service : Service) (works : List (Work R S)) where
   -- what is known once the first i lanes are joined
   pub record Gathering (i : ℕ) (queues : List Q) (p : Passes) : Type 0 where
+    pub loads : List Load
+    pub loaded : AreLoads input loads
     pub done : ℕ → List LineDone
+    pub see : (k : ℕ) (d : Work R S) → k < input.workers → SeeLoads loads (get_or works k d).lane.passes
     pub all : (k : ℕ) (d : Work R S) → k < input.workers → HasDone input service k (done k) (get_or works k d).lane
     pub at_most : i ≤ input.workers
     pub many : length queues ≡ i
     pub entries : (k : ℕ) (d : Q) → k < i → items (get_or queues k d) ≡ map (λ it. it.entry) (done k)
-    pub joined : HaveJoined input.workers i done p
+    pub joined : HaveJoined loads input.workers i done p
     pub of : AreOf service p
     pub sums : 0 < i → SumUp p
 
-  pub gathering_none : (p : Passes) → 0 < input.workers → length works ≡ input.workers → AreOf service p → HaveSplit input.workers p → ((k : ℕ) (d : Work R S) → k < input.workers → IsDone input service k (get_or works k d).lane) → Gathering 0 [] p
-  gathering_none p some many of split dones = record {
+  pub gathering_none : (p : Passes) → 0 < input.workers → length works ≡ input.workers → AreOf service p → AreSplitOff input works p → ((k : ℕ) (d : Work R S) → k < input.workers → IsDone input service k (get_or works k d).lane) → Gathering 0 [] p
+  gathering_none p some many of off dones = record {
+    loads = off.loads;
+    loaded = off.loaded;
     done = family.at;
+    see = off.see;
     all = λ k d low. subst (λ z. HasDone input service k (family.at k) z.lane) (get_any works k one d (omega (arith, low, many))) (family.is k low);
     at_most = omega arith;
     many = refl;
     entries = λ k d low. absurd (omega (arith, low));
-    joined = have_joined_none input.workers family.at p split;
+    joined = have_joined_none off.loads input.workers family.at p off.split;
     of = of;
     sums = λ low. absurd (omega (arith, low));
   }
@@ -225,14 +244,17 @@ module _ {R S Q : Type 0} (items : Q → List Entry) (input : Input) (service : 
   pub gathering_more : (i : ℕ) (queues more : List Q) (old new : Passes) (work : Work R S) (queue : Q) → i < input.workers → ((d : Work R S) → work ≡ get_or works i d) → Gathering i queues old →
       AreJoined old work.lane.passes new → AreOf service new → items queue ≡ work.lane.entries.items → more ≡ queues ++ queue ∷ [] → Gathering (i + 1) more new
   gathering_more i queues more old new work queue low work_is h joined of queue_is more_is = record {
+    loads = h.loads;
+    loaded = h.loaded;
     done = h.done;
+    see = h.see;
     all = h.all;
     at_most = omega (arith, low);
     many = let m = h.many in omega (arith, m, ap length more_is, length-append queues (queue ∷ []));
     entries = each_more (λ k it. items it ≡ map (λ it. it.entry) (h.done k)) queues more i queue h.entries more_is h.many (queue_is ∙ own.entries);
-    joined = have_joined_more input.workers i h.done old work.lane.passes new joined h.joined own.versions own.shelves;
+    joined = have_joined_more h.loads input.workers i h.done old work.lane.passes new joined h.joined own.versions own.shelves (subst (λ z. SeeLoads h.loads z.lane.passes) (sym (work_is work)) (h.see i work low));
     of = of;
-    sums = λ some. sum_up input.workers i h.done old work.lane.passes new joined;
+    sums = λ some. sum_up h.loads input.workers i h.done old work.lane.passes new joined;
   }
     where
       own : HasDone input service i (h.done i) work.lane
@@ -240,10 +262,12 @@ module _ {R S Q : Type 0} (items : Q → List Entry) (input : Input) (service : 
 
   pub gathered : (i : ℕ) (queues : List Q) (p : Passes) (d : Q) → length works ≡ input.workers → 0 < input.workers → input.workers ≤ i → Gathering i queues p → AreGathered input (λ k. items (get_or queues k d)) p
   gathered i queues p d long some past h = record {
+    loads = h.loads;
+    loaded = h.loaded;
     done = h.done;
     entries = λ k low. h.entries k d (omega (arith, low, past));
     lines = λ k low. (h.all k (some_of works (omega (arith, some, long))) low).lines_are;
-    joined = subst (λ n. HaveJoined input.workers n h.done p) all h.joined;
+    joined = subst (λ n. HaveJoined h.loads input.workers n h.done p) all h.joined;
     sums = h.sums (omega (arith, some, past));
   }
     where

@@ -4,10 +4,14 @@ use Rattle.std.specs.List.{flat_map, list_any}
 use Rattle.ba_cache.specs.Passes.{ClosedShelf}
 use Rattle.ba_cache.specs.Reads as shelf
 use Rattle.ba_cache.specs.Rows as shelves
+use Rattle.ba_cache.specs.Rows.{shape_of_template, templates_in}
+use Rattle.ba_cache.specs.declared.call.Admit.{Admit as Answer}
 use Rattle.ba_cache.specs.declared.call.ShelfCall.{ShelfCall}
+use Rattle.ba_cache.specs.declared.call.ShelfCall.TheVariants.{Admit}
 use Rattle.ba_comply.specs.declared.trace.TraceEntry.{TraceEntry}
 use Rattle.ba_input.specs.Inputs.{IsInput, effort_of}
 use Rattle.ba_input.specs.declared.input.Input.{Input}
+use Rattle.ba_kernel.specs.SearchStates as kernel
 use Rattle.ba_model.specs.Limits.{shard_count}
 use Rattle.ba_model.specs.declared.policy.Context.{Context}
 use Rattle.ba_script.specs.declared.entry.Script.{Script}
@@ -20,6 +24,7 @@ use Rattle.ba_session.specs.declared.reply.Reply.TheVariants as reply
 use Rattle.ba_session.specs.declared.request.Request.{Request}
 use Rattle.ba_session.specs.declared.service.Closed.{Closed}
 use Rattle.ba_tables.specs.TableSet.{TableSet}
+use Rattle.ba_template.specs.Shapes.{shard_of}
 use Rattle.ba_lanes.specs.Lanes.{AreOfLanes, EachAfter, of_lane}
 use Rattle.ba_lanes.specs.declared.journal.Entry.{Entry}
 use Rattle.ba_lanes.specs.declared.journal.Entry.TheVariants.{Begin, Ask, End, Publish, Memory}
@@ -198,6 +203,28 @@ IsServed input earlier (said.Publish number set) it =
 abbrev pub AreServed : Input → List LineDone → List ScriptEntry → List LineDone → Type 0
 AreServed input earlier lines its = EachAfter (IsServed input) earlier lines its
 
+-- ---- templates that are loaded
+
+-- a template that is loaded, with the answer of the shelf that it is admitted to
+pub record Load : Type 0 where
+  pub template : kernel.Proof
+  pub answer : Answer
+
+-- the call that admits it, on the shelf of its shape's shard
+abbrev pub admit_of : Load → ShelfCalls
+admit_of it = record {
+  shard = shard_of (shape_of_template it.template);
+  calls = Admit (record { marker = record {}; value = it.template }) it.answer ∷ [];
+}
+
+-- the calls that admit those of the shelf k, in their order
+abbrev pub admits_on : ℕ → List Load → List ShelfCall
+admits_on k loads = flat_map (λ it. calls_on k (admit_of it)) loads
+
+-- these are the input's templates, each with an answer
+abbrev pub AreLoads : Input → List Load → Type 0
+AreLoads input loads = map (λ (it : Load). it.template) loads ≡ input.loaded
+
 -- ---- histories
 
 -- what became of the lines of the lane k, in their order, where this became of all lines
@@ -223,30 +250,35 @@ pub record HasVersions (input : Input) (served : List LineDone) (histories : Clo
   pub legal : ∥ versions.Legal input.tables (calls_of histories.versions)
       (versions_of histories.versions) ∥₁
 
--- The calls of the shelf k are those of the lines, lane by lane in their order, and legal from an
--- empty shelf on. The opening pass makes none.
-pub record HasShelf (input : Input) (served : List LineDone) (k : ℕ) (it : ClosedShelf)
-    : Type 0 where
-  pub calls : AreOfLanes [] input.workers (λ i. made_on k (done_in input served i))
-      (shelf.calls_of it.0) it.1.items
+-- The calls of the shelf k are those of the opening pass, which admit the loaded templates of its
+-- shard in their order, and behind them those of the lines, lane by lane in their order. They are
+-- legal from an empty shelf on.
+pub record HasShelf (input : Input) (loads : List Load) (served : List LineDone) (k : ℕ)
+    (it : ClosedShelf) : Type 0 where
+  pub calls : AreOfLanes (admits_on k loads) input.workers
+      (λ i. made_on k (done_in input served i)) (shelf.calls_of it.0) it.1.items
   pub legal : ∥ shelves.Legal (shelf.calls_of it.0) (shelf.rows_of it.0) ∥₁
 
-pub record HasShelves (input : Input) (served : List LineDone) (histories : Closed) : Type 0 where
+pub record HasShelves (input : Input) (loads : List Load) (served : List LineDone)
+    (histories : Closed) : Type 0 where
   pub eight : length histories.shelves.items ≡ shard_count
   pub each : (k : ℕ) (d : ClosedShelf) → k < shard_count →
-      HasShelf input served k (slice_index_or histories.shelves.items k d)
+      HasShelf input loads served k (slice_index_or histories.shelves.items k d)
 
 -- One entry for each line of the script, in order, and the calls of these lines are the histories
 -- of the versions and of the shelves, each lane's in the order of its lines, with the number of its
--- pass. A request begins over the version that was the last one, with an empty trace, and each of
--- its questions has the reply of the request as it then stands, under the input's effort.
+-- pass. In front of them each shelf has the admits of the loaded templates of its shard. A request
+-- begins over the version that was the last one, with an empty trace, and each of its questions has
+-- the reply of the request as it then stands, under the input's effort.
 pub record Legal (input : Input) (journal : Journal) : Type 0 where
   pub input_fits : IsInput input
+  pub loads : List Load
+  pub loaded : AreLoads input loads
   pub served : List LineDone
   pub entries : journal.entries ≡ map (λ it. it.entry) served
   pub lines : AreServed input [] input.script.entries served
   pub versions : HasVersions input served journal.histories
-  pub shelves : HasShelves input served journal.histories
+  pub shelves : HasShelves input loads served journal.histories
 
 -- Whether the entry is want of memory. A question that has this reply is such an entry too (see
 -- `asked`), so the reply of an `Ask` is none in a legal journal.
@@ -260,3 +292,12 @@ is_memory (Memory kind request version) = true
 -- whether some line answered want of memory
 abbrev pub lacks_memory : Journal → Bool
 lacks_memory journal = list_any is_memory journal.entries
+
+-- ---- the templates that are left
+
+-- The templates that the histories of the shelves leave: from the shard 0 on, and of a shelf shapes
+-- from the one that was used last on, and the templates of a shape from the oldest on.
+abbrev pub left_templates : Journal → List kernel.Proof
+left_templates journal =
+    flat_map (λ (it : ClosedShelf). templates_in (shelf.rows_of it.0))
+    journal.histories.shelves.items

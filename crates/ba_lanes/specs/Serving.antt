@@ -1,4 +1,5 @@
 -- What is known between the lines of a script.
+use mathlib.Core.List.{IsPrefix}
 use Rattle.std.specs.Prelude.{◌≡◌, ◌⊎◌, ℕ, ◌+◌, ◌*◌, ◌%◌, ◌<◌, ◌≤◌, List, [], ◌∷◌, ◌++◌, Bool, true, false, Option, Some, None, count_by, length, map, slice_get, slice_set, vec_capacity}
 use Rattle.ba_cache.specs.Passes.{known_on}
 use Rattle.ba_input.specs.Inputs.{IsInput, effort_of}
@@ -14,8 +15,8 @@ use Rattle.ba_session.specs.declared.reply.Reply.{Reply}
 use Rattle.ba_session.specs.declared.request.Request.{Request}
 use Rattle.ba_session.specs.declared.service.Passes.{Passes}
 use Rattle.ba_session.specs.declared.service.Service.{Service}
-use Rattle.ba_lanes.specs.Lanes.{HasJoined, HasSplit, lines_of, total}
-use Rattle.ba_lanes.specs.Legal.{AreServed, HasContext, IsLost, IsPublish, IsRequest, IsUnbegun, IsUnserved, LineCalls, LineDone, asked, begins, context_in, contexts_of, lane_of, made_on, no_calls, on_shelves, trace_of, versions_made}
+use Rattle.ba_lanes.specs.Lanes.{HasJoined, HasSplit, SeesFirst, lines_of, total}
+use Rattle.ba_lanes.specs.Legal.{AreLoads, AreServed, HasContext, IsLost, IsPublish, IsRequest, IsUnbegun, IsUnserved, LineCalls, LineDone, Load, admits_on, asked, begins, context_in, contexts_of, lane_of, made_on, no_calls, on_shelves, trace_of, versions_made}
 use Rattle.ba_lanes.specs.declared.lane.Lane.{Lane}
 use Rattle.ba_lanes.specs.declared.share.Share.{Share}
 use Rattle.ba_lanes.specs.declared.journal.Entry.{Entry}
@@ -248,20 +249,42 @@ pub record IsShare (lines : List ScriptEntry) (share : Share) : Type 0 where
   pub calls_are : share.calls ≡ version_calls lines
   pub looks_are : share.looks ≡ shelf_calls lines
 
--- the passes that the service was made with, once they have split off those of so many lanes, and
--- made no calls themselves
-pub record HaveSplit (splits : ℕ) (p : Passes) : Type 0 where
-  pub versions : HasSplit [] splits (known_by p.versions)
-  pub shelves : (i : ℕ) → i < shard_count → HasSplit [] splits (known_on p.cache i)
+-- ---- the opening passes
 
--- of the allowances for all lines, what is left once the first lanes, so many, have theirs
-pub record HasLeft (input : Input) (lanes : ℕ) (p : Passes) : Type 0 where
+-- the passes that the service was made with, once they have admitted the loaded templates, with
+-- these answers, and then split off those of so many lanes
+pub record HaveSplit (loads : List Load) (splits : ℕ) (p : Passes) : Type 0 where
+  pub versions : HasSplit [] splits (known_by p.versions)
+  pub shelves : (i : ℕ) → i < shard_count →
+      HasSplit (admits_on i loads) splits (known_on p.cache i)
+
+-- Of the allowances for all lines and all loaded templates, what is left once these are admitted
+-- and the first lanes, so many, have theirs.
+pub record HasLeft (input : Input) (loads : List Load) (lanes : ℕ) (p : Passes) : Type 0 where
   pub versions :
       total (λ k. version_calls (lines_in input k input.script.entries)) lanes +
       (known_by p.versions).left ≡ version_calls input.script.entries
   pub shelves : (i : ℕ) → i < shard_count →
       total (λ k. shelf_calls (lines_in input k input.script.entries)) lanes +
-      (known_on p.cache i).left ≡ shelf_calls input.script.entries
+      (known_on p.cache i).left + length (admits_on i loads) ≡
+      shelf_calls input.script.entries + length input.loaded
+
+-- the same passes, which have admitted the input's templates, with these answers, and have given
+-- the first lanes, so many, theirs
+pub record HaveDealt (input : Input) (loads : List Load) (lanes : ℕ) (p : Passes) : Type 0 where
+  pub loaded : AreLoads input loads
+  pub split : HaveSplit loads lanes p
+  pub left : HasLeft input loads lanes p
+
+-- The passes have seen on each shelf the admits of the loaded templates in front of all other
+-- calls.
+pub record SeeLoads (loads : List Load) (p : Passes) : Type 0 where
+  pub shelves : (i : ℕ) → i < shard_count → SeesFirst (admits_on i loads) (known_on p.cache i)
+
+-- the new passes have seen on each shelf what the old ones had seen, and more
+pub record SeeMore (old new : Passes) : Type 0 where
+  pub shelves : (i : ℕ) → i < shard_count →
+      IsPrefix (known_on old.cache i).seen (known_on new.cache i).seen
 
 -- where these passes have joined what they split off, what is left and what was called sum to each
 -- allowance
@@ -269,9 +292,11 @@ pub record SumUp (p : Passes) : Type 0 where
   pub versions : SumsToAllowance (known_by p.versions)
   pub shelves : (i : ℕ) → i < shard_count → SumsToAllowance (known_on p.cache i)
 
--- The passes of the service as it was made, which made no calls themselves, once they have split
--- off those of so many lanes, and have joined those of the first lanes, so many, which did this.
-pub record HaveJoined (splits joined : ℕ) (done : ℕ → List LineDone) (p : Passes) : Type 0 where
+-- The passes of the service as it was made, which admitted the loaded templates, with these
+-- answers, once they have split off those of so many lanes, and have joined those of the first
+-- lanes, so many, which did this.
+pub record HaveJoined (loads : List Load) (splits joined : ℕ) (done : ℕ → List LineDone)
+    (p : Passes) : Type 0 where
   pub versions : HasJoined [] splits joined (λ k. versions_made (done k)) (known_by p.versions)
   pub shelves : (i : ℕ) → i < shard_count →
-      HasJoined [] splits joined (λ k. made_on i (done k)) (known_on p.cache i)
+      HasJoined (admits_on i loads) splits joined (λ k. made_on i (done k)) (known_on p.cache i)

@@ -1,7 +1,11 @@
 //! What a run did.
+ghost use Rattle.std.specs.Prelude.{◌≡◌, ◌++◌, IfOk, OnOk};
+ghost use Rattle.ba_lanes.specs.Legal.{left_templates};
 
-use ba_model::List;
+use ba_model::{List, Shared};
 use ba_session::{Closed, Reply};
+use ba_template::Template;
+use std::alloc::{AllocError, Global};
 
 /// What a line of the script says.
 #[derive(Clone, Copy, Debug, Drop, PartialEq, Eq)]
@@ -57,4 +61,33 @@ pub enum Entry {
 pub struct Journal {
     pub entries: List<Entry>,
     pub histories: Closed,
+}
+
+impl Journal {
+    /// The templates that the histories of the shelves leave, each shared once more: from the shard
+    /// 0 on, and of a shelf shapes from the one that was used last on, and the templates of a shape
+    /// from the oldest on. The error is want of memory.
+    pub fn templates(&self, alloc: Global) -> Result<List<Shared<Template>>, AllocError>
+        ensures { IfOk result (λ found. found ≡ left_templates self.now) }
+    {
+        let mut all = Vec::new(alloc);
+        for closed in self.histories.shelves.as_slice() {
+            let templates = closed.0.templates(alloc)?;
+            put_behind(&mut all, templates)?;
+        }
+        Ok(List::from_vec(all))
+    }
+}
+
+// Puts the templates of a shelf behind those of the shelves before it.
+fn put_behind(
+    all: &mut Vec<Shared<Template>>,
+    templates: List<Shared<Template>>,
+) -> Result<(), AllocError>
+    ensures { OnOk result (all.new.items ≡ all.old.items ++ templates) }
+{
+    for template in templates.into_vec() {
+        all.push(template)?;
+    }
+    Ok(())
 }

@@ -5,6 +5,7 @@
 mod journal;
 mod lane;
 mod lanes;
+mod loads;
 mod share;
 mod work;
 

@@ -1,10 +1,12 @@
 //! Which lines each lane carries, and what they take.
 ghost use Rattle.std.specs.Prelude.{◌≡◌, ◌+◌, ◌*◌, ◌<◌, ◌≤◌, length, cond};
+ghost use Rattle.ba_input.specs.Inputs.{IsInput};
 ghost use Rattle.ba_model.specs.Limits.{most_lines};
 ghost use Rattle.ba_lanes.specs.Legal.{contexts_of, lane_of};
 ghost use Rattle.ba_lanes.specs.Lanes.{lines_of};
-ghost use Rattle.ba_lanes.specs.Serving.{IsShare, calls_versions, is_ask};
+ghost use Rattle.ba_lanes.specs.Serving.{IsShare, calls_versions, is_ask, shelf_calls, version_calls};
 
+use ba_input::Input;
 use ba_script::{Script, ScriptEntry};
 
 /// How many lines a lane carries, and how many calls they may make on the versions and on a shelf.
@@ -100,6 +102,19 @@ impl Share {
         for said in script.entries.as_slice() {
             share.add(said);
         }
+        share
+    }
+
+    /// What a run takes: what all lines take, and on each shelf as many admits as templates are
+    /// loaded.
+    pub(crate) fn of_run(input: &Input) -> Share
+        requires input { IsInput input.now }
+        ensures calls { result.calls ≡ version_calls input.now.script.entries }
+        ensures looks { result.looks
+            ≡ shelf_calls input.now.script.entries + length input.now.loaded }
+    {
+        let mut share = Share::whole(&input.script);
+        share.looks += input.loaded.len() as u32;
         share
     }
 }

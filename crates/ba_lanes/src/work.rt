@@ -1,9 +1,10 @@
 //! The work of each lane: split off, done beside the others' and joined.
-ghost use Rattle.std.specs.Prelude.{◌≡◌, ℕ, ◌+◌, ◌<◌, length, slice_index_or, IfOk, OnOk};
+ghost use Rattle.std.specs.Prelude.{◌≡◌, ℕ, ◌+◌, ◌<◌, List, length, slice_index_or, IfOk};
 ghost use Rattle.ba_input.specs.Inputs.{IsInput};
 ghost use Rattle.ba_session.specs.Passing.{AreOf};
-ghost use Rattle.ba_lanes.specs.Serving.{HasLeft, HaveSplit, IsDone, IsReady, lines_in};
-ghost use Rattle.ba_lanes.specs.Working.{AreGathered, AreMerged, IsWork};
+ghost use Rattle.ba_lanes.specs.Legal.{Load};
+ghost use Rattle.ba_lanes.specs.Serving.{HaveDealt, IsDone, IsReady, SeeLoads, lines_in};
+ghost use Rattle.ba_lanes.specs.Working.{AreGathered, AreMerged, AreSplitOff, IsWork};
 
 use crate::journal::Entry;
 use crate::lane::Lane;
@@ -30,12 +31,13 @@ pub(crate) struct Work<'a, R: Wait, S: Settle> {
 
 impl<'a, R: Wait, S: Settle> Job for Work<'a, R, S> {
     ghost use Rattle.std.specs.Prelude.{◌≡◌};
-    ghost use Rattle.ba_lanes.specs.Serving.{IsDone, IsReady};
+    ghost use Rattle.ba_lanes.specs.Serving.{IsDone, IsReady, SeeMore};
 
     ghost ready = { λ it k. (S.orders it.settle.now ≡ it.input.now.orders) ×
         IsReady it.input.now it.service.now k it.lane };
 
-    ghost done = { λ it k new. IsDone it.input.now it.service.now k new.lane };
+    ghost done = { λ it k new. IsDone it.input.now it.service.now k new.lane ×
+        SeeMore it.lane.passes new.lane.passes };
 
     fn work<G: Gate>(&mut self, job: u32, gate: &G) {
         self.lane.serve(
@@ -62,11 +64,11 @@ fn lane_for(
     requires policy { service.now.policy ≡ input.now.policy }
     requires below { number < input.now.workers }
     requires of { AreOf service.now passes.old }
-    requires split { HaveSplit number passes.old }
-    requires left { HasLeft input.now number passes.old }
+    requires dealt { (loads : List Load) × HaveDealt input.now loads number passes.old }
     ensures of { AreOf service.now passes.new }
-    ensures split { OnOk result (HaveSplit (number + 1) passes.new) }
-    ensures left { OnOk result (HasLeft input.now (number + 1) passes.new) }
+    ensures dealt { (loads : List Load) → HaveDealt input.now loads number passes.old
+        → IfOk result (λ lane. HaveDealt input.now loads (number + 1) passes.new
+        × SeeLoads loads lane.passes) }
     ensures ready { IfOk result (IsReady input.now service.now number) }
 {
     let share = Share::of(&input.script, input.workers, number);
@@ -88,10 +90,9 @@ pub(crate) fn split<'a, R: Wait, S: Settle>(
     requires policy { service.now.policy ≡ input.now.policy }
     requires orders { S.orders settle.now ≡ input.now.orders }
     requires of { AreOf service.now passes.old }
-    requires split { HaveSplit 0 passes.old }
-    requires left { HasLeft input.now 0 passes.old }
+    requires dealt { (loads : List Load) × HaveDealt input.now loads 0 passes.old }
     ensures of { AreOf service.now passes.new }
-    ensures split { OnOk result (HaveSplit input.now.workers passes.new) }
+    ensures split { IfOk result (λ works. AreSplitOff input.now works.items passes.new) }
     ensures many { IfOk result (λ works. length works.items ≡ input.now.workers) }
     ensures ready { IfOk result (λ works. (k : ℕ) (d : _) → k < input.now.workers
         → IsWork S.orders input.now service.now k (slice_index_or works.items k d)) }
@@ -122,7 +123,7 @@ pub(crate) fn join<R: Wait, S: Settle>(
     requires some { 0 < input.now.workers }
     requires many { length works.items ≡ input.now.workers }
     requires of { AreOf service.now passes.old }
-    requires split { HaveSplit input.now.workers passes.old }
+    requires split { AreSplitOff input.now works.items passes.old }
     requires done { (k : ℕ) (d : _) → k < input.now.workers
         → IsDone input.now service.now k (slice_index_or works.items k d).lane }
     ensures of { AreOf service.now passes.new }

@@ -1,5 +1,6 @@
 -- What the histories of a legal journal tell of its lines' calls.
-use Rattle.std.proofs.Common.{◌≡◌, ◌∙◌, ℕ, zero, suc, ◌+◌, ◌<◌, ◌==◌, Bool, true, false, cond, List, [], ◌∷◌, ◌++◌, All, Contains, Some, ap, append-nil, arith, flat_map, get_or, inl, inr, length, length-append, refl, slice_get, subst, sym, take, ◌⊎◌}
+use mathlib.Core.List.{map-append}
+use Rattle.std.proofs.Common.{◌≡◌, ◌∙◌, ℕ, zero, suc, ◌+◌, ◌<◌, ◌==◌, Bool, true, false, cond, List, [], ◌∷◌, ◌++◌, All, Contains, Some, ap, append-nil, arith, flat_map, get_or, inl, inr, length, length-append, map, refl, slice_get, subst, sym, take, ◌⊎◌}
 use Rattle.std.proofs.Math.Logic.{∥∥₁_map, ∥∥₁_map₂}
 use Rattle.std.proofs.Math.Nat.{mod-lt}
 use Rattle.std.proofs.lemmas.Bool.{eqb-false}
@@ -24,8 +25,8 @@ use Rattle.ba_kernel.specs.SearchStates.{Proof}
 use Rattle.ba_lanes.proofs.JoinLemmas.{told_by}
 use Rattle.ba_lanes.proofs.MergeLemmas.{lane_low}
 use Rattle.ba_lanes.proofs.ServeLemmas.{same_length}
-use Rattle.ba_lanes.specs.Lanes.{AreOfLanes, of_lane}
-use Rattle.ba_lanes.specs.Legal.{Legal, LineDone, done_in, lane_of, pin_of, shelf_calls_of}
+use Rattle.ba_lanes.specs.Lanes.{AreOfLanes, by_opening, of_lane}
+use Rattle.ba_lanes.specs.Legal.{Legal, LineDone, admits_on, done_in, lane_of, pin_of, shelf_calls_of}
 use Rattle.ba_lanes.specs.declared.journal.Journal.{Journal}
 use Rattle.ba_model.specs.declared.query.Query.{Query}
 use Rattle.ba_machine_laws.specs.Journals.{IsMachineOf, number_by_shelf, templates_in}
@@ -39,6 +40,7 @@ use Rattle.ba_settle.specs.Settling.{Effort}
 use Rattle.ba_model.specs.declared.policy.Policy.{Policy}
 use Rattle.ba_tables.specs.TableSet.{TableSet}
 use Rattle.ba_template.specs.Shapes.{shape_of, shard_of}
+use Rattle.ba_turn.specs.History.{entry_of}
 use Rattle.ba_versions.specs.Calls as versions
 use Rattle.ba_versions.specs.Reads.{calls_of}
 use Rattle.ba_versions.specs.declared.call.VersionCall.{VersionCall}
@@ -182,27 +184,28 @@ each_part f S (x ∷ xs) all =
     All-cons (λ x. (a : _) → Contains (f x) a → S a) x xs (λ a h. all a (Contains-append_left (f x) (flat_map f xs) a h))
     (each_part f S xs (λ a h. all a (Contains-append_right (f x) (flat_map f xs) a h)))
 
--- the calls of the lines of each lane stand in the history of all lanes
-of_lanes : {E : Type 0} (input : Input) (served : List LineDone) (f : LineDone → List E) (made : List E) (numbers : List ℕ) →
+-- the calls of the lines of each lane stand in the history of all lanes, behind those of the opening pass
+of_lanes : {E : Type 0} (opening : List E) (input : Input) (served : List LineDone) (f : LineDone → List E) (made : List E) (numbers : List ℕ) →
     0 < input.workers → length served ≡ length input.script.entries →
-    AreOfLanes [] input.workers (λ k. flat_map f (done_in input served k)) made numbers → All (λ it. (c : E) → Contains (f it) c → Contains made c) served
-of_lanes input served f made numbers some long h =
+    AreOfLanes opening input.workers (λ k. flat_map f (done_in input served k)) made numbers → All (λ it. (c : E) → Contains (f it) c → Contains made c) served
+of_lanes opening input served f made numbers some long h =
     all_lanes (λ it. (c : _) → Contains (f it) c → Contains made c) (lane_of input.workers) input.workers (lane_low input some) input.script.entries served long
     (λ k below. each_part f (Contains made) (done_in input served k)
-    (λ c there. subst (λ z. Contains z c) (sym h.calls_are) (told_by (k + 1) h.log c (subst (λ z. Contains z c) (sym (h.each k below)) there))))
+    (λ c there. subst (λ z. Contains z c) (sym (h.calls_are ∙ map-append entry_of (by_opening opening) h.log))
+    (Contains-append_right (map entry_of (by_opening opening)) (map entry_of h.log) c (told_by (k + 1) h.log c (subst (λ z. Contains z c) (sym (h.each k below)) there)))))
 
 module _ (input : Input) (journal : Journal) (legal : Legal input journal) where
   long : length legal.served ≡ length input.script.entries
   long = same_length input [] input.script.entries legal.served legal.lines
 
   on_versions : All (λ it. (c : VersionCall) → Contains it.made.versions c → Contains (calls_of journal.histories.versions) c) legal.served
-  on_versions = of_lanes input legal.served (λ it. it.made.versions) (calls_of journal.histories.versions) journal.histories.numbers.items legal.input_fits.workers.0 long legal.versions.calls
+  on_versions = of_lanes [] input legal.served (λ it. it.made.versions) (calls_of journal.histories.versions) journal.histories.numbers.items legal.input_fits.workers.0 long legal.versions.calls
 
   on_shelves : (k : ℕ) (d : ClosedShelf) → k < 8 →
       All (λ it. (c : ShelfCall) → Contains (shelf_calls_of k it) c → Contains (shelf.calls_of (get_or journal.histories.shelves.items k d).0) c) legal.served
   on_shelves k d below =
       let it = get_or journal.histories.shelves.items k d in
-      of_lanes input legal.served (λ it. shelf_calls_of k it) (shelf.calls_of it.0) it.1.items legal.input_fits.workers.0 long (legal.shelves.each k d below).calls
+      of_lanes (admits_on k legal.loads) input legal.served (λ it. shelf_calls_of k it) (shelf.calls_of it.0) it.1.items legal.input_fits.workers.0 long (legal.shelves.each k d below).calls
 
   pub all_made : All (IsMade journal) legal.served
   all_made = All-weaker (Contains legal.served) (IsMade journal) (λ it among. record {

@@ -15,5 +15,7 @@ pub mod ReadingLemmas
 pub mod RequestLemmas
 pub mod OneLaneLemmas
 pub mod AdditionLemmas
+pub mod PlaceLemmas
+pub mod LoadedLemmas
 pub mod OneWorkerLemmas
 pub mod StandingLemmas

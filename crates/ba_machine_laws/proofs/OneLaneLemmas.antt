@@ -1,4 +1,5 @@
 -- The histories of a journal of one worker are the calls of its lines, and each front of a legal history is legal.
+use mathlib.Core.List.{map-append}
 use Rattle.std.proofs.Common.{◌≡◌, ◌∙◌, ℕ, zero, suc, ◌<◌, ◌≤◌, ◌==◌, cond, filter, List, [], ◌∷◌, ◌++◌, All, ap, append-nil, append_assoc, arith, drop, flat_map, get_or, inl, inr, length, map, refl, subst, sym, take, ◌⊎◌}
 use Rattle.std.proofs.lemmas.List.{same_from_push}
 use Rattle.std.proofs.lemmas.List.Concat.{flat_map-append}
@@ -8,7 +9,7 @@ use Rattle.ba_cache.specs.Rows.{Row, count_added}
 use Rattle.ba_cache.specs.declared.call.ShelfCall.{ShelfCall}
 use Rattle.ba_input.specs.declared.input.Input.{Input}
 use Rattle.ba_lanes.proofs.MergeLemmas.{lane_low}
-use Rattle.ba_lanes.specs.Lanes.{AreOfLanes, of_lane}
+use Rattle.ba_lanes.specs.Lanes.{AreOfLanes, by_opening, of_lane}
 use Rattle.ba_lanes.specs.Legal.{LineDone, done_in, lane_of}
 use Rattle.ba_machine_laws.proofs.BetweenLemmas.{same_true}
 use Rattle.ba_machine_laws.proofs.ScriptLemmas.{last_of}
@@ -41,14 +42,19 @@ all_of_one (c ∷ log) all =
     ap (λ t. map entry_of (cond t (c ∷ filter (λ x. number_of x == 1) log) (filter (λ x. number_of x == 1) log))) (same_true c.0 1 (omega (arith, low, high)))
     ∙ ap (λ z. c.1 ∷ z) (all_of_one log (All-tail IsOne c.0 (map number_of log) all))
 
--- the history is the calls of the lines, in their order
-pub one_history : {E : Type 0} (input : Input) (served : List LineDone) (f : LineDone → List E) (made : List E) (numbers : List ℕ) →
-    input.workers ≡ 1 → length served ≡ length input.script.entries → AreOfLanes [] input.workers (λ k. flat_map f (done_in input served k)) made numbers → made ≡ flat_map f served
-one_history input served f made numbers one long h =
+entries_opening : {E : Type 0} (opening : List E) → map entry_of (by_opening opening) ≡ opening
+entries_opening [] = refl
+entries_opening (c ∷ cs) = ap (λ z. c ∷ z) (entries_opening cs)
+
+-- the history is the calls of the opening pass, and behind them those of the lines, in their order
+pub one_history : {E : Type 0} (opening : List E) (input : Input) (served : List LineDone) (f : LineDone → List E) (made : List E) (numbers : List ℕ) →
+    input.workers ≡ 1 → length served ≡ length input.script.entries → AreOfLanes opening input.workers (λ k. flat_map f (done_in input served k)) made numbers → made ≡ opening ++ flat_map f served
+one_history opening input served f made numbers one long h =
     let some : 0 < input.workers = omega (arith, one) in
     let all : All IsOne (map number_of h.log) =
     All-weaker (λ n. (0 < n) × (n ≤ input.workers)) IsOne (λ n it. (it.0, upto n it.1)) (map number_of h.log) h.no_others in
-    h.calls_are ∙ sym (all_of_one h.log all) ∙ h.each 0 some ∙ ap (flat_map f) (of_one_lane (lane_of input.workers) input.script.entries served long (λ line. first line))
+    h.calls_are ∙ map-append entry_of (by_opening opening) h.log ∙ ap (λ z. z ++ map entry_of h.log) (entries_opening opening)
+    ∙ ap (λ z. opening ++ z) (sym (all_of_one h.log all) ∙ h.each 0 some ∙ ap (flat_map f) (of_one_lane (lane_of input.workers) input.script.entries served long (λ line. first line)))
   where
     upto : (n : ℕ) → n ≤ input.workers → n ≤ 1
     upto n below = omega (arith, below, one)

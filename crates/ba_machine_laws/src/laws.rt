@@ -96,7 +96,8 @@ pub fn askers_stand()
 /// evidence as ground, and complies with the policy after what its request was told before.
 ///
 /// The machine has the policy of the run's input, the versions of the tables that the run left, the
-/// templates that the calls on its eight shelves added, shelf by shelf, and no open request.
+/// templates that the calls on its eight shelves added, the loaded ones among them, shelf by shelf,
+/// and no open request.
 pub fn requests_are_a_run()
     ensures { RequestsAreARun }
 {
@@ -114,9 +115,11 @@ pub fn requests_are_a_run()
     strong_complies();
 }
 
-/// With one worker all entries of a legal journal, in the order of the script, are one run of the
-/// machine from its first state on, with the replies that the entries tell and no others: requests
-/// and their questions, the table sets that are published, and the templates of proofs that are added.
+/// With one worker the loaded templates that their shelves added, in the order of the input, and
+/// then all entries of a legal journal, in the order of the script, are one run of the machine from
+/// its first state on, with the replies that the shelves and the entries tell and no others: the
+/// loaded templates are admitted, and then come requests and their questions, the table sets that are
+/// published, and the templates of proofs that are added.
 ///
 /// In its first state the machine has the policy of the run's input and its tables as version 0, and no
 /// template and no request.

@@ -4,13 +4,14 @@ ghost use Rattle.ba_model.specs.RuleFaults.{AreRules};
 
 use crate::files::{Found, read_again};
 use crate::proof::field_text;
+use crate::template::line_hint;
 use ba_hints::{
     Hint, key_hint, link_hint, policy_hint, rows_hint, rule_hint, schema_hint, script_hint,
 };
 use ba_model::{Counted, Failure, Policy, Row, Schema, Shared, Table};
 use ba_policy::read_policy;
 use ba_sql_ddl::read_schema;
-use ba_wire::Reason;
+use ba_wire::{Reason, TemplateFault};
 use std::alloc::{AllocError, Global};
 use std::rt::Files;
 
@@ -194,6 +195,23 @@ impl<R: Files + AllocGlobal> Reads<'_, R> {
                 hint.line(alloc, set, &[])
             }
         }
+    }
+
+    /// What is told of a template file of which a line is none.
+    pub fn template_text(
+        &self,
+        file: &str,
+        line: u64,
+        reason: &TemplateFault,
+    ) -> Result<String, AllocError> {
+        let alloc = self.rt.alloc();
+        let bytes = self.bytes(file)?;
+        let found = match &bytes {
+            Some(bytes) => Some(bytes.as_slice()),
+            None => None,
+        };
+        let hint = line_hint(alloc, found, line, reason)?;
+        hint.line(alloc, file, &[])
     }
 
     /// What is told of a proof's file that is none.

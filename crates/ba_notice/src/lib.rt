@@ -7,6 +7,7 @@ mod files;
 mod input;
 mod proof;
 mod telling;
+mod template;
 mod usage;
 
 pub use telling::notice;

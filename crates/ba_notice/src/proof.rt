@@ -40,15 +40,21 @@ fn step_text(alloc: Global, fault: StepFault) -> Result<String, AllocError> {
     }
 }
 
+/// That the step of a number is the first that isn't accepted, and why.
+pub fn not_shown_text(alloc: Global, step: u64, fault: StepFault) -> Result<String, AllocError> {
+    let why = step_text(alloc, fault)?;
+    format!(in alloc; "step {step}, counted from 0, isn't accepted: {why}")
+}
+
+/// That all steps are accepted, and how many branches are open.
+pub fn still_open_text(alloc: Global, branches: u64) -> Result<String, AllocError> {
+    format!(in alloc; "each step is accepted, and branches are left open: {branches}")
+}
+
 /// Why a proof isn't accepted.
 pub fn check_text(alloc: Global, fault: CheckFault) -> Result<String, AllocError> {
     match fault {
-        CheckFault::NotShown { step, fault } => {
-            let why = step_text(alloc, fault)?;
-            format!(in alloc; "step {step}, counted from 0, isn't accepted: {why}")
-        }
-        CheckFault::StillOpen { branches } => {
-            format!(in alloc; "each step is accepted, and branches are left open: {branches}")
-        }
+        CheckFault::NotShown { step, fault } => not_shown_text(alloc, step as u64, fault),
+        CheckFault::StillOpen { branches } => still_open_text(alloc, branches as u64),
     }
 }

@@ -36,6 +36,7 @@ fn limit_text<R: Files + AllocGlobal>(
     let counted = match what {
         Counted::TextBytes | Counted::FileBytes => Some("bytes"),
         Counted::Steps => Some("steps"),
+        Counted::Templates => Some("templates"),
         _ => None,
     };
     match counted {
@@ -75,6 +76,9 @@ fn input_text<R: Files + AllocGlobal>(
 ) -> Result<String, AllocError> {
     if let Reason::RuleRow { rule, row } = reason {
         return reads.rule_text(file, *rule, row);
+    }
+    if let Reason::Template { line, reason } = reason {
+        return reads.template_text(file, *line, reason);
     }
     let part = Part::of_reason(reads.asked.len(), reason);
     match part {

@@ -9,11 +9,14 @@ enum Form {
     Run,
     Check,
     Gen,
+    Store,
 }
 
 static RUN_NEEDS: [&str; 4] = ["--schema", "--policy", "--tables", "--script"];
 
-static RUN_TAKES: [&str; 2] = ["--workers", "--budget"];
+static RUN_TAKES: [&str; 3] = ["--load", "--workers", "--budget"];
+
+static STORE_TAKES: [&str; 2] = ["--workers", "--budget"];
 
 static CHECK_NEEDS: [&str; 3] = ["--schema", "--policy", "--proof"];
 
@@ -23,7 +26,7 @@ static GEN_TAKES: [&str; 2] = ["--workers", "--print"];
 
 // How all commands are written.
 const USAGE: &str =
-    "usage: blockaid run --schema S --policy P --tables D --script F [--workers N] [--budget B], blockaid check --schema S --policy P --proof F, or blockaid gen --seed N --requests R [--workers N] [--print]";
+    "usage: blockaid run --schema S --policy P --tables D --script F [--load T] [--workers N] [--budget B], blockaid store with the options of run but --load, blockaid check --schema S --policy P --proof F, or blockaid gen --seed N --requests R [--workers N] [--print]";
 
 // The option of a word: what stands before its `=`.
 fn option_of(word: &str) -> &str {
@@ -48,6 +51,7 @@ impl Form {
             "run" => Some(Form::Run),
             "check" => Some(Form::Check),
             "gen" => Some(Form::Gen),
+            "store" => Some(Form::Store),
             _ => None,
         }
     }
@@ -57,17 +61,21 @@ impl Form {
             Form::Run => "run",
             Form::Check => "check",
             Form::Gen => "gen",
+            Form::Store => "store",
         }
     }
 
     fn usage(self) -> &'static str {
         match self {
             Form::Run => {
-                "usage: blockaid run --schema S --policy P --tables D --script F [--workers N] [--budget B], N from 1 to 16, B from 16 to 100000"
+                "usage: blockaid run --schema S --policy P --tables D --script F [--load T] [--workers N] [--budget B], N from 1 to 16, B from 16 to 100000"
             }
             Form::Check => "usage: blockaid check --schema S --policy P --proof F",
             Form::Gen => {
                 "usage: blockaid gen --seed N --requests R [--workers W] [--print], N from 0 to 9223372036854775807, R from 0 to 8192, W from 1 to 16"
+            }
+            Form::Store => {
+                "usage: blockaid store --schema S --policy P --tables D --script F [--workers N] [--budget B], N from 1 to 16, B from 16 to 100000"
             }
         }
     }
@@ -75,7 +83,7 @@ impl Form {
     // The options that it needs.
     fn needs(self) -> &'static [&'static str] {
         match self {
-            Form::Run => &RUN_NEEDS,
+            Form::Run | Form::Store => &RUN_NEEDS,
             Form::Check => &CHECK_NEEDS,
             Form::Gen => &GEN_NEEDS,
         }
@@ -87,6 +95,7 @@ impl Form {
             Form::Run => &RUN_TAKES,
             Form::Check => &[],
             Form::Gen => &GEN_TAKES,
+            Form::Store => &STORE_TAKES,
         }
     }
 

@@ -170,7 +170,7 @@ goal_form : (policy : Policy) (found : Option Data) → goal_at policy.schema po
 unfolding goal_at
 goal_form policy found = refl
 
-steps_form : (params : List Parameter) (version : ℕ) (found : Option Data) → steps_at params version found ≡ at_field field.Steps (list_fn field.Steps (step_at params version)) found
+steps_form : (params : List Parameter) (version : ℕ) (found : Option Data) → steps_at params version found ≡ at_field field.Steps (list_fn field.Steps (step_at params 0 version)) found
 unfolding steps_at
 steps_form params version None = refl
 steps_form params version (Some d) = refl
@@ -341,7 +341,7 @@ abbrev GoodGoal : Policy → Members → Query → Type 0
 GoodGoal policy ms goal = HasField (SaysQuery policy) (codes "goal") (object ms) goal
 
 abbrev GoodSteps : Policy → Members → ℕ → List Step → Type 0
-GoodSteps policy ms version all = HasField (SaysEach (SaysStep policy.params version)) (codes "steps") (object ms) all
+GoodSteps policy ms version all = HasField (SaysEach (SaysStep policy.params 0 version)) (codes "steps") (object ms) all
 
 -- a question that the members say
 record Question (policy : Policy) (ms : Members) : Type 0 where
@@ -397,14 +397,14 @@ module _ (policy : Policy) (reading : QueryReading) (ms : Members) where
   goal_field_only : OnlyBad field.Goal (goal_at policy.schema policy.params (get (codes "goal") whole))
   goal_field_only = subst (OnlyBad field.Goal) (sym (goal_form policy _)) (field_only field.Goal (query_at field.Goal policy.schema policy.params) (query_only policy field.Goal) (get (codes "goal") whole))
 
-  steps_field_is : (v : ℕ) (x : List Step) → steps_at policy.params v (get (codes "steps") whole) ≡ Ok x → HasField (SaysEach (SaysStep policy.params v)) (codes "steps") whole x
-  steps_field_is v x e = field_is field.Steps (list_fn field.Steps (step_at policy.params v)) (SaysEach (SaysStep policy.params v)) (each_is field.Steps (step_at policy.params v) (SaysStep policy.params v) (step_is policy.params v)) (codes "steps") whole x (sym (steps_form policy.params v _) ∙ e)
+  steps_field_is : (v : ℕ) (x : List Step) → steps_at policy.params v (get (codes "steps") whole) ≡ Ok x → HasField (SaysEach (SaysStep policy.params 0 v)) (codes "steps") whole x
+  steps_field_is v x e = field_is field.Steps (list_fn field.Steps (step_at policy.params 0 v)) (SaysEach (SaysStep policy.params 0 v)) (each_is field.Steps (step_at policy.params 0 v) (SaysStep policy.params 0 v) (step_is policy.params 0 v)) (codes "steps") whole x (sym (steps_form policy.params v _) ∙ e)
 
-  steps_field_said : (v : ℕ) (x : List Step) → HasField (SaysEach (SaysStep policy.params v)) (codes "steps") whole x → steps_at policy.params v (get (codes "steps") whole) ≡ Ok x
-  steps_field_said v x h = steps_form policy.params v _ ∙ field_said field.Steps (list_fn field.Steps (step_at policy.params v)) (SaysEach (SaysStep policy.params v)) (each_said field.Steps (step_at policy.params v) (SaysStep policy.params v) (step_said policy.params v)) (codes "steps") whole x h
+  steps_field_said : (v : ℕ) (x : List Step) → HasField (SaysEach (SaysStep policy.params 0 v)) (codes "steps") whole x → steps_at policy.params v (get (codes "steps") whole) ≡ Ok x
+  steps_field_said v x h = steps_form policy.params v _ ∙ field_said field.Steps (list_fn field.Steps (step_at policy.params 0 v)) (SaysEach (SaysStep policy.params 0 v)) (each_said field.Steps (step_at policy.params 0 v) (SaysStep policy.params 0 v) (step_said policy.params 0 v)) (codes "steps") whole x h
 
   steps_field_only : (v : ℕ) → OnlyBad field.Steps (steps_at policy.params v (get (codes "steps") whole))
-  steps_field_only v = subst (OnlyBad field.Steps) (sym (steps_form policy.params v _)) (field_only field.Steps (list_fn field.Steps (step_at policy.params v)) (list_only field.Steps (step_at policy.params v) (step_only policy.params v)) (get (codes "steps") whole))
+  steps_field_only v = subst (OnlyBad field.Steps) (sym (steps_form policy.params v _)) (field_only field.Steps (list_fn field.Steps (step_at policy.params 0 v)) (list_only field.Steps (step_at policy.params 0 v) (step_only policy.params 0 v)) (get (codes "steps") whole))
 
   abbrev Told : Result Proof ProofFault → Type 0
   Told (Ok proof) = SaysProof policy ms proof
@@ -416,12 +416,12 @@ module _ (policy : Policy) (reading : QueryReading) (ms : Members) where
   told_bad : (f : ProofField) (e : ProofFault) → e ≡ BadField f → ¬ (HasManySteps whole) → IsFirstBad policy ms f → Told (Err e)
   told_bad f e same not_many first_bad = subst (λ x. Told (Err x)) (sym same) (not_many, first_bad)
 
-  few_all : (all : List Step) (version : ℕ) → ¬ (HasManySteps whole) → HasField (SaysEach (SaysStep policy.params version)) (codes "steps") whole all → length all ≤ most_steps
+  few_all : (all : List Step) (version : ℕ) → ¬ (HasManySteps whole) → HasField (SaysEach (SaysStep policy.params 0 version)) (codes "steps") whole all → length all ≤ most_steps
   few_all all version not_many h = by (nat_lt most_steps (length h.says.ds)) refl
     where
       by : (b : Bool) → nat_lt most_steps (length h.says.ds) ≡ b → length all ≤ most_steps
       by true t = absurd (not_many (h.says.ds, h.there ∙ ap Some h.says.is, ltb-true most_steps (length h.says.ds) t))
-      by false t = subst (λ n. n ≤ most_steps) (zip_length (SaysStep policy.params version) h.says.ds all h.says.said) (ltb-false most_steps (length h.says.ds) t)
+      by false t = subst (λ n. n ≤ most_steps) (zip_length (SaysStep policy.params 0 version) h.says.ds all h.says.said) (ltb-false most_steps (length h.says.ds) t)
 
   abbrev problem_in : Question policy ms → Problem
   problem_in q = problem_of policy q.context q.trace q.goal
@@ -524,7 +524,7 @@ module _ (policy : Policy) (reading : QueryReading) (ms : Members) where
 
   few_said : (all : List Step) (version : ℕ) → length all ≤ most_steps → GoodSteps policy ms version all → few_at (get (codes "steps") whole) ≡ Ok tt
   few_said all version few h =
-      let wide : length h.says.ds ≤ most_steps = subst (λ n. n ≤ most_steps) (sym (zip_length (SaysStep policy.params version) h.says.ds all h.says.said)) few in
+      let wide : length h.says.ds ≤ most_steps = subst (λ n. n ≤ most_steps) (sym (zip_length (SaysStep policy.params 0 version) h.says.ds all h.says.said)) few in
       few_by (get (codes "steps") whole) h.says.ds (h.there ∙ ap Some h.says.is) false (le-ltb most_steps (length h.says.ds) wide)
 
   pub said_fields : (proof : Proof) → SaysProof policy ms proof → fields_of policy whole ms ≡ Ok proof

@@ -185,11 +185,11 @@ unfolding few_at steps_at
 few_steps params version None steps few e = cc e
 few_steps params version (Some d) steps few e = by (as_list d) few e
   where
-    by : (o : Option (List Data)) → ◌≡◌ {A = Result ⊤ ProofFault} (cond (too_many o) (Err TooLong) (Ok tt)) (Ok tt) → (or_bad field.Steps o >>= each (step_at params version)) ≡ Ok steps
+    by : (o : Option (List Data)) → ◌≡◌ {A = Result ⊤ ProofFault} (cond (too_many o) (Err TooLong) (Ok tt)) (Ok tt) → (or_bad field.Steps o >>= each (step_at params 0 version)) ≡ Ok steps
         → length steps ≤ most_steps
     by None f e = cc e
     by (Some ds) f e =
-        let same : length steps ≡ length ds = each_long (step_at params version) ds steps e in
+        let same : length steps ≡ length ds = each_long (step_at params 0 version) ds steps e in
         let most : length ds ≤ most_steps = ltb-false most_steps (length ds) (not_refused (nat_lt most_steps (length ds)) TooLong f) in
         subst (λ n. n ≤ most_steps) (sym same) most
 

@@ -1,8 +1,8 @@
 -- No written proof has a float, and none nests deeper than the reader goes.
-use Rattle.std.proofs.Common.{◌≡◌, ℕ, List, [], ◌∷◌, false, true, Bool, ◌||◌, Ordering, Less, Equal, Greater, ◌≤◌, map, Option, Some, None, refl, pos, negsuc, arith}
+use Rattle.std.proofs.Common.{◌≡◌, ℕ, List, [], ◌∷◌, false, true, Bool, ◌||◌, Ordering, Less, Equal, Greater, ◌≤◌, map, Option, Some, None, refl, pos, negsuc, arith, codes, cond, nat_lt}
 use Rattle.std.specs.Cmp.Lexicographic.{slice_cmp}
 use Rattle.std.specs.Ordering.{nat_cmp, match_ordering}
-use Rattle.serde_json.specs.Data.{Data, Members, no_members, member, put, depth, items_depth, members_depth}
+use Rattle.serde_json.specs.Data.{Data, Members, null, string, no_members, member, put, depth, items_depth, members_depth}
 use Rattle.serde_json.specs.Read.{max_depth}
 use Rattle.serde_json.specs.View.{items_of}
 use Rattle.serde_json.specs.Written.{has_float, items_have_float, members_have_float}
@@ -18,11 +18,11 @@ use Rattle.ba_kernel.specs.declared.problem.Problem.{Problem}
 use Rattle.ba_kernel.specs.declared.problem.ProblemEntry.{ProblemEntry}
 use Rattle.ba_kernel.specs.declared.step.Step.{Step}
 use Rattle.ba_kernel.specs.declared.step.Step.TheVariants as steps
-use Rattle.ba_proof.specs.Written.{atom_json, count, entry_json, literal_in, literal_json, param_in, proof_json, step_json, term_json, value_json, with_context, with_value}
+use Rattle.ba_proof.specs.Written.{atom_json, count, entry_json, list_json, literal_in, literal_json, param_in, proof_json, step_json, term_json, value_json, with_context, with_value}
 
 -- ---- no floats
 
-value_whole : (v : Value) → has_float (value_json v) ≡ false
+pub value_whole : (v : Value) → has_float (value_json v) ≡ false
 value_whole value.Null = refl
 value_whole (value.Int (pos n)) = refl
 value_whole (value.Int (negsuc n)) = refl
@@ -40,26 +40,30 @@ counts_whole : (ns : List ℕ) → items_have_float (items_of (map count ns)) �
 counts_whole [] = refl
 counts_whole (n ∷ ns) = counts_whole ns
 
-term_whole : (params : List Parameter) (t : Term) → has_float (term_json params t) ≡ false
-term_whole params (term.Unknown n) = refl
-term_whole params (term.Val v) = value_whole v
-term_whole params (term.Param n) = refl
-term_whole params (term.Var n) = refl
+var_whole : (n : ℕ) (b : Bool) → has_float (cond b (list_json (string (codes "v") ∷ count n ∷ [])) null) ≡ false
+var_whole n true = refl
+var_whole n false = refl
 
-step_whole : (params : List Parameter) (step : Step) → has_float (step_json params step) ≡ false
+term_whole : (params : List Parameter) (vars : ℕ) (t : Term) → has_float (term_json params vars t) ≡ false
+term_whole params vars (term.Unknown n) = refl
+term_whole params vars (term.Val v) = value_whole v
+term_whole params vars (term.Param n) = refl
+term_whole params vars (term.Var n) = var_whole n (nat_lt n vars)
+
+step_whole : (params : List Parameter) (vars : ℕ) (step : Step) → has_float (step_json params vars step) ≡ false
 unfolding step_json atom_json
-step_whole params (steps.Entry branch entry) = refl
-step_whole params (steps.Key branch key left right) = refl
-step_whole params (steps.Link branch link fact) = refl
-step_whole params (steps.Rule branch rule part facts) = rw (counts_whole facts) refl
-step_whole params (steps.View branch view part facts) = rw (counts_whole facts) refl
-step_whole params (steps.Split branch atom) = rw (term_whole params atom.left, term_whole params atom.right) refl
-step_whole params (steps.Absurd branch) = refl
-step_whole params (steps.Goal branch part facts) = rw (counts_whole facts) refl
+step_whole params vars (steps.Entry branch entry) = refl
+step_whole params vars (steps.Key branch key left right) = refl
+step_whole params vars (steps.Link branch link fact) = refl
+step_whole params vars (steps.Rule branch rule part facts) = rw (counts_whole facts) refl
+step_whole params vars (steps.View branch view part facts) = rw (counts_whole facts) refl
+step_whole params vars (steps.Split branch atom) = rw (term_whole params vars atom.left, term_whole params vars atom.right) refl
+step_whole params vars (steps.Absurd branch) = refl
+step_whole params vars (steps.Goal branch part facts) = rw (counts_whole facts) refl
 
-steps_whole : (params : List Parameter) (all : List Step) → items_have_float (items_of (map (step_json params) all)) ≡ false
-steps_whole params [] = refl
-steps_whole params (step ∷ all) = rw (step_whole params step) (steps_whole params all)
+pub steps_whole : (params : List Parameter) (vars : ℕ) (all : List Step) → items_have_float (items_of (map (step_json params vars) all)) ≡ false
+steps_whole params vars [] = refl
+steps_whole params vars (step ∷ all) = rw (step_whole params vars step) (steps_whole params vars all)
 
 entry_whole : (schema : Schema) (params : List Parameter) (e : ProblemEntry) → has_float (entry_json schema params e) ≡ false
 unfolding entry_json
@@ -97,11 +101,11 @@ context_whole params (atom ∷ atoms) ms h = context_whole params atoms _ (value
 pub proof_whole : (p : Problem) (all : List Step) → has_float (proof_json p all) ≡ false
 unfolding proof_json
 proof_whole p all =
-    rw (context_whole p.policy.params p.assumed no_members refl, entries_whole p.policy.schema p.policy.params p.entries, steps_whole p.policy.params all) refl
+    rw (context_whole p.policy.params p.assumed no_members refl, entries_whole p.policy.schema p.policy.params p.entries, steps_whole p.policy.params 0 all) refl
 
 -- ---- how deep
 
-value_flat : (v : Value) → depth (value_json v) ≤ 0
+pub value_flat : (v : Value) → depth (value_json v) ≤ 0
 value_flat value.Null = omega arith
 value_flat (value.Int n) = omega arith
 value_flat (value.Text s) = omega arith
@@ -118,26 +122,30 @@ counts_flat : (ns : List ℕ) → items_depth (items_of (map count ns)) ≤ 0
 counts_flat [] = omega arith
 counts_flat (n ∷ ns) = let rest = counts_flat ns in omega arith
 
-term_flat : (params : List Parameter) (t : Term) → depth (term_json params t) ≤ 1
-term_flat params (term.Unknown n) = omega arith
-term_flat params (term.Val v) = let flat = value_flat v in omega arith
-term_flat params (term.Param n) = omega arith
-term_flat params (term.Var n) = omega arith
+var_flat : (n : ℕ) (b : Bool) → depth (cond b (list_json (string (codes "v") ∷ count n ∷ [])) null) ≤ 1
+var_flat n true = omega arith
+var_flat n false = omega arith
 
-step_flat : (params : List Parameter) (step : Step) → depth (step_json params step) ≤ 3
+term_flat : (params : List Parameter) (vars : ℕ) (t : Term) → depth (term_json params vars t) ≤ 1
+term_flat params vars (term.Unknown n) = omega arith
+term_flat params vars (term.Val v) = let flat = value_flat v in omega arith
+term_flat params vars (term.Param n) = omega arith
+term_flat params vars (term.Var n) = var_flat n (nat_lt n vars)
+
+step_flat : (params : List Parameter) (vars : ℕ) (step : Step) → depth (step_json params vars step) ≤ 3
 unfolding step_json atom_json
-step_flat params (steps.Entry branch entry) = omega arith
-step_flat params (steps.Key branch key left right) = omega arith
-step_flat params (steps.Link branch link fact) = omega arith
-step_flat params (steps.Rule branch rule part facts) = let flat = counts_flat facts in omega arith
-step_flat params (steps.View branch view part facts) = let flat = counts_flat facts in omega arith
-step_flat params (steps.Split branch atom) = let left = term_flat params atom.left in let right = term_flat params atom.right in omega arith
-step_flat params (steps.Absurd branch) = omega arith
-step_flat params (steps.Goal branch part facts) = let flat = counts_flat facts in omega arith
+step_flat params vars (steps.Entry branch entry) = omega arith
+step_flat params vars (steps.Key branch key left right) = omega arith
+step_flat params vars (steps.Link branch link fact) = omega arith
+step_flat params vars (steps.Rule branch rule part facts) = let flat = counts_flat facts in omega arith
+step_flat params vars (steps.View branch view part facts) = let flat = counts_flat facts in omega arith
+step_flat params vars (steps.Split branch atom) = let left = term_flat params vars atom.left in let right = term_flat params vars atom.right in omega arith
+step_flat params vars (steps.Absurd branch) = omega arith
+step_flat params vars (steps.Goal branch part facts) = let flat = counts_flat facts in omega arith
 
-steps_flat : (params : List Parameter) (all : List Step) → items_depth (items_of (map (step_json params) all)) ≤ 3
-steps_flat params [] = omega arith
-steps_flat params (step ∷ all) = let first = step_flat params step in let rest = steps_flat params all in omega arith
+pub steps_flat : (params : List Parameter) (vars : ℕ) (all : List Step) → items_depth (items_of (map (step_json params vars) all)) ≤ 3
+steps_flat params vars [] = omega arith
+steps_flat params vars (step ∷ all) = let first = step_flat params vars step in let rest = steps_flat params vars all in omega arith
 
 entry_flat : (schema : Schema) (params : List Parameter) (e : ProblemEntry) → depth (entry_json schema params e) ≤ 2
 unfolding entry_json
@@ -170,5 +178,5 @@ unfolding proof_json
 proof_shallow p all =
     let context = context_flat p.policy.params p.assumed no_members (omega arith) in
     let entries = entries_flat p.policy.schema p.policy.params p.entries in
-    let steps = steps_flat p.policy.params all in
+    let steps = steps_flat p.policy.params 0 all in
     omega arith

@@ -159,7 +159,7 @@ few_read ds h = let small : nat_lt most_steps (length ds) ≡ false = not_more (
         by true e = let more = ltb-true most_steps n e in absurd (omega (arith, more, h))
         by false e = refl
 
-steps_read : (params : List Parameter) (v : ℕ) (ds : List Data) (all : List Step) → each (step_at params v) ds ≡ Ok all → steps_at params v (Some (list_json ds)) ≡ Ok all
+steps_read : (params : List Parameter) (v : ℕ) (ds : List Data) (all : List Step) → each (step_at params 0 v) ds ≡ Ok all → steps_at params v (Some (list_json ds)) ≡ Ok all
 unfolding steps_at
 steps_read params v ds all e = rw (items_are ds) e
 
@@ -190,10 +190,10 @@ data_reads prints policy c trace q all w =
     let p = problem_of policy c trace q in
     let values = context_reads policy.params c.values w.goal.params_apart w.fits.context (recursion_from_All ValueSpells c.values w.context) in
     let recorded = trace_reads policy prints trace (recursion_from_All (RecordFits policy) trace w.fits.trace_fits) (recursion_from_All (RecordSpells policy) trace w.entries) in
-    let taken = all_steps policy.params (version_of all) all w.goal.params_apart (recursion_from_All (StepSpells policy.params) all w.steps) (have_versions all) in
+    let taken = all_steps policy.params 0 (version_of all) all w.goal.params_apart (recursion_from_All (StepSpells policy.params 0) all w.steps) (have_versions all) in
     let question = question_reads policy (proof_json p all) c (singles trace) q (context_field policy.params _ c values) (entries_read policy _ (singles trace) recorded)
     (goal_reads policy q (query_text policy.schema policy.params q) (prints policy.schema policy.params q w.goal)) in
-    fields_read policy (proof_json p all) _ p all (version_of all) (few_read (map (step_json policy.params) all) (subst (λ n. n ≤ most_steps) (sym (length_map (step_json policy.params) all)) w.few))
+    fields_read policy (proof_json p all) _ p all (version_of all) (few_read (map (step_json policy.params 0) all) (subst (λ n. n ≤ most_steps) (sym (length_map (step_json policy.params 0) all)) w.few))
     (version_reads all) (question ∙ ap Ok (same_problem policy c trace q)) (steps_read policy.params (version_of all) _ all taken) (keys_read _ _ _ _ _)
 
 pub reads_back : PrintedQueryReadsBack → (p : Problem) (all : List Step) (bytes : List ℕ) → IsUtf8 bytes → read bytes ≡ Some (proof_json p all) → ReadsBack p all bytes

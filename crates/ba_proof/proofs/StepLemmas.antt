@@ -82,19 +82,19 @@ param_reads params n apart lt bits =
 
 -- ---- terms and atoms
 
-int_term : (params : List Parameter) (n : ℕ) (b : Bool) (d : Data) → b ≡ true → term_given params (given_from None (cond b (Some (pos n)) None)) d ≡ Ok (term.Val (value.Int (pos n)))
-int_term params n true d e = refl
-int_term params n false d e = cc e
+int_term : (params : List Parameter) (vars n : ℕ) (b : Bool) (d : Data) → b ≡ true → term_given params vars (given_from None (cond b (Some (pos n)) None)) d ≡ Ok (term.Val (value.Int (pos n)))
+int_term params vars n true d e = refl
+int_term params vars n false d e = cc e
 
-term_reads : (params : List Parameter) (t : Term) → AreDistinct (map (λ q. q.name) params) → TermSpells params t → term_at params (term_json params t) ≡ Ok t
+term_reads : (params : List Parameter) (vars : ℕ) (t : Term) → AreDistinct (map (λ q. q.name) params) → TermSpells params vars t → term_at params vars (term_json params vars t) ≡ Ok t
 unfolding term_at marked_of
-term_reads params (term.Unknown n) apart h = rw (number_reads n h) refl
-term_reads params (term.Val value.Null) apart h = absurd (h.0 refl)
-term_reads params (term.Val (value.Int (pos n))) apart h = int_term params n (nat_lt n (2 ^ 63)) _ h.1
-term_reads params (term.Val (value.Int (negsuc n))) apart h = refl
-term_reads params (term.Val (value.Text s)) apart h = refl
-term_reads params (term.Param n) apart h = param_reads params n apart h.0 h.1
-term_reads params (term.Var n) apart h = absurd h
+term_reads params vars (term.Unknown n) apart h = rw (number_reads n h) refl
+term_reads params vars (term.Val value.Null) apart h = absurd (h.0 refl)
+term_reads params vars (term.Val (value.Int (pos n))) apart h = int_term params vars n (nat_lt n (2 ^ 63)) _ h.1
+term_reads params vars (term.Val (value.Int (negsuc n))) apart h = refl
+term_reads params vars (term.Val (value.Text s)) apart h = refl
+term_reads params vars (term.Param n) apart h = param_reads params n apart h.0 h.1
+term_reads params vars (term.Var n) apart h = rw (lt-ltb n vars h.0, number_reads n h.1) (rw (lt-ltb n vars h.0) refl)
 
 pub op_reads : (op : Op) → op_of (op_name op) ≡ Ok op
 unfolding op_of
@@ -105,9 +105,9 @@ op_reads Le = refl
 op_reads IsNull = refl
 op_reads NotNull = refl
 
-atom_reads : (params : List Parameter) (atom : TermAtom) → AreDistinct (map (λ q. q.name) params) → AtomSpells params atom → atom_at params (atom_json params atom) ≡ Ok atom
+atom_reads : (params : List Parameter) (vars : ℕ) (atom : TermAtom) → AreDistinct (map (λ q. q.name) params) → AtomSpells params vars atom → atom_at params vars (atom_json params vars atom) ≡ Ok atom
 unfolding atom_json
-atom_reads params atom apart h = rw (op_reads atom.op, term_reads params atom.left apart h.left, term_reads params atom.right apart h.right) refl
+atom_reads params vars atom apart h = rw (op_reads atom.op, term_reads params vars atom.left apart h.left, term_reads params vars atom.right apart h.right) refl
 
 -- ---- NULL
 
@@ -125,20 +125,20 @@ null_no_term p old new branch atom takes =
 abbrev pub HasVersion : ℕ → Step → Type 0
 HasVersion version step = is_rule step ≡ true → nat_le RULE_VERSION version ≡ true
 
-pub step_reads : (params : List Parameter) (version : ℕ) (step : Step) → AreDistinct (map (λ q. q.name) params) → StepSpells params step → HasVersion version step
-    → step_at params version (step_json params step) ≡ Ok step
+pub step_reads : (params : List Parameter) (vars version : ℕ) (step : Step) → AreDistinct (map (λ q. q.name) params) → StepSpells params vars step → HasVersion version step
+    → step_at params vars version (step_json params vars step) ≡ Ok step
 unfolding step_at step_json named_of is_rule
-step_reads params version (steps.Entry branch entry) apart h v = rw (number_reads branch h.0) refl
-step_reads params version (steps.Key branch key left right) apart h v = rw (number_reads branch h.0, number_reads key h.1, number_reads left h.2, number_reads right h.3) refl
-step_reads params version (steps.Link branch link fact) apart h v = rw (number_reads branch h.0, number_reads link h.1, number_reads fact h.2) refl
-step_reads params version (steps.Rule branch rule part facts) apart h v =
+step_reads params vars version (steps.Entry branch entry) apart h v = rw (number_reads branch h.0) refl
+step_reads params vars version (steps.Key branch key left right) apart h v = rw (number_reads branch h.0, number_reads key h.1, number_reads left h.2, number_reads right h.3) refl
+step_reads params vars version (steps.Link branch link fact) apart h v = rw (number_reads branch h.0, number_reads link h.1, number_reads fact h.2) refl
+step_reads params vars version (steps.Rule branch rule part facts) apart h v =
     rw (v refl, number_reads branch h.0, number_reads rule h.1, number_reads part h.2, numbers_read facts h.3) refl
-step_reads params version (steps.View branch view part facts) apart h v = rw (number_reads branch h.0, number_reads view h.1, number_reads part h.2, numbers_read facts h.3) refl
-step_reads params version (steps.Split branch atom) apart h v = rw (number_reads branch h.0, atom_reads params atom apart h.1) refl
-step_reads params version (steps.Absurd branch) apart h v = rw (number_reads branch h) refl
-step_reads params version (steps.Goal branch part facts) apart h v = rw (number_reads branch h.0, number_reads part h.1, numbers_read facts h.2) refl
+step_reads params vars version (steps.View branch view part facts) apart h v = rw (number_reads branch h.0, number_reads view h.1, number_reads part h.2, numbers_read facts h.3) refl
+step_reads params vars version (steps.Split branch atom) apart h v = rw (number_reads branch h.0, atom_reads params vars atom apart h.1) refl
+step_reads params vars version (steps.Absurd branch) apart h v = rw (number_reads branch h) refl
+step_reads params vars version (steps.Goal branch part facts) apart h v = rw (number_reads branch h.0, number_reads part h.1, numbers_read facts h.2) refl
 
-pub all_steps : (params : List Parameter) (version : ℕ) (all : List Step) → AreDistinct (map (λ q. q.name) params) → AllByRecursion (StepSpells params) all → AllByRecursion (HasVersion version) all
-    → each (step_at params version) (map (step_json params) all) ≡ Ok all
-all_steps params version [] apart h v = refl
-all_steps params version (step ∷ all) apart h v = rw (step_reads params version step apart h.0 v.0, all_steps params version all apart h.1 v.1) refl
+pub all_steps : (params : List Parameter) (vars version : ℕ) (all : List Step) → AreDistinct (map (λ q. q.name) params) → AllByRecursion (StepSpells params vars) all → AllByRecursion (HasVersion version) all
+    → each (step_at params vars version) (map (step_json params vars) all) ≡ Ok all
+all_steps params vars version [] apart h v = refl
+all_steps params vars version (step ∷ all) apart h v = rw (step_reads params vars version step apart h.0 v.0, all_steps params vars version all apart h.1 v.1) refl

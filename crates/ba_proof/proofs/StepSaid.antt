@@ -21,9 +21,9 @@ use Rattle.ba_proof.specs.declared.fault.ProofFault.{ProofFault}
 use Rattle.ba_proof.specs.declared.fault.ProofField.TheVariants as field
 use Rattle.ba_proof.specs.declared.version.TheConstants.{RULE_VERSION}
 
-module _ (params : List Parameter) (version : ℕ) where
+module _ (params : List Parameter) (vars version : ℕ) where
   abbrev Says : Data → Step → Type 0
-  Says = SaysStep params version
+  Says = SaysStep params vars version
 
   -- ---- what a step's numbers say
 
@@ -135,17 +135,17 @@ module _ (params : List Parameter) (version : ℕ) where
       (record { a = a; b = b; is = is; first = number_is a m0.0 m0.1; second = long_is b m1.0 (good field.Steps (as_long b) m1.0 m1.1) })
   entry_is d (a ∷ b ∷ c ∷ more) step is e = cc e
 
-  split_is : (d : Data) (args : List Data) (step : Step) → d ≡ list_json (string (codes "split") ∷ args) → split_of params args ≡ Ok step → Says d step
+  split_is : (d : Data) (args : List Data) (step : Step) → d ≡ list_json (string (codes "split") ∷ args) → split_of params vars args ≡ Ok step → Says d step
   split_is d [] step is e = cc e
   split_is d (a ∷ []) step is e = cc e
   split_is d (a ∷ b ∷ []) step is e =
-      let m0 = bound (number_at a) (λ n0. (atom_at params b >>= λ n1. Ok (steps.Split n0 n1))) step e in
-      let m1 = bound (atom_at params b) (λ n1. Ok (steps.Split m0.0 n1)) step m0.2 in
+      let m0 = bound (number_at a) (λ n0. (atom_at params vars b >>= λ n1. Ok (steps.Split n0 n1))) step e in
+      let m1 = bound (atom_at params vars b) (λ n1. Ok (steps.Split m0.0 n1)) step m0.2 in
       subst (Says d) (ok_same (steps.Split m0.0 m1.0) step m1.2)
-      (record { a = a; b = b; is = is; first = number_is a m0.0 m0.1; second = atom_is params b m1.0 m1.1 })
+      (record { a = a; b = b; is = is; first = number_is a m0.0 m0.1; second = atom_is params vars b m1.0 m1.1 })
   split_is d (a ∷ b ∷ c ∷ more) step is e = cc e
 
-  named_is : (d : Data) (name : List ℕ) (args : List Data) (step : Step) → d ≡ list_json (string name ∷ args) → named_of params version name args ≡ Ok step → Says d step
+  named_is : (d : Data) (name : List ℕ) (args : List Data) (step : Step) → d ≡ list_json (string name ∷ args) → named_of params vars version name args ≡ Ok step → Says d step
   unfolding named_of
   named_is d name args step is e =
       choose (Says d step) (bytes_eq name (codes "entry")) _ _ step e (λ b h. entry_is d args step (is ∙ ap (λ s. list_json (string s ∷ args)) (same_text name (codes "entry") b)) h)
@@ -158,53 +158,53 @@ module _ (params : List Parameter) (version : ℕ) where
       (λ e6. choose (Says d step) (bytes_eq name (codes "goal")) _ _ step e6 (λ b h. goal_is d args step (is ∙ ap (λ s. list_json (string s ∷ args)) (same_text name (codes "goal") b)) h)
       (λ e7. cc e7))))))))
 
-  items_step : (d : Data) (ds : List Data) (step : Step) → d ≡ list_json ds → step_of params version ds ≡ Ok step → Says d step
+  items_step : (d : Data) (ds : List Data) (step : Step) → d ≡ list_json ds → step_of params vars version ds ≡ Ok step → Says d step
   items_step d [] step is e = cc e
   items_step d (name ∷ args) step is e =
-      let it = bound (text_at field.Steps name) (λ s. named_of params version s args) step e in
+      let it = bound (text_at field.Steps name) (λ s. named_of params vars version s args) step e in
       named_is d it.0 args step (is ∙ ap (λ x. list_json (x ∷ args)) (text_is field.Steps name it.0 it.1)) it.2
 
-  pub step_is : (d : Data) (step : Step) → step_at params version d ≡ Ok step → SaysStep params version d step
+  pub step_is : (d : Data) (step : Step) → step_at params vars version d ≡ Ok step → SaysStep params vars version d step
   unfolding step_at
   step_is d step e =
-      let items = bound (list_at field.Steps d) (step_of params version) step e in
+      let items = bound (list_at field.Steps d) (step_of params vars version) step e in
       items_step d items.0 step (list_is field.Steps d items.0 items.1) items.2
 
   -- ---- what is said is read
 
-  named_at : (name : List ℕ) (args : List Data) → step_at params version (list_json (string name ∷ args)) ≡ named_of params version name args
+  named_at : (name : List ℕ) (args : List Data) → step_at params vars version (list_json (string name ∷ args)) ≡ named_of params vars version name args
   unfolding step_at
-  named_at name args = ap (λ r. r >>= step_of params version) (list_said field.Steps (string name ∷ args))
+  named_at name args = ap (λ r. r >>= step_of params vars version) (list_said field.Steps (string name ∷ args))
 
-  to_entry : (args : List Data) → named_of params version (codes "entry") args ≡ entry_of args
+  to_entry : (args : List Data) → named_of params vars version (codes "entry") args ≡ entry_of args
   unfolding named_of
   to_entry args = refl
 
-  to_key : (args : List Data) → named_of params version (codes "key") args ≡ key_of args
+  to_key : (args : List Data) → named_of params vars version (codes "key") args ≡ key_of args
   unfolding named_of
   to_key args = refl
 
-  to_link : (args : List Data) → named_of params version (codes "link") args ≡ link_of args
+  to_link : (args : List Data) → named_of params vars version (codes "link") args ≡ link_of args
   unfolding named_of
   to_link args = refl
 
-  to_rule : (args : List Data) → named_of params version (codes "rule") args ≡ rule_in version args
+  to_rule : (args : List Data) → named_of params vars version (codes "rule") args ≡ rule_in version args
   unfolding named_of
   to_rule args = refl
 
-  to_view : (args : List Data) → named_of params version (codes "view") args ≡ view_of args
+  to_view : (args : List Data) → named_of params vars version (codes "view") args ≡ view_of args
   unfolding named_of
   to_view args = refl
 
-  to_split : (args : List Data) → named_of params version (codes "split") args ≡ split_of params args
+  to_split : (args : List Data) → named_of params vars version (codes "split") args ≡ split_of params vars args
   unfolding named_of
   to_split args = refl
 
-  to_absurd : (args : List Data) → named_of params version (codes "absurd") args ≡ absurd_of args
+  to_absurd : (args : List Data) → named_of params vars version (codes "absurd") args ≡ absurd_of args
   unfolding named_of
   to_absurd args = refl
 
-  to_goal : (args : List Data) → named_of params version (codes "goal") args ≡ goal_of args
+  to_goal : (args : List Data) → named_of params vars version (codes "goal") args ≡ goal_of args
   unfolding named_of
   to_goal args = refl
 
@@ -254,34 +254,34 @@ module _ (params : List Parameter) (version : ℕ) where
   entry_said : (a b : Data) (branch entry : ℕ) → SaysShort a branch → SaysLong b entry → entry_of (a ∷ b ∷ []) ≡ Ok (steps.Entry branch entry)
   entry_said a b branch entry h k = rw (number_said a branch h) (ap (λ o. or_bad field.Steps o >>= λ n. Ok (steps.Entry branch n)) (long_said b entry k))
 
-  split_said : (a b : Data) (branch : ℕ) (atom : TermAtom) → SaysShort a branch → SaysAtom params b atom → split_of params (a ∷ b ∷ []) ≡ Ok (steps.Split branch atom)
-  split_said a b branch atom h k = rw (number_said a branch h, atom_said params b atom k) refl
+  split_said : (a b : Data) (branch : ℕ) (atom : TermAtom) → SaysShort a branch → SaysAtom params vars b atom → split_of params vars (a ∷ b ∷ []) ≡ Ok (steps.Split branch atom)
+  split_said a b branch atom h k = rw (number_said a branch h, atom_said params vars b atom k) refl
 
   rule_step : (args : List Data) (step : Step) → RULE_VERSION ≤ version → rule_of args ≡ Ok step → rule_in version args ≡ Ok step
   rule_step args step le e = ap (λ b. cond b (rule_of args) (bad field.Steps)) (le-leb RULE_VERSION version le) ∙ e
 
-  pub step_said : (d : Data) (step : Step) → SaysStep params version d step → step_at params version d ≡ Ok step
+  pub step_said : (d : Data) (step : Step) → SaysStep params vars version d step → step_at params vars version d ≡ Ok step
   step_said d (steps.Entry branch entry) h =
-      ap (step_at params version) h.is ∙ (named_at (codes "entry") (h.a ∷ h.b ∷ []) ∙ (to_entry (h.a ∷ h.b ∷ []) ∙ entry_said h.a h.b branch entry h.first h.second))
+      ap (step_at params vars version) h.is ∙ (named_at (codes "entry") (h.a ∷ h.b ∷ []) ∙ (to_entry (h.a ∷ h.b ∷ []) ∙ entry_said h.a h.b branch entry h.first h.second))
   step_said d (steps.Split branch atom) h =
-      ap (step_at params version) h.is ∙ (named_at (codes "split") (h.a ∷ h.b ∷ []) ∙ (to_split (h.a ∷ h.b ∷ []) ∙ split_said h.a h.b branch atom h.first h.second))
+      ap (step_at params vars version) h.is ∙ (named_at (codes "split") (h.a ∷ h.b ∷ []) ∙ (to_split (h.a ∷ h.b ∷ []) ∙ split_said h.a h.b branch atom h.first h.second))
   step_said d (steps.Key branch key left right) h =
-      ap (step_at params version) h.is ∙ (named_at (codes "key") h.args ∙ (to_key h.args ∙ key_said h.args branch key left right h.numbers))
+      ap (step_at params vars version) h.is ∙ (named_at (codes "key") h.args ∙ (to_key h.args ∙ key_said h.args branch key left right h.numbers))
   step_said d (steps.Link branch link fact) h =
-      ap (step_at params version) h.is ∙ (named_at (codes "link") h.args ∙ (to_link h.args ∙ link_said h.args branch link fact h.numbers))
+      ap (step_at params vars version) h.is ∙ (named_at (codes "link") h.args ∙ (to_link h.args ∙ link_said h.args branch link fact h.numbers))
   step_said d (steps.Rule branch rule part facts) h =
       let says = h.1 in
-      ap (step_at params version) says.is
+      ap (step_at params vars version) says.is
       ∙ (named_at (codes "rule") (says.args ++ says.last ∷ [])
       ∙ (to_rule (says.args ++ says.last ∷ [])
       ∙ rule_step (says.args ++ says.last ∷ []) (steps.Rule branch rule part facts) h.0 (rule_said says.args says.last branch rule part facts says.numbers says.facts_are)))
   step_said d (steps.View branch view part facts) h =
-      ap (step_at params version) h.is
+      ap (step_at params vars version) h.is
       ∙ (named_at (codes "view") (h.args ++ h.last ∷ []) ∙ (to_view (h.args ++ h.last ∷ []) ∙ view_said h.args h.last branch view part facts h.numbers h.facts_are))
   step_said d (steps.Absurd branch) h =
-      ap (step_at params version) h.is ∙ (named_at (codes "absurd") h.args ∙ (to_absurd h.args ∙ absurd_said h.args branch h.numbers))
+      ap (step_at params vars version) h.is ∙ (named_at (codes "absurd") h.args ∙ (to_absurd h.args ∙ absurd_said h.args branch h.numbers))
   step_said d (steps.Goal branch part facts) h =
-      ap (step_at params version) h.is
+      ap (step_at params vars version) h.is
       ∙ (named_at (codes "goal") (h.args ++ h.last ∷ []) ∙ (to_goal (h.args ++ h.last ∷ []) ∙ goal_said h.args h.last branch part facts h.numbers h.facts_are))
 
   -- ---- what is no step is a bad field
@@ -343,15 +343,15 @@ module _ (params : List Parameter) (version : ℕ) where
       (λ m0. only_bind field.Steps (long_at b) (λ n1. Ok (steps.Entry m0 n1)) (long_only b) (λ m1. only_ok field.Steps (steps.Entry m0 m1)))
   entry_only (a ∷ b ∷ c ∷ more) = only_bad field.Steps
 
-  split_only : (args : List Data) → OnlyBad field.Steps (split_of params args)
+  split_only : (args : List Data) → OnlyBad field.Steps (split_of params vars args)
   split_only [] = only_bad field.Steps
   split_only (a ∷ []) = only_bad field.Steps
   split_only (a ∷ b ∷ []) =
-      only_bind field.Steps (number_at a) (λ n0. (atom_at params b >>= λ n1. Ok (steps.Split n0 n1))) (number_only a)
-      (λ m0. only_bind field.Steps (atom_at params b) (λ n1. Ok (steps.Split m0 n1)) (atom_only params b) (λ m1. only_ok field.Steps (steps.Split m0 m1)))
+      only_bind field.Steps (number_at a) (λ n0. (atom_at params vars b >>= λ n1. Ok (steps.Split n0 n1))) (number_only a)
+      (λ m0. only_bind field.Steps (atom_at params vars b) (λ n1. Ok (steps.Split m0 n1)) (atom_only params vars b) (λ m1. only_ok field.Steps (steps.Split m0 m1)))
   split_only (a ∷ b ∷ c ∷ more) = only_bad field.Steps
 
-  named_only : (name : List ℕ) (args : List Data) → OnlyBad field.Steps (named_of params version name args)
+  named_only : (name : List ℕ) (args : List Data) → OnlyBad field.Steps (named_of params vars version name args)
   unfolding named_of
   named_only name args =
       only_cond field.Steps (bytes_eq name (codes "entry")) _ _ (entry_only args)
@@ -363,10 +363,10 @@ module _ (params : List Parameter) (version : ℕ) where
       (only_cond field.Steps (bytes_eq name (codes "absurd")) _ _ (absurd_only args)
       (only_cond field.Steps (bytes_eq name (codes "goal")) _ _ (goal_only args) (only_bad field.Steps))))))))
 
-  items_only : (ds : List Data) → OnlyBad field.Steps (step_of params version ds)
+  items_only : (ds : List Data) → OnlyBad field.Steps (step_of params vars version ds)
   items_only [] = only_bad field.Steps
-  items_only (name ∷ args) = only_bind field.Steps (text_at field.Steps name) (λ s. named_of params version s args) (only_or field.Steps _) (λ s. named_only s args)
+  items_only (name ∷ args) = only_bind field.Steps (text_at field.Steps name) (λ s. named_of params vars version s args) (only_or field.Steps _) (λ s. named_only s args)
 
-  pub step_only : (d : Data) → OnlyBad field.Steps (step_at params version d)
+  pub step_only : (d : Data) → OnlyBad field.Steps (step_at params vars version d)
   unfolding step_at
-  step_only d = only_bind field.Steps (list_at field.Steps d) (step_of params version) (only_or field.Steps (as_list d)) items_only
+  step_only d = only_bind field.Steps (list_at field.Steps d) (step_of params vars version) (only_or field.Steps (as_list d)) items_only

@@ -1,8 +1,9 @@
 -- A term or an atom is read exactly where it is said.
-use Rattle.std.proofs.Common.{◌≡◌, ◌∙◌, ℕ, ℤ, List, [], ◌∷◌, Bool, true, false, cond, Option, Some, None, Result, Ok, Err, refl, sym, ap, subst, codes, nat_le}
+use Rattle.std.proofs.Common.{◌≡◌, ◌∙◌, ℕ, ℤ, List, [], ◌∷◌, Bool, true, false, cond, Option, Some, None, Result, Ok, Err, refl, sym, ap, subst, codes, nat_le, nat_lt}
 use Rattle.std.specs.Prelude.{option_and_then}
 use Rattle.std.specs.List.{position}
 use Rattle.std.specs.Str.{bytes_eq}
+use Rattle.std.proofs.lemmas.Bool.{lt-ltb, ltb-true}
 use Rattle.std.proofs.lemmas.Slice.Eq.{bytes_eq-Decides}
 use Rattle.serde_json.specs.Data.{Data, null, boolean, number, string, array, object}
 use Rattle.serde_json.specs.Find.{as_i64}
@@ -25,7 +26,7 @@ use Rattle.ba_proof.proofs.SaidLemmas.{OnlyBad, choose, list_is, number_is, numb
 use Rattle.ba_proof.proofs.StepLemmas.{op_reads}
 use Rattle.ba_proof.specs.Says.{SaysAtom, SaysTerm}
 use Rattle.ba_proof.specs.Shapes.{as_list, list_at, or_bad, short, text_at}
-use Rattle.ba_proof.specs.Steps.{atom_at, atom_of, atom_with, marked_of, number_at, op_of, pair_of, param_of, term_at, term_given}
+use Rattle.ba_proof.specs.Steps.{atom_at, atom_of, atom_with, marked_of, number_at, op_of, pair_of, param_of, term_at, term_given, var_of}
 use Rattle.ba_proof.specs.Written.{list_json, op_name}
 use Rattle.ba_proof.specs.declared.fault.ProofFault.{ProofFault}
 use Rattle.ba_proof.specs.declared.fault.ProofField.TheVariants as field
@@ -48,7 +49,7 @@ numbered_place (Some m) n e = by (nat_le m 0xffff_ffff) refl e
     by true t h = let same : m ≡ n = cc h in ap Some same
     by false t h = cc h
 
-module _ (params : List Parameter) where
+module _ (params : List Parameter) (vars : ℕ) where
   abbrev place_at : List ℕ → Option ℕ
   place_at name = position (λ parameter. bytes_eq parameter.name name) params
 
@@ -70,82 +71,93 @@ module _ (params : List Parameter) where
 
   -- ---- terms
 
-  unknown_is : (d x : Data) (t : Term) → d ≡ list_json (string (codes "u") ∷ x ∷ []) → (number_at x >>= λ n. Ok (term.Unknown n)) ≡ Ok t → SaysTerm params d t
+  unknown_is : (d x : Data) (t : Term) → d ≡ list_json (string (codes "u") ∷ x ∷ []) → (number_at x >>= λ n. Ok (term.Unknown n)) ≡ Ok t → SaysTerm params vars d t
   unknown_is d x t is e =
       let n = bound (number_at x) (λ n. Ok (term.Unknown n)) t e in
-      subst (SaysTerm params d) (ok_same (term.Unknown n.0) t n.2) (x, is, number_is x n.0 n.1)
+      subst (SaysTerm params vars d) (ok_same (term.Unknown n.0) t n.2) (x, is, number_is x n.0 n.1)
 
-  named_is : (d x : Data) (t : Term) → d ≡ list_json (string (codes "p") ∷ x ∷ []) → (text_at field.Steps x >>= param_of params) ≡ Ok t → SaysTerm params d t
+  named_is : (d x : Data) (t : Term) → d ≡ list_json (string (codes "p") ∷ x ∷ []) → (text_at field.Steps x >>= param_of params) ≡ Ok t → SaysTerm params vars d t
   named_is d x t is e =
       let name = bound (text_at field.Steps x) (param_of params) t e in
       let p = param_is name.0 t name.2 in
-      subst (SaysTerm params d) (sym p.2) (name.0, is ∙ ap (λ y. list_json (string (codes "p") ∷ y ∷ [])) (text_is field.Steps x name.0 name.1), p.1)
+      subst (SaysTerm params vars d) (sym p.2) (name.0, is ∙ ap (λ y. list_json (string (codes "p") ∷ y ∷ [])) (text_is field.Steps x name.0 name.1), p.1)
 
-  marked_is : (d x : Data) (mark : List ℕ) (t : Term) → d ≡ list_json (string mark ∷ x ∷ []) → marked_of params mark x ≡ Ok t → SaysTerm params d t
+  var_is : (d x : Data) (t : Term) → d ≡ list_json (string (codes "v") ∷ x ∷ []) → (number_at x >>= var_of vars) ≡ Ok t → SaysTerm params vars d t
+  var_is d x t is e =
+      let n = bound (number_at x) (var_of vars) t e in
+      choose (SaysTerm params vars d t) (nat_lt n.0 vars) _ _ t n.2
+      (λ b h. subst (SaysTerm params vars d) (ok_same (term.Var n.0) t h) (x, is, number_is x n.0 n.1, ltb-true n.0 vars b))
+      (λ h. cc h)
+
+  marked_is : (d x : Data) (mark : List ℕ) (t : Term) → d ≡ list_json (string mark ∷ x ∷ []) → marked_of params vars mark x ≡ Ok t → SaysTerm params vars d t
   unfolding marked_of
   marked_is d x mark t is e =
-      choose (SaysTerm params d t) (bytes_eq mark (codes "u")) _ _ t e
+      choose (SaysTerm params vars d t) (bytes_eq mark (codes "u")) _ _ t e
       (λ b h. unknown_is d x t (is ∙ ap (λ m. list_json (string m ∷ x ∷ [])) (same_text mark (codes "u") b)) h)
-      (λ h. choose (SaysTerm params d t) (bytes_eq mark (codes "p")) _ _ t h
+      (λ h. choose (SaysTerm params vars d t) (bytes_eq mark (codes "p")) _ _ t h
       (λ b k. named_is d x t (is ∙ ap (λ m. list_json (string m ∷ x ∷ [])) (same_text mark (codes "p") b)) k)
-      (λ k. cc k))
+      (λ k. choose (SaysTerm params vars d t) (bytes_eq mark (codes "v")) _ _ t k
+      (λ b l. var_is d x t (is ∙ ap (λ m. list_json (string m ∷ x ∷ [])) (same_text mark (codes "v") b)) l)
+      (λ l. cc l)))
 
-  pair_is : (d : Data) (ds : List Data) (t : Term) → d ≡ list_json ds → pair_of params ds ≡ Ok t → SaysTerm params d t
+  pair_is : (d : Data) (ds : List Data) (t : Term) → d ≡ list_json ds → pair_of params vars ds ≡ Ok t → SaysTerm params vars d t
   pair_is d [] t is e = cc e
   pair_is d (mark ∷ []) t is e = cc e
   pair_is d (mark ∷ x ∷ []) t is e =
-      let it = bound (text_at field.Steps mark) (λ s. marked_of params s x) t e in
+      let it = bound (text_at field.Steps mark) (λ s. marked_of params vars s x) t e in
       marked_is d x it.0 t (is ∙ ap (λ m. list_json (m ∷ x ∷ [])) (text_is field.Steps mark it.0 it.1)) it.2
   pair_is d (mark ∷ x ∷ other ∷ more) t is e = cc e
 
-  pub term_is : (d : Data) (t : Term) → term_at params d ≡ Ok t → SaysTerm params d t
+  pub term_is : (d : Data) (t : Term) → term_at params vars d ≡ Ok t → SaysTerm params vars d t
   unfolding term_at
   term_is null t e = cc e
   term_is (boolean b) t e = cc e
   term_is (number num) t e = by (as_i64 num) refl e
     where
-      by : (o : Option ℤ) → as_i64 num ≡ o → term_given params (given_from None o) (number num) ≡ Ok t → SaysTerm params (number num) t
-      by (Some n) is h = subst (SaysTerm params (number num)) (ok_same (term.Val (value.Int n)) t h) ((λ k. cc k), (num, refl, is))
+      by : (o : Option ℤ) → as_i64 num ≡ o → term_given params vars (given_from None o) (number num) ≡ Ok t → SaysTerm params vars (number num) t
+      by (Some n) is h = subst (SaysTerm params vars (number num)) (ok_same (term.Val (value.Int n)) t h) ((λ k. cc k), (num, refl, is))
       by None is h = cc h
-  term_is (string s) t e = subst (SaysTerm params (string s)) (ok_same (term.Val (value.Text s)) t e) ((λ k. cc k), refl)
+  term_is (string s) t e = subst (SaysTerm params vars (string s)) (ok_same (term.Val (value.Text s)) t e) ((λ k. cc k), refl)
   term_is (array ds) t e =
-      let items = bound (list_at field.Steps (array ds)) (pair_of params) t e in
+      let items = bound (list_at field.Steps (array ds)) (pair_of params vars) t e in
       pair_is (array ds) items.0 t (list_is field.Steps (array ds) items.0 items.1) items.2
   term_is (object ms) t e = cc e
 
-  pub term_said : (d : Data) (t : Term) → SaysTerm params d t → term_at params d ≡ Ok t
+  pub term_said : (d : Data) (t : Term) → SaysTerm params vars d t → term_at params vars d ≡ Ok t
   unfolding term_at marked_of
-  term_said d (term.Unknown n) h = ap (term_at params) h.1 ∙ rw (number_said h.0 n h.2) refl
+  term_said d (term.Unknown n) h = ap (term_at params vars) h.1 ∙ rw (number_said h.0 n h.2) refl
   term_said d (term.Val value.Null) h = absurd (h.0 refl)
-  term_said d (term.Val (value.Int n)) h = ap (term_at params) h.1.1 ∙ ap (λ o. term_given params (given_from None o) (number h.1.0)) h.1.2
-  term_said d (term.Val (value.Text s)) h = ap (term_at params) h.1
-  term_said d (term.Param n) h = ap (term_at params) h.1 ∙ param_said h.0 n h.2
-  term_said d (term.Var n) h = absurd h
+  term_said d (term.Val (value.Int n)) h = ap (term_at params vars) h.1.1 ∙ ap (λ o. term_given params vars (given_from None o) (number h.1.0)) h.1.2
+  term_said d (term.Val (value.Text s)) h = ap (term_at params vars) h.1
+  term_said d (term.Param n) h = ap (term_at params vars) h.1 ∙ param_said h.0 n h.2
+  term_said d (term.Var n) h = ap (term_at params vars) h.1 ∙ rw (number_said h.0 n h.2, lt-ltb n vars h.3) refl
 
-  marked_only : (mark : List ℕ) (x : Data) → OnlyBad field.Steps (marked_of params mark x)
+  marked_only : (mark : List ℕ) (x : Data) → OnlyBad field.Steps (marked_of params vars mark x)
   unfolding marked_of param_of
   marked_only mark x =
       only_cond field.Steps (bytes_eq mark (codes "u")) _ _ (only_bind field.Steps (number_at x) (λ n. Ok (term.Unknown n)) (number_only x) (λ n. only_ok field.Steps (term.Unknown n)))
       (only_cond field.Steps (bytes_eq mark (codes "p")) _ _ (only_bind field.Steps (text_at field.Steps x) (param_of params) (only_or field.Steps _)
       (λ name. only_bind field.Steps (or_bad field.Steps (option_and_then short (position (λ parameter. bytes_eq parameter.name name) params))) (λ n. Ok (term.Param n)) (only_or field.Steps _)
-      (λ n. only_ok field.Steps (term.Param n)))) (only_bad field.Steps))
+      (λ n. only_ok field.Steps (term.Param n))))
+      (only_cond field.Steps (bytes_eq mark (codes "v")) _ _ (only_bind field.Steps (number_at x) (var_of vars) (number_only x)
+      (λ n. only_cond field.Steps (nat_lt n vars) _ _ (only_ok field.Steps (term.Var n)) (only_bad field.Steps))) (only_bad field.Steps)))
 
-  pair_only : (ds : List Data) → OnlyBad field.Steps (pair_of params ds)
+  pair_only : (ds : List Data) → OnlyBad field.Steps (pair_of params vars ds)
   pair_only [] = only_bad field.Steps
   pair_only (mark ∷ []) = only_bad field.Steps
-  pair_only (mark ∷ x ∷ []) = only_bind field.Steps (text_at field.Steps mark) (λ s. marked_of params s x) (only_or field.Steps _) (λ s. marked_only s x)
+  pair_only (mark ∷ x ∷ []) = only_bind field.Steps (text_at field.Steps mark) (λ s. marked_of params vars s x) (only_or field.Steps _) (λ s. marked_only s x)
   pair_only (mark ∷ x ∷ other ∷ more) = only_bad field.Steps
 
-  list_only : (d : Data) → OnlyBad field.Steps (list_at field.Steps d >>= pair_of params)
-  list_only d = only_bind field.Steps (list_at field.Steps d) (pair_of params) (only_or field.Steps (as_list d)) pair_only
+  list_only : (d : Data) → OnlyBad field.Steps (list_at field.Steps d >>= pair_of params vars)
+  list_only d = only_bind field.Steps (list_at field.Steps d) (pair_of params vars) (only_or field.Steps (as_list d)) pair_only
 
-  pub term_only : (d : Data) → OnlyBad field.Steps (term_at params d)
+  pub term_only : (d : Data) → OnlyBad field.Steps (term_at params vars d)
   unfolding term_at
   term_only null = list_only null
   term_only (boolean b) = list_only (boolean b)
   term_only (number num) = by (as_i64 num)
     where
-      by : (o : Option ℤ) → OnlyBad field.Steps (term_given params (given_from None o) (number num))
+      by : (o : Option ℤ) → OnlyBad field.Steps (term_given params vars (given_from None o) (number num))
       by (Some n) = only_ok field.Steps (term.Val (value.Int n))
       by None = list_only (number num)
   term_only (string s) = only_ok field.Steps (term.Val (value.Text s))
@@ -177,18 +189,18 @@ module _ (params : List Parameter) where
 
   -- the sides behind a name
   abbrev sides : Data → Data → Op → Result TermAtom ProofFault
-  sides b c op = term_at params b >>= λ left. (term_at params c >>= λ right. Ok (atom_with op left right))
+  sides b c op = term_at params vars b >>= λ left. (term_at params vars c >>= λ right. Ok (atom_with op left right))
 
-  items_atom : (d : Data) (ds : List Data) (atom : TermAtom) → d ≡ list_json ds → atom_of params ds ≡ Ok atom → SaysAtom params d atom
+  items_atom : (d : Data) (ds : List Data) (atom : TermAtom) → d ≡ list_json ds → atom_of params vars ds ≡ Ok atom → SaysAtom params vars d atom
   items_atom d [] atom is e = cc e
   items_atom d (a ∷ []) atom is e = cc e
   items_atom d (a ∷ b ∷ []) atom is e = cc e
   items_atom d (a ∷ b ∷ c ∷ []) atom is e =
       let op = bound (text_at field.Steps a >>= op_of) (sides b c) atom e in
       let name = bound (text_at field.Steps a) op_of op.0 op.1 in
-      let left = bound (term_at params b) (λ l. (term_at params c >>= λ r. Ok (atom_with op.0 l r))) atom op.2 in
-      let right = bound (term_at params c) (λ r. Ok (atom_with op.0 left.0 r)) atom left.2 in
-      subst (SaysAtom params d) (ok_same (atom_with op.0 left.0 right.0) atom right.2)
+      let left = bound (term_at params vars b) (λ l. (term_at params vars c >>= λ r. Ok (atom_with op.0 l r))) atom op.2 in
+      let right = bound (term_at params vars c) (λ r. Ok (atom_with op.0 left.0 r)) atom left.2 in
+      subst (SaysAtom params vars d) (ok_same (atom_with op.0 left.0 right.0) atom right.2)
       (record {
         a = b;
         b = c;
@@ -198,27 +210,27 @@ module _ (params : List Parameter) where
       })
   items_atom d (a ∷ b ∷ c ∷ x ∷ more) atom is e = cc e
 
-  pub atom_is : (d : Data) (atom : TermAtom) → atom_at params d ≡ Ok atom → SaysAtom params d atom
+  pub atom_is : (d : Data) (atom : TermAtom) → atom_at params vars d ≡ Ok atom → SaysAtom params vars d atom
   atom_is d atom e =
-      let items = bound (list_at field.Steps d) (atom_of params) atom e in
+      let items = bound (list_at field.Steps d) (atom_of params vars) atom e in
       items_atom d items.0 atom (list_is field.Steps d items.0 items.1) items.2
 
-  made : (a b : Data) (op : Op) (left right : Term) → SaysTerm params a left → SaysTerm params b right
-      → atom_at params (list_json (string (op_name op) ∷ a ∷ b ∷ [])) ≡ Ok (atom_with op left right)
+  made : (a b : Data) (op : Op) (left right : Term) → SaysTerm params vars a left → SaysTerm params vars b right
+      → atom_at params vars (list_json (string (op_name op) ∷ a ∷ b ∷ [])) ≡ Ok (atom_with op left right)
   made a b op left right h k = rw (op_reads op, term_said a left h, term_said b right k) refl
 
-  pub atom_said : (d : Data) (atom : TermAtom) → SaysAtom params d atom → atom_at params d ≡ Ok atom
-  atom_said d atom h = ap (atom_at params) h.is ∙ made h.a h.b atom.op atom.left atom.right h.left h.right
+  pub atom_said : (d : Data) (atom : TermAtom) → SaysAtom params vars d atom → atom_at params vars d ≡ Ok atom
+  atom_said d atom h = ap (atom_at params vars) h.is ∙ made h.a h.b atom.op atom.left atom.right h.left h.right
 
-  atom_items_only : (ds : List Data) → OnlyBad field.Steps (atom_of params ds)
+  atom_items_only : (ds : List Data) → OnlyBad field.Steps (atom_of params vars ds)
   atom_items_only [] = only_bad field.Steps
   atom_items_only (a ∷ []) = only_bad field.Steps
   atom_items_only (a ∷ b ∷ []) = only_bad field.Steps
   atom_items_only (a ∷ b ∷ c ∷ []) =
       only_bind field.Steps (text_at field.Steps a >>= op_of) (sides b c) (only_bind field.Steps (text_at field.Steps a) op_of (only_or field.Steps _) op_only)
-      (λ op. only_bind field.Steps (term_at params b) (λ l. (term_at params c >>= λ r. Ok (atom_with op l r))) (term_only b)
-      (λ l. only_bind field.Steps (term_at params c) (λ r. Ok (atom_with op l r)) (term_only c) (λ r. only_ok field.Steps (atom_with op l r))))
+      (λ op. only_bind field.Steps (term_at params vars b) (λ l. (term_at params vars c >>= λ r. Ok (atom_with op l r))) (term_only b)
+      (λ l. only_bind field.Steps (term_at params vars c) (λ r. Ok (atom_with op l r)) (term_only c) (λ r. only_ok field.Steps (atom_with op l r))))
   atom_items_only (a ∷ b ∷ c ∷ x ∷ more) = only_bad field.Steps
 
-  pub atom_only : (d : Data) → OnlyBad field.Steps (atom_at params d)
-  atom_only d = only_bind field.Steps (list_at field.Steps d) (atom_of params) (only_or field.Steps (as_list d)) atom_items_only
+  pub atom_only : (d : Data) → OnlyBad field.Steps (atom_at params vars d)
+  atom_only d = only_bind field.Steps (list_at field.Steps d) (atom_of params vars) (only_or field.Steps (as_list d)) atom_items_only

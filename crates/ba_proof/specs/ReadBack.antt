@@ -31,31 +31,31 @@ ValueSpells (Text s) = Unit {0}
 abbrev pub IsShort : ℕ → Type 0
 IsShort n = n < 2 ^ 32
 
--- no variable, not NULL, and only parameters of the policy
-abbrev pub TermSpells : List Parameter → Term → Type 0
-TermSpells params (term.Unknown n) = IsShort n
-TermSpells params (term.Val v) = (v ≢ Null) × ValueSpells v
-TermSpells params (term.Param n) = (n < length params) × IsShort n
-TermSpells params (term.Var n) = ⊥
+-- not NULL, only parameters of the policy, and only variables that are there: `vars` is how many, which in a proof file is none
+abbrev pub TermSpells : List Parameter → ℕ → Term → Type 0
+TermSpells params vars (term.Unknown n) = IsShort n
+TermSpells params vars (term.Val v) = (v ≢ Null) × ValueSpells v
+TermSpells params vars (term.Param n) = (n < length params) × IsShort n
+TermSpells params vars (term.Var n) = (n < vars) × IsShort n
 
 -- a step that is accepted has no NULL among its terms
 abbrev pub NullIsNoTerm : Type 0
 NullIsNoTerm = (p : Problem) (old new : Slots) (branch : ℕ) (atom : TermAtom) → Takes p old (steps.Split branch atom) new → (atom.left ≢ term.Val Null) × (atom.right ≢ term.Val Null)
 
 -- of a comparison, or of IS NULL or IS NOT NULL
-pub record AtomSpells (params : List Parameter) (atom : TermAtom) : Type 0 where
-  pub left : TermSpells params atom.left
-  pub right : TermSpells params atom.right
+pub record AtomSpells (params : List Parameter) (vars : ℕ) (atom : TermAtom) : Type 0 where
+  pub left : TermSpells params vars atom.left
+  pub right : TermSpells params vars atom.right
 
-abbrev pub StepSpells : List Parameter → Step → Type 0
-StepSpells params (steps.Entry branch entry) = IsShort branch × (entry < 2 ^ 64)
-StepSpells params (steps.Key branch key left right) = IsShort branch × IsShort key × IsShort left × IsShort right
-StepSpells params (steps.Link branch link fact) = IsShort branch × IsShort link × IsShort fact
-StepSpells params (steps.Rule branch rule part facts) = IsShort branch × IsShort rule × IsShort part × All IsShort facts
-StepSpells params (steps.View branch view part facts) = IsShort branch × IsShort view × IsShort part × All IsShort facts
-StepSpells params (steps.Split branch atom) = IsShort branch × AtomSpells params atom
-StepSpells params (steps.Absurd branch) = IsShort branch
-StepSpells params (steps.Goal branch part facts) = IsShort branch × IsShort part × All IsShort facts
+abbrev pub StepSpells : List Parameter → ℕ → Step → Type 0
+StepSpells params vars (steps.Entry branch entry) = IsShort branch × (entry < 2 ^ 64)
+StepSpells params vars (steps.Key branch key left right) = IsShort branch × IsShort key × IsShort left × IsShort right
+StepSpells params vars (steps.Link branch link fact) = IsShort branch × IsShort link × IsShort fact
+StepSpells params vars (steps.Rule branch rule part facts) = IsShort branch × IsShort rule × IsShort part × All IsShort facts
+StepSpells params vars (steps.View branch view part facts) = IsShort branch × IsShort view × IsShort part × All IsShort facts
+StepSpells params vars (steps.Split branch atom) = IsShort branch × AtomSpells params vars atom
+StepSpells params vars (steps.Absurd branch) = IsShort branch
+StepSpells params vars (steps.Goal branch part facts) = IsShort branch × IsShort part × All IsShort facts
 
 -- its query can be printed, and its rows' values can be written
 pub record RecordSpells (policy : Policy) (it : TraceEntry) : Type 0 where
@@ -70,7 +70,7 @@ pub record IsWritable (policy : Policy) (c : Context) (trace : List TraceEntry) 
   pub entries : All (RecordSpells policy) trace
   pub goal : IsPrintable policy.schema policy.params q
   pub few : length all ≤ most_steps
-  pub steps : All (StepSpells policy.params) all
+  pub steps : All (StepSpells policy.params 0) all
 
 -- the bytes are read as this problem and these steps, where they are those of a question that can be written
 abbrev pub ReadsBack : Problem → List Step → List ℕ → Type 0

@@ -115,7 +115,7 @@ unfoldable pub few_at : Option Data → Result ⊤ ProofFault
 few_at found = if too_many (option_and_then as_list found) then Err TooLong else Ok tt
 
 unfoldable pub steps_at : List Parameter → ℕ → Option Data → Result (List Step) ProofFault
-steps_at params version found = or_bad field.Steps found >>= list_at field.Steps >>= each (step_at params version)
+steps_at params version found = or_bad field.Steps found >>= list_at field.Steps >>= each (step_at params 0 version)
 
 -- ---- keys
 

@@ -55,20 +55,21 @@ pub record SaysEach {X : Type 0} (Says : Data → X → Type 0) (d : Data) (xs :
 
 -- ---- terms and atoms
 
--- a literal that isn't NULL, ["u",N] and ["p",NAME]; a variable isn't said
-abbrev pub SaysTerm : List Parameter → Data → Term → Type 0
-SaysTerm params d (term.Val v) = (v ≢ Null) × SaysValue d v
-SaysTerm params d (term.Unknown n) = (e : Data) × (d ≡ list_json (string (codes "u") ∷ e ∷ [])) × SaysShort e n
-SaysTerm params d (term.Param n) = (name : List ℕ) × (d ≡ list_json (string (codes "p") ∷ string name ∷ [])) × HasParam params name n
-SaysTerm params d (term.Var n) = ⊥
+-- a literal that isn't NULL, ["u",N], ["p",NAME] and, of a variable that is there, ["v",N]; `vars` is how many there are, which in a proof file
+-- is none
+abbrev pub SaysTerm : List Parameter → ℕ → Data → Term → Type 0
+SaysTerm params vars d (term.Val v) = (v ≢ Null) × SaysValue d v
+SaysTerm params vars d (term.Unknown n) = (e : Data) × (d ≡ list_json (string (codes "u") ∷ e ∷ [])) × SaysShort e n
+SaysTerm params vars d (term.Param n) = (name : List ℕ) × (d ≡ list_json (string (codes "p") ∷ string name ∷ [])) × HasParam params name n
+SaysTerm params vars d (term.Var n) = (e : Data) × (d ≡ list_json (string (codes "v") ∷ e ∷ [])) × SaysShort e n × (n < vars)
 
 -- [OP,TERM,TERM], where OP is the name of the comparison, of IS NULL or of IS NOT NULL
-pub record SaysAtom (params : List Parameter) (d : Data) (atom : TermAtom) : Type 0 where
+pub record SaysAtom (params : List Parameter) (vars : ℕ) (d : Data) (atom : TermAtom) : Type 0 where
   pub a : Data
   pub b : Data
   pub is : d ≡ list_json (string (op_name atom.op) ∷ a ∷ b ∷ [])
-  pub left : SaysTerm params a atom.left
-  pub right : SaysTerm params b atom.right
+  pub left : SaysTerm params vars a atom.left
+  pub right : SaysTerm params vars b atom.right
 
 -- ---- steps
 
@@ -95,23 +96,23 @@ pub record SaysEntryStep (d : Data) (branch entry : ℕ) : Type 0 where
   pub second : SaysLong b entry
 
 -- ["split",BRANCH,[OP,TERM,TERM]]
-pub record SaysSplit (params : List Parameter) (d : Data) (branch : ℕ) (atom : TermAtom) : Type 0 where
+pub record SaysSplit (params : List Parameter) (vars : ℕ) (d : Data) (branch : ℕ) (atom : TermAtom) : Type 0 where
   pub a : Data
   pub b : Data
   pub is : d ≡ list_json (string (codes "split") ∷ a ∷ b ∷ [])
   pub first : SaysShort a branch
-  pub second : SaysAtom params b atom
+  pub second : SaysAtom params vars b atom
 
 -- a step, in a file of the version: a step by a rule stands in the version of rules alone
-abbrev pub SaysStep : List Parameter → ℕ → Data → Step → Type 0
-SaysStep params version d (steps.Entry branch entry) = SaysEntryStep d branch entry
-SaysStep params version d (steps.Key branch key left right) = SaysNumbers d (codes "key") (branch ∷ key ∷ left ∷ right ∷ [])
-SaysStep params version d (steps.Link branch link fact) = SaysNumbers d (codes "link") (branch ∷ link ∷ fact ∷ [])
-SaysStep params version d (steps.Rule branch rule part facts) = (RULE_VERSION ≤ version) × SaysFacts d (codes "rule") (branch ∷ rule ∷ part ∷ []) facts
-SaysStep params version d (steps.View branch view part facts) = SaysFacts d (codes "view") (branch ∷ view ∷ part ∷ []) facts
-SaysStep params version d (steps.Split branch atom) = SaysSplit params d branch atom
-SaysStep params version d (steps.Absurd branch) = SaysNumbers d (codes "absurd") (branch ∷ [])
-SaysStep params version d (steps.Goal branch part facts) = SaysFacts d (codes "goal") (branch ∷ part ∷ []) facts
+abbrev pub SaysStep : List Parameter → ℕ → ℕ → Data → Step → Type 0
+SaysStep params vars version d (steps.Entry branch entry) = SaysEntryStep d branch entry
+SaysStep params vars version d (steps.Key branch key left right) = SaysNumbers d (codes "key") (branch ∷ key ∷ left ∷ right ∷ [])
+SaysStep params vars version d (steps.Link branch link fact) = SaysNumbers d (codes "link") (branch ∷ link ∷ fact ∷ [])
+SaysStep params vars version d (steps.Rule branch rule part facts) = (RULE_VERSION ≤ version) × SaysFacts d (codes "rule") (branch ∷ rule ∷ part ∷ []) facts
+SaysStep params vars version d (steps.View branch view part facts) = SaysFacts d (codes "view") (branch ∷ view ∷ part ∷ []) facts
+SaysStep params vars version d (steps.Split branch atom) = SaysSplit params vars d branch atom
+SaysStep params vars version d (steps.Absurd branch) = SaysNumbers d (codes "absurd") (branch ∷ [])
+SaysStep params vars version d (steps.Goal branch part facts) = SaysFacts d (codes "goal") (branch ∷ part ∷ []) facts
 
 -- ---- the question
 
@@ -164,7 +165,7 @@ pub record SaysProof (policy : Policy) (members : Members) (proof : Proof) : Typ
   pub context_is : HasField (SaysContext policy.params) (codes "context") (object members) context
   pub trace_is : HasField (SaysEach (SaysEntry policy)) (codes "entries") (object members) trace
   pub goal_is : HasField (SaysQuery policy) (codes "goal") (object members) goal
-  pub steps_are : HasField (SaysEach (SaysStep policy.params version)) (codes "steps") (object members) proof.steps
+  pub steps_are : HasField (SaysEach (SaysStep policy.params 0 version)) (codes "steps") (object members) proof.steps
   pub few_steps : length proof.steps ≤ most_steps
   pub no_other : HasNoOther members
   pub problem_is : proof.problem ≡ problem_of policy context trace goal
@@ -187,7 +188,7 @@ IsGood policy ms field.Entries = (trace : List TraceEntry) × HasField (SaysEach
 IsGood policy ms field.Goal = (goal : Query) × HasField (SaysQuery policy) (codes "goal") (object ms) goal
 IsGood policy ms field.Steps =
     (version : ℕ) × (all : List Step) × HasField SaysVersion (codes "version") (object ms) version
-    × HasField (SaysEach (SaysStep policy.params version)) (codes "steps") (object ms) all
+    × HasField (SaysEach (SaysStep policy.params 0 version)) (codes "steps") (object ms) all
 IsGood policy ms field.Keys = HasNoOther ms
 
 -- the first field that isn't, in the order of `ProofField`

@@ -1,5 +1,5 @@
 -- The JSON of a proof file, compact and with its keys in byte order.
-use Rattle.std.specs.Prelude.{ℕ, Bool, true, false, List, [], ◌∷◌, ◌++◌, codes, map, Option, Some, None, if◌then◌else◌}
+use Rattle.std.specs.Prelude.{ℕ, Bool, true, false, List, [], ◌∷◌, ◌++◌, codes, map, nat_lt, Option, Some, None, if◌then◌else◌}
 use Rattle.std.specs.List.{list_any}
 use Rattle.serde_json.specs.Data.{Data, Members, null, number, string, array, object, unsigned, no_members, member, put}
 use Rattle.serde_json.specs.Find.{of_integer}
@@ -37,12 +37,15 @@ list_json ds = array (items_of ds)
 
 -- ---- steps
 
--- a variable has no spelling
-abbrev pub term_json : List Parameter → Term → Data
-term_json params (term.Unknown n) = list_json (string (codes "u") ∷ count n ∷ [])
-term_json params (term.Val v) = value_json v
-term_json params (term.Param n) = list_json (string (codes "p") ∷ string (param_name params n) ∷ [])
-term_json params (term.Var n) = null
+-- a variable that isn't there has no spelling: `vars` is how many there are, none in a proof file
+abbrev pub var_json : ℕ → ℕ → Data
+var_json vars n = if nat_lt n vars then list_json (string (codes "v") ∷ count n ∷ []) else null
+
+abbrev pub term_json : List Parameter → ℕ → Term → Data
+term_json params vars (term.Unknown n) = list_json (string (codes "u") ∷ count n ∷ [])
+term_json params vars (term.Val v) = value_json v
+term_json params vars (term.Param n) = list_json (string (codes "p") ∷ string (param_name params n) ∷ [])
+term_json params vars (term.Var n) = var_json vars n
 
 abbrev pub op_name : Op → List ℕ
 op_name Eq = codes "="
@@ -52,8 +55,8 @@ op_name Le = codes "<="
 op_name IsNull = codes "is null"
 op_name NotNull = codes "is not null"
 
-unfoldable pub atom_json : List Parameter → TermAtom → Data
-atom_json params atom = list_json (string (op_name atom.op) ∷ term_json params atom.left ∷ term_json params atom.right ∷ [])
+unfoldable pub atom_json : List Parameter → ℕ → TermAtom → Data
+atom_json params vars atom = list_json (string (op_name atom.op) ∷ term_json params vars atom.left ∷ term_json params vars atom.right ∷ [])
 
 -- a step's name and its numbers
 abbrev pub named : List ℕ → List ℕ → List Data → Data
@@ -62,15 +65,15 @@ named name numbers last = list_json (string name ∷ (map count numbers ++ last)
 abbrev pub facts_json : List ℕ → List Data
 facts_json facts = list_json (map count facts) ∷ []
 
-unfoldable pub step_json : List Parameter → Step → Data
-step_json params (steps.Entry branch entry) = named (codes "entry") (branch ∷ entry ∷ []) []
-step_json params (steps.Key branch key left right) = named (codes "key") (branch ∷ key ∷ left ∷ right ∷ []) []
-step_json params (steps.Link branch link fact) = named (codes "link") (branch ∷ link ∷ fact ∷ []) []
-step_json params (steps.Rule branch rule part facts) = named (codes "rule") (branch ∷ rule ∷ part ∷ []) (facts_json facts)
-step_json params (steps.View branch view part facts) = named (codes "view") (branch ∷ view ∷ part ∷ []) (facts_json facts)
-step_json params (steps.Split branch atom) = named (codes "split") (branch ∷ []) (atom_json params atom ∷ [])
-step_json params (steps.Absurd branch) = named (codes "absurd") (branch ∷ []) []
-step_json params (steps.Goal branch part facts) = named (codes "goal") (branch ∷ part ∷ []) (facts_json facts)
+unfoldable pub step_json : List Parameter → ℕ → Step → Data
+step_json params vars (steps.Entry branch entry) = named (codes "entry") (branch ∷ entry ∷ []) []
+step_json params vars (steps.Key branch key left right) = named (codes "key") (branch ∷ key ∷ left ∷ right ∷ []) []
+step_json params vars (steps.Link branch link fact) = named (codes "link") (branch ∷ link ∷ fact ∷ []) []
+step_json params vars (steps.Rule branch rule part facts) = named (codes "rule") (branch ∷ rule ∷ part ∷ []) (facts_json facts)
+step_json params vars (steps.View branch view part facts) = named (codes "view") (branch ∷ view ∷ part ∷ []) (facts_json facts)
+step_json params vars (steps.Split branch atom) = named (codes "split") (branch ∷ []) (atom_json params vars atom ∷ [])
+step_json params vars (steps.Absurd branch) = named (codes "absurd") (branch ∷ []) []
+step_json params vars (steps.Goal branch part facts) = named (codes "goal") (branch ∷ part ∷ []) (facts_json facts)
 
 unfoldable pub is_rule : Step → Bool
 is_rule (steps.Entry branch entry) = false
@@ -127,7 +130,7 @@ proof_json problem all =
     object (member (codes "context") (object (with_context problem.policy.params problem.assumed no_members))
     (member (codes "entries") (list_json (map (entry_json problem.policy.schema problem.policy.params) problem.entries))
     (member (codes "goal") (string (query_text problem.policy.schema problem.policy.params problem.goal))
-    (member (codes "steps") (list_json (map (step_json problem.policy.params) all))
+    (member (codes "steps") (list_json (map (step_json problem.policy.params 0) all))
     (member (codes "version") (count (version_of all)) no_members)))))
 
 abbrev pub proof_text : Problem → List Step → List ℕ

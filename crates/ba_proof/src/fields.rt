@@ -101,7 +101,7 @@ pub(crate) fn steps_at(
         return bad(ProofField::Steps);
     };
     let items = list_at(ProofField::Steps, value)?;
-    steps_of(alloc, params, version, items)
+    steps_of(alloc, params, 0, version, items)
 }
 
 #[tactic(auto, unfolding(crate::specs::Reading::is_key))]

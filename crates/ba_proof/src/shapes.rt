@@ -13,7 +13,7 @@ pub(crate) const GREATEST: u64 = 0xffff_ffff;
 
 /// The items of an array.
 #[tactic(auto, using(crate::proofs::ShapeLemmas::items_are))]
-pub(crate) fn as_list(value: &Value) -> Option<&[Value]>
+pub fn as_list(value: &Value) -> Option<&[Value]>
     ensures { option_map (λ v. map view v.now) result ≡ as_list (view value.now) }
 {
     match value.as_array() {
@@ -24,7 +24,7 @@ pub(crate) fn as_list(value: &Value) -> Option<&[Value]>
 
 /// A whole number of 32 bits without a sign.
 #[tactic(auto, unfolding(crate::specs::Shapes::as_short))]
-pub(crate) fn as_short(value: &Value) -> Option<u32>
+pub fn as_short(value: &Value) -> Option<u32>
     ensures { result ≡ as_short (view value.now) }
 {
     match value.as_u64() {

@@ -93,15 +93,16 @@ fn view_of(alloc: Global, args: &[Value]) -> Result<Step, Failure<ProofFault>>
 fn split_of(
     alloc: Global,
     params: &[Parameter],
+    vars: usize,
     args: &[Value],
 ) -> Result<Step, Failure<ProofFault>>
-    ensures { Gives result (split_of params.now (map view args.now)) }
+    ensures { Gives result (split_of params.now vars (map view args.now)) }
 {
     let [branch, atom] = args else {
         return bad(ProofField::Steps);
     };
     let branch = number_at(branch)?;
-    let atom = atom_at(alloc, params, atom)?;
+    let atom = atom_at(alloc, params, vars, atom)?;
     Ok(Step::Split { branch, atom })
 }
 
@@ -145,11 +146,12 @@ fn rule_in(alloc: Global, version: u64, args: &[Value]) -> Result<Step, Failure<
 fn named_of(
     alloc: Global,
     params: &[Parameter],
+    vars: usize,
     version: u64,
     name: &str,
     args: &[Value],
 ) -> Result<Step, Failure<ProofFault>>
-    ensures { Gives result (named_of params.now version name.now (map view args.now)) }
+    ensures { Gives result (named_of params.now vars version name.now (map view args.now)) }
 {
     if name == "entry" {
         entry_of(args)
@@ -162,7 +164,7 @@ fn named_of(
     } else if name == "view" {
         view_of(alloc, args)
     } else if name == "split" {
-        split_of(alloc, params, args)
+        split_of(alloc, params, vars, args)
     } else if name == "absurd" {
         absurd_of(args)
     } else if name == "goal" {
@@ -175,43 +177,51 @@ fn named_of(
 fn step_of(
     alloc: Global,
     params: &[Parameter],
+    vars: usize,
     version: u64,
     items: &[Value],
 ) -> Result<Step, Failure<ProofFault>>
-    ensures { Gives result (step_of params.now version (map view items.now)) }
+    ensures { Gives result (step_of params.now vars version (map view items.now)) }
 {
     let [name, args @ ..] = items else {
         return bad(ProofField::Steps);
     };
     let it = text_at(ProofField::Steps, name)?;
-    named_of(alloc, params, version, it, args)
+    named_of(alloc, params, vars, version, it, args)
 }
 
 #[tactic(auto, unfolding(crate::specs::Steps::step_at))]
 fn step_at(
     alloc: Global,
     params: &[Parameter],
+    vars: usize,
     version: u64,
     value: &Value,
 ) -> Result<Step, Failure<ProofFault>>
-    ensures { Gives result (step_at params.now version (view value.now)) }
+    ensures { Gives result (step_at params.now vars version (view value.now)) }
 {
     let items = list_at(ProofField::Steps, value)?;
-    step_of(alloc, params, version, items)
+    step_of(alloc, params, vars, version, items)
 }
 
-/// The steps, one after another, of a proof file of the version.
-pub(crate) fn steps_of(
+/// The steps that JSON values are, one after another, as a proof file of the version has them:
+/// steps by rules stand from [`RULE_VERSION`] on.
+///
+/// Their terms are whole numbers of 64 bits, texts, unknowns, parameters of these names, and
+/// variables whose number is below `vars`; a proof file's problem has none. The only faults are
+/// `BadField(Steps)`, where a value is no step, and want of memory.
+pub fn steps_of(
     alloc: Global,
     params: &[Parameter],
+    vars: usize,
     version: u64,
     items: &[Value],
 ) -> Result<List<Step>, Failure<ProofFault>>
-    ensures { Gives result (each (step_at params.now version) (map view items.now)) }
+    ensures { Gives result (each (step_at params.now vars version) (map view items.now)) }
 {
     let mut found = List::new(alloc);
     for item in items {
-        let step = step_at(alloc, params, version, item)?;
+        let step = step_at(alloc, params, vars, version, item)?;
         found.push(step)?;
     }
     Ok(found)

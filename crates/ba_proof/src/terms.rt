@@ -5,7 +5,7 @@ ghost use Rattle.std.specs.Str.{bytes_eq};
 ghost use Rattle.serde_json.specs.View.{view};
 ghost use Rattle.ba_model.specs.Readings.{Gives, each};
 ghost use Rattle.ba_script.specs.Script.{given_of};
-ghost use Rattle.ba_proof.specs.Steps.{atom_at, atom_of, long_at, marked_of, number_at, numbers_at, op_of, pair_of, param_of, term_at};
+ghost use Rattle.ba_proof.specs.Steps.{atom_at, atom_of, long_at, marked_of, number_at, numbers_at, op_of, pair_of, param_of, term_at, var_of};
 
 use crate::fault::{ProofFault, ProofField, bad};
 use crate::shapes::{GREATEST, as_short, list_at, text_at};
@@ -79,9 +79,24 @@ fn param_of(params: &[Parameter], name: &str) -> Result<Term, Failure<ProofFault
     }
 }
 
+fn var_of(vars: usize, n: u32) -> Result<Term, Failure<ProofFault>>
+    ensures { Gives result (var_of vars n) }
+{
+    if (n as usize) < vars {
+        Ok(Term::Var(n))
+    } else {
+        bad(ProofField::Steps)
+    }
+}
+
 #[tactic(auto, unfolding(crate::specs::Steps::marked_of))]
-fn marked_of(params: &[Parameter], mark: &str, value: &Json) -> Result<Term, Failure<ProofFault>>
-    ensures { Gives result (marked_of params.now mark.now (view value.now)) }
+fn marked_of(
+    params: &[Parameter],
+    vars: usize,
+    mark: &str,
+    value: &Json,
+) -> Result<Term, Failure<ProofFault>>
+    ensures { Gives result (marked_of params.now vars mark.now (view value.now)) }
 {
     if mark == "u" {
         let n = number_at(value)?;
@@ -91,23 +106,32 @@ fn marked_of(params: &[Parameter], mark: &str, value: &Json) -> Result<Term, Fai
         let name = text_at(ProofField::Steps, value)?;
         return param_of(params, name);
     }
+    if mark == "v" {
+        let n = number_at(value)?;
+        return var_of(vars, n);
+    }
     bad(ProofField::Steps)
 }
 
-fn pair_of(params: &[Parameter], items: &[Json]) -> Result<Term, Failure<ProofFault>>
-    ensures { Gives result (pair_of params.now (map view items.now)) }
+fn pair_of(params: &[Parameter], vars: usize, items: &[Json]) -> Result<Term, Failure<ProofFault>>
+    ensures { Gives result (pair_of params.now vars (map view items.now)) }
 {
     let [mark, value] = items else {
         return bad(ProofField::Steps);
     };
     let it = text_at(ProofField::Steps, mark)?;
-    marked_of(params, it, value)
+    marked_of(params, vars, it, value)
 }
 
-/// A whole number, a text, an unknown or a parameter. NULL is no term.
+/// A whole number, a text, an unknown, a parameter or a variable. NULL is no term.
 #[tactic(auto, unfolding(crate::specs::Steps::term_at))]
-fn term_at(alloc: Global, params: &[Parameter], value: &Json) -> Result<Term, Failure<ProofFault>>
-    ensures { Gives result (term_at params.now (view value.now)) }
+fn term_at(
+    alloc: Global,
+    params: &[Parameter],
+    vars: usize,
+    value: &Json,
+) -> Result<Term, Failure<ProofFault>>
+    ensures { Gives result (term_at params.now vars (view value.now)) }
 {
     let given = given_value(alloc, value)?;
     match given {
@@ -115,13 +139,14 @@ fn term_at(alloc: Global, params: &[Parameter], value: &Json) -> Result<Term, Fa
         Given::Text(text) => Ok(Term::Val(Value::text(alloc, text)?)),
         Given::Other => {
             let items = list_at(ProofField::Steps, value)?;
-            pair_of(params, items)
+            pair_of(params, vars, items)
         }
     }
 }
 
+/// The operator of the name; anything else is a bad field.
 #[tactic(auto, unfolding(crate::specs::Steps::op_of))]
-fn op_of(name: &str) -> Result<Op, Failure<ProofFault>>
+pub fn op_of(name: &str) -> Result<Op, Failure<ProofFault>>
     ensures { Gives result (op_of name.now) }
 {
     if name == "=" {
@@ -144,17 +169,18 @@ fn op_of(name: &str) -> Result<Op, Failure<ProofFault>>
 fn atom_of(
     alloc: Global,
     params: &[Parameter],
+    vars: usize,
     items: &[Json],
 ) -> Result<TermAtom, Failure<ProofFault>>
-    ensures { Gives result (atom_of params.now (map view items.now)) }
+    ensures { Gives result (atom_of params.now vars (map view items.now)) }
 {
     let [op, left, right] = items else {
         return bad(ProofField::Steps);
     };
     let name = text_at(ProofField::Steps, op)?;
     let op = op_of(name)?;
-    let left = term_at(alloc, params, left)?;
-    let right = term_at(alloc, params, right)?;
+    let left = term_at(alloc, params, vars, left)?;
+    let right = term_at(alloc, params, vars, right)?;
     Ok(TermAtom { op, left, right })
 }
 
@@ -162,10 +188,11 @@ fn atom_of(
 pub(crate) fn atom_at(
     alloc: Global,
     params: &[Parameter],
+    vars: usize,
     value: &Json,
 ) -> Result<TermAtom, Failure<ProofFault>>
-    ensures { Gives result (atom_at params.now (view value.now)) }
+    ensures { Gives result (atom_at params.now vars (view value.now)) }
 {
     let items = list_at(ProofField::Steps, value)?;
-    atom_of(alloc, params, items)
+    atom_of(alloc, params, vars, items)
 }

@@ -9,7 +9,7 @@ ghost use Rattle.ba_kernel.specs.Courses.{ProblemFits};
 ghost use Rattle.ba_kernel.specs.declared.problem.ProblemEntry.{ProblemEntry};
 ghost use Rattle.ba_sql_print.specs.Printed.{param_name, query_text};
 ghost use Rattle.ba_proof.specs.ReadBack.{ReadsBack};
-ghost use Rattle.ba_proof.specs.Written.{atom_json, count, entry_json, facts_json, is_rule, list_json, literal_in, literal_json, named, op_name, param_in, proof_json, proof_text, step_json, term_json, value_json, version_of, with_context, with_value};
+ghost use Rattle.ba_proof.specs.Written.{atom_json, count, entry_json, facts_json, is_rule, list_json, literal_in, literal_json, named, op_name, param_in, proof_json, proof_text, step_json, term_json, value_json, var_json, version_of, with_context, with_value};
 
 use crate::version::RULE_VERSION;
 use ba_facts::{Term, TermAtom};
@@ -20,7 +20,8 @@ use ba_sql_print::print_query;
 use serde_json::{Map, Value as Json, put};
 use std::alloc::{AllocError, Global};
 
-fn value_json(alloc: Global, value: &Value) -> Result<Json, AllocError>
+/// A value as JSON: NULL is `null`.
+pub fn value_json(alloc: Global, value: &Value) -> Result<Json, AllocError>
     ensures { IfOk result (λ v. view v ≡ value_json value.now) }
 {
     match value {
@@ -74,9 +75,9 @@ fn facts_step(
     Ok(Json::Array(items))
 }
 
-/// The name of a parameter, if it is there.
+/// The name of a parameter, if it is there, else the empty text.
 #[tactic(auto, unfolding(ba_sql_print::specs::Printed::param_name))]
-fn param_name(params: &[Parameter], n: u32) -> &str
+pub fn param_name(params: &[Parameter], n: u32) -> &str
     ensures { result.now ≡ param_name params.now n }
 {
     match params.get(n as usize) {
@@ -85,8 +86,8 @@ fn param_name(params: &[Parameter], n: u32) -> &str
     }
 }
 
-/// A mark and what it marks.
-fn marked(alloc: Global, mark: &str, value: Json) -> Result<Json, AllocError>
+/// A mark and what it marks, as a JSON array.
+pub fn marked(alloc: Global, mark: &str, value: Json) -> Result<Json, AllocError>
     ensures { IfOk result (λ v. view v ≡ list_json (string mark.now ∷ view value ∷ [])) }
 {
     let mut items = Vec::with_capacity(alloc, 2)?;
@@ -95,8 +96,23 @@ fn marked(alloc: Global, mark: &str, value: Json) -> Result<Json, AllocError>
     Ok(Json::Array(items))
 }
 
-fn term_json(alloc: Global, params: &[Parameter], term: &Term) -> Result<Json, AllocError>
-    ensures { IfOk result (λ v. view v ≡ term_json params.now term.now) }
+fn var_json(alloc: Global, vars: usize, n: u32) -> Result<Json, AllocError>
+    ensures { IfOk result (λ v. view v ≡ var_json vars n) }
+{
+    if (n as usize) < vars {
+        marked(alloc, "v", Json::from(n))
+    } else {
+        Ok(Json::Null)
+    }
+}
+
+fn term_json(
+    alloc: Global,
+    params: &[Parameter],
+    vars: usize,
+    term: &Term,
+) -> Result<Json, AllocError>
+    ensures { IfOk result (λ v. view v ≡ term_json params.now vars term.now) }
 {
     match term {
         Term::Unknown(n) => marked(alloc, "u", Json::from(*n)),
@@ -105,11 +121,12 @@ fn term_json(alloc: Global, params: &[Parameter], term: &Term) -> Result<Json, A
             let name = Json::try_from_str(alloc, param_name(params, *n))?;
             marked(alloc, "p", name)
         }
-        Term::Var(_) => Ok(Json::Null),
+        Term::Var(n) => var_json(alloc, vars, *n),
     }
 }
 
-fn op_name(op: Op) -> &'static str
+/// An operator's name.
+pub fn op_name(op: Op) -> &'static str
     ensures { result.now ≡ op_name op }
 {
     match op {
@@ -123,33 +140,44 @@ fn op_name(op: Op) -> &'static str
 }
 
 #[tactic(auto, unfolding(crate::specs::Written::atom_json))]
-fn atom_json(alloc: Global, params: &[Parameter], atom: &TermAtom) -> Result<Json, AllocError>
-    ensures { IfOk result (λ v. view v ≡ atom_json params.now atom.now) }
+fn atom_json(
+    alloc: Global,
+    params: &[Parameter],
+    vars: usize,
+    atom: &TermAtom,
+) -> Result<Json, AllocError>
+    ensures { IfOk result (λ v. view v ≡ atom_json params.now vars atom.now) }
 {
     let mut items = Vec::with_capacity(alloc, 3)?;
     items.push(Json::try_from_str(alloc, op_name(atom.op))?)?;
-    items.push(term_json(alloc, params, &atom.left)?)?;
-    items.push(term_json(alloc, params, &atom.right)?)?;
+    items.push(term_json(alloc, params, vars, &atom.left)?)?;
+    items.push(term_json(alloc, params, vars, &atom.right)?)?;
     Ok(Json::Array(items))
 }
 
 fn split_step(
     alloc: Global,
     params: &[Parameter],
+    vars: usize,
     branch: u32,
     atom: &TermAtom,
 ) -> Result<Json, AllocError>
     ensures { IfOk result (λ v. view v ≡ named (codes "split") (branch ∷ [])
-        (atom_json params.now atom.now ∷ [])) }
+        (atom_json params.now vars atom.now ∷ [])) }
 {
     let mut items = named(alloc, "split", &[branch as u64])?;
-    items.push(atom_json(alloc, params, atom)?)?;
+    items.push(atom_json(alloc, params, vars, atom)?)?;
     Ok(Json::Array(items))
 }
 
 #[tactic(auto, unfolding(crate::specs::Written::step_json))]
-fn step_json(alloc: Global, params: &[Parameter], step: &Step) -> Result<Json, AllocError>
-    ensures { IfOk result (λ v. view v ≡ step_json params.now step.now) }
+fn step_json(
+    alloc: Global,
+    params: &[Parameter],
+    vars: usize,
+    step: &Step,
+) -> Result<Json, AllocError>
+    ensures { IfOk result (λ v. view v ≡ step_json params.now vars step.now) }
 {
     match step {
         Step::Entry { branch, entry } => plain_step(alloc, "entry", &[*branch as u64, *entry]),
@@ -190,7 +218,7 @@ fn step_json(alloc: Global, params: &[Parameter], step: &Step) -> Result<Json, A
             &[*branch as u64, *view as u64, *part as u64],
             facts,
         ),
-        Step::Split { branch, atom } => split_step(alloc, params, *branch, atom),
+        Step::Split { branch, atom } => split_step(alloc, params, vars, *branch, atom),
         Step::Absurd { branch } => plain_step(alloc, "absurd", &[*branch as u64]),
         Step::Goal {
             branch,
@@ -200,12 +228,19 @@ fn step_json(alloc: Global, params: &[Parameter], step: &Step) -> Result<Json, A
     }
 }
 
-fn steps_json(alloc: Global, params: &[Parameter], steps: &[Step]) -> Result<Json, AllocError>
-    ensures { IfOk result (λ v. view v ≡ list_json (map (step_json params.now) steps.now)) }
+/// Steps as JSON, as a proof file has them, over parameters and so many variables: a proof file's
+/// problem has none. A variable that isn't there, and NULL, are written as `null`, which is no term.
+pub fn steps_json(
+    alloc: Global,
+    params: &[Parameter],
+    vars: usize,
+    steps: &[Step],
+) -> Result<Json, AllocError>
+    ensures { IfOk result (λ v. view v ≡ list_json (map (step_json params.now vars) steps.now)) }
 {
     let mut items = Vec::with_capacity(alloc, steps.len())?;
     for step in steps {
-        items.push(step_json(alloc, params, step)?)?;
+        items.push(step_json(alloc, params, vars, step)?)?;
     }
     Ok(Json::Array(items))
 }
@@ -371,7 +406,7 @@ fn proof_json(alloc: Global, problem: &Problem, steps: &List<Step>) -> Result<Js
         &mut members,
         alloc,
         "steps",
-        steps_json(alloc, params, steps.as_slice())?,
+        steps_json(alloc, params, 0, steps.as_slice())?,
     )?;
     put(
         &mut members,

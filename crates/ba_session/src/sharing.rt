@@ -1,13 +1,18 @@
-//! A service: made, split, joined and closed, and publications.
+//! A service: made, split, joined and closed, publications, and templates that are loaded.
 ghost use Rattle.std.specs.Prelude.{◌≡◌, ◌<◌, IfOk, OnErr};
+ghost use Rattle.ba_cache.specs.Passes.{CallsOn, known_on};
+ghost use Rattle.ba_cache.specs.Reads.{admitted};
+ghost use Rattle.ba_cache.specs.Rows.{shape_of_template};
+ghost use Rattle.ba_template.specs.Shapes.{shard_of};
 ghost use Rattle.ba_turn.specs.Passes.{MakesCall, known_by, start_of};
 ghost use Rattle.ba_versions.specs.Reads.{opening_of, published};
-ghost use Rattle.ba_session.specs.Passing.{AreClosed, AreJoined, AreOf, AreOpening, AreSplit, AreWhole, CanSplit, IsOpened, LeavesShelves};
+ghost use Rattle.ba_session.specs.Passing.{AreClosed, AreJoined, AreOf, AreOpening, AreSplit, AreWhole, CanSplit, IsOpened, LeavesShelves, LeavesVersions};
 
 use crate::service::{Closed, Passes, Service};
-use ba_cache::Cache;
+use ba_cache::{Admit, Cache};
 use ba_model::{Policy, Shared};
 use ba_tables::Tables;
+use ba_template::Template;
 use ba_turn::Turn;
 use ba_versions::{Versions, publish};
 use std::alloc::{AllocError, Global};
@@ -128,5 +133,25 @@ impl Service {
         ensures others { LeavesShelves passes.old passes.new }
     {
         publish(rt, &self.versions, &mut passes.versions, tables)
+    }
+
+    /// The template is admitted to the shelf of its shape's shard, for the questions that follow;
+    /// the answer is the shelf's, with the number that the template has there. It waits for its
+    /// turn, and costs one call of the allowance on that shelf, where memory is refused too: the
+    /// shelf then stands as before.
+    pub fn load<R: Wait>(
+        &self,
+        rt: &R,
+        passes: &mut Passes,
+        template: Shared<Template>,
+    ) -> Result<Admit, AllocError>
+        requires of { AreOf self.now passes.old }
+        requires left { 0 < (known_on passes.old.cache (shard_of (shape_of_template template))).left }
+        ensures of { AreOf self.now passes.new }
+        ensures made { CallsOn (shard_of (shape_of_template template)) passes.old.cache
+            passes.new.cache (admitted template result) }
+        ensures others { LeavesVersions passes.old passes.new }
+    {
+        self.cache.admit(rt, &mut passes.cache, template)
     }
 }

@@ -1,5 +1,5 @@
 -- The lines of a run, one by one.
-use Rattle.std.proofs.Common.{◌≡◌, ◌∙◌, sym, subst, ap, ap₂, ℕ, ◌+◌, ◌≤◌, List, [], ◌∷◌, ◌++◌, length, drop, take, Some, slice_get, append_assoc, Result, Err, arith}
+use Rattle.std.proofs.Common.{◌≡◌, ◌∙◌, sym, subst, ap, ap₂, ℕ, suc, ◌+◌, ◌<◌, ◌≤◌, List, [], ◌∷◌, ◌++◌, length, map, drop, take, get_or, add-one, drop-cons, Some, slice_get, append_assoc, Result, Err, arith}
 use Rattle.std.proofs.lemmas.List.{drop_all, length-take-le}
 use Rattle.std.proofs.lemmas.Option.{slice_get_within}
 use Rattle.std.specs.Prelude.{option_map, unwrap_or}
@@ -9,7 +9,7 @@ use Rattle.ba_input.specs.declared.task.Told.TheVariants.{Lines}
 use Rattle.ba_lanes.specs.declared.journal.Entry.{Entry}
 use Rattle.ba_outside.specs.Seen.{SinkSeen}
 use Rattle.ba_outside.specs.declared.sink.WriteFail.{WriteFail}
-use Rattle.ba_plan.proofs.SendingLines.{lines_err, lines_then}
+use Rattle.ba_plan.proofs.SendingLines.{lines_err, lines_none, lines_then}
 use Rattle.ba_plan.specs.Sent.{SentLines, WroteLines}
 use Rattle.ba_script.specs.declared.entry.ScriptEntry.{ScriptEntry}
 use Rattle.ba_tables.proofs.FieldLemmas.{drop_element}
@@ -45,25 +45,47 @@ pub line_at : (entries : List Entry) (i : ℕ) (entry : Entry) → slice_get ent
 line_at entries i entry is = ap (λ z. z + 1) (sym (taken entries i entry is))
 
 -- it was told of the next entry, and the rest became of this
-pub told_then : {X : Type 0} (told : Told) (input : Input) (entries : List Entry) (i : ℕ) (entry : Entry) (tail : List ℕ) (s m t : SinkSeen) (r : Result X WriteFail) → slice_get entries i ≡ Some entry
-    → WroteLines (told_of told input (take i entries) entry) s m → SentLines (told_after told input (take (i + 1) entries) (drop (i + 1) entries) ++ tail ∷ []) m t r → SentLines (told_after told input (take i entries) (drop i entries) ++ tail ∷ []) s t r
+pub told_then : {X : Type 0} (told : Told) (input : Input) (entries : List Entry) (i : ℕ) (entry : Entry) (tail : List (List ℕ)) (s m t : SinkSeen) (r : Result X WriteFail) → slice_get entries i ≡ Some entry
+    → WroteLines (told_of told input (take i entries) entry) s m → SentLines (told_after told input (take (i + 1) entries) (drop (i + 1) entries) ++ tail) m t r → SentLines (told_after told input (take i entries) (drop i entries) ++ tail) s t r
 told_then told input entries i entry tail s m t r is wrote rest =
     let one = told_of told input (take i entries) entry in
     let more = told_after told input (take (i + 1) entries) (drop (i + 1) entries) in
-    subst (λ z. SentLines z s t r) (sym (ap (λ z. z ++ tail ∷ []) (told_step told input entries i entry is) ∙ append_assoc one more (tail ∷ [])))
-    (lines_then s m t one (more ++ tail ∷ []) r wrote rest)
+    subst (λ z. SentLines z s t r) (sym (ap (λ z. z ++ tail) (told_step told input entries i entry is) ∙ append_assoc one more tail))
+    (lines_then s m t one (more ++ tail) r wrote rest)
 
 -- it couldn't be told of the next entry
-pub told_err : (X Y : Type 0) (told : Told) (input : Input) (entries : List Entry) (i : ℕ) (entry : Entry) (tail : List ℕ) (s t : SinkSeen) (e : WriteFail) → slice_get entries i ≡ Some entry
-    → SentLines {X = X} (told_of told input (take i entries) entry) s t (Err e) → SentLines {X = Y} (told_after told input (take i entries) (drop i entries) ++ tail ∷ []) s t (Err e)
+pub told_err : (X Y : Type 0) (told : Told) (input : Input) (entries : List Entry) (i : ℕ) (entry : Entry) (tail : List (List ℕ)) (s t : SinkSeen) (e : WriteFail) → slice_get entries i ≡ Some entry
+    → SentLines {X = X} (told_of told input (take i entries) entry) s t (Err e) → SentLines {X = Y} (told_after told input (take i entries) (drop i entries) ++ tail) s t (Err e)
 told_err X Y told input entries i entry tail s t e is sent =
     let one = told_of told input (take i entries) entry in
     let more = told_after told input (take (i + 1) entries) (drop (i + 1) entries) in
-    subst (λ z. SentLines {X = Y} z s t (Err e)) (sym (ap (λ z. z ++ tail ∷ []) (told_step told input entries i entry is) ∙ append_assoc one more (tail ∷ [])))
-    (lines_err X Y s t one (more ++ tail ∷ []) e sent)
+    subst (λ z. SentLines {X = Y} z s t (Err e)) (sym (ap (λ z. z ++ tail) (told_step told input entries i entry is) ∙ append_assoc one more tail))
+    (lines_err X Y s t one (more ++ tail) e sent)
 
 -- no entry is left
-pub told_last : {X : Type 0} (told : Told) (input : Input) (entries : List Entry) (i : ℕ) (tail : List ℕ) (s t : SinkSeen) (r : Result X WriteFail) → length entries ≤ i
-    → SentLines (tail ∷ []) s t r → SentLines (told_after told input (take i entries) (drop i entries) ++ tail ∷ []) s t r
+pub told_last : {X : Type 0} (told : Told) (input : Input) (entries : List Entry) (i : ℕ) (tail : List (List ℕ)) (s t : SinkSeen) (r : Result X WriteFail) → length entries ≤ i
+    → SentLines tail s t r → SentLines (told_after told input (take i entries) (drop i entries) ++ tail) s t r
 told_last told input entries i tail s t r past sent =
-    subst (λ z. SentLines (told_after told input (take i entries) z ++ tail ∷ []) s t r) (sym (drop_all i entries past)) sent
+    subst (λ z. SentLines (told_after told input (take i entries) z ++ tail) s t r) (sym (drop_all i entries past)) sent
+
+-- ---- lines of things, one after another
+
+-- the next one, and those behind it
+next_of : {A : Type 0} (its : List A) (i : ℕ) (it : A) → i < length its → it ≡ get_or its i it → drop i its ≡ it ∷ drop (i + 1) its
+next_of its i it below at = drop-cons its i it below ∙ ap (λ z. z ∷ drop (suc i) its) (sym at) ∙ ap (λ n. it ∷ drop n its) (sym (add-one i))
+
+-- the line of the next one was sent, and the rest became of this
+pub each_then : {A X : Type 0} (line : A → List ℕ) (its : List A) (i : ℕ) (it : A) (s m t : SinkSeen) (r : Result X WriteFail) → i < length its → it ≡ get_or its i it
+    → WroteLines (line it ∷ []) s m → SentLines (map line (drop (i + 1) its)) m t r → SentLines (map line (drop i its)) s t r
+each_then line its i it s m t r below at wrote rest =
+    subst (λ z. SentLines z s t r) (sym (ap (map line) (next_of its i it below at))) (lines_then s m t (line it ∷ []) (map line (drop (i + 1) its)) r wrote rest)
+
+-- the line of the next one couldn't be sent
+pub each_err : {A : Type 0} (X Y : Type 0) (line : A → List ℕ) (its : List A) (i : ℕ) (it : A) (s t : SinkSeen) (e : WriteFail) → i < length its → it ≡ get_or its i it
+    → SentLines {X = X} (line it ∷ []) s t (Err e) → SentLines {X = Y} (map line (drop i its)) s t (Err e)
+each_err X Y line its i it s t e below at sent =
+    subst (λ z. SentLines {X = Y} z s t (Err e)) (sym (ap (map line) (next_of its i it below at))) (lines_err X Y s t (line it ∷ []) (map line (drop (i + 1) its)) e sent)
+
+-- none is left
+pub each_none : {A : Type 0} (line : A → List ℕ) (its : List A) (i : ℕ) (s : SinkSeen) → length its ≤ i → WroteLines (map line (drop i its)) s s
+each_none line its i s past = subst (λ z. WroteLines z s s) (sym (ap (map line) (drop_all i its past))) (lines_none s)

@@ -1,8 +1,10 @@
 -- What follows from how a command went.
 use Rattle.std.proofs.Common.{◌≡◌, ◌⊎◌, ◌∙◌, inl, inr, refl, sym, ap, subst, ℕ, List, [], ◌∷◌, Bool, true, false, cond, length, Option, Some, None, Result, Ok, Err, IfSome}
+use Rattle.ba_input.proofs.ReadsLemmas.{reads_failed, reads_front, reads_long, reads_settled}
 use Rattle.ba_input.proofs.RefusalLemmas.{refused_is}
 use Rattle.ba_input.specs.Causes.{IsLimit}
 use Rattle.ba_input.specs.Reading.{plan_of}
+use Rattle.ba_input.specs.Reads.{IsSettled, Outcome, Reads}
 use Rattle.ba_input.specs.Stops.{fault_of}
 use Rattle.ba_input.specs.declared.detail.Detail.{Detail}
 use Rattle.ba_input.specs.declared.detail.Detail.TheVariants.{Done, NotAccepted, Fault as Faulted, Write, Memory}
@@ -16,16 +18,13 @@ use Rattle.ba_model.specs.declared.limits.Counted.{Counted}
 use Rattle.ba_model.specs.declared.limits.Counted.TheVariants.{FileBytes}
 use Rattle.ba_outside.specs.Causes.{Rose}
 use Rattle.ba_outside.specs.Seen.{Contents, FilesSeen, SinkSeen}
-use Rattle.ba_plan.proofs.Causes.{long_file, read_fault}
-use Rattle.ba_plan.proofs.Told.{determined, names_front}
-use Rattle.ba_plan.specs.Ends.{AsksFront, FailedAt, Settles}
-use Rattle.ba_plan.specs.Follows.{Follows}
-use Rattle.ba_plan.specs.Plan.{names_of, outcome_of}
+use Rattle.ba_plan.specs.Ends.{AsksFront, FailedAt}
+use Rattle.ba_plan.specs.Plan.{names_of}
 use Rattle.ba_plan.specs.declared.stop.Stop.{Stop}
 use Rattle.ba_plan.specs.declared.stop.Stop.TheVariants.{Refused, Read as Unreadable, TooLong, NoMemory}
 use Rattle.ba_proof.specs.declared.checking.CheckFault.{CheckFault}
 use Rattle.ba_proof.specs.declared.proof.Proof.{Proof}
-use Rattle.ba_top.specs.Causes.{ComesTo, Tells, faulted}
+use Rattle.ba_top.specs.Causes.{ComesTo, SomeComesTo, Tells, faulted}
 use Rattle.ba_top.specs.Checking.{EndsCheck, IsAccepted, IsFinding, IsVerdict, detail_found, line_found}
 use Rattle.ba_top.specs.Ends.{EndsLine, EndsLines}
 use Rattle.ba_top.specs.Ran.{Accepts, EndsEarly, EndsRun, Ran, RanTask, Rejects, Served}
@@ -75,7 +74,7 @@ checks_as proof s t detail (inl told) = told_as proof s t detail told.found told
 checks_as proof s t detail (inr (is, same)) = inr (inr is)
 
 -- what was read, and then what was done with it
-pub ran_task : (words : List (List ℕ)) (f g : FilesSeen) (s t : SinkSeen) (detail : Detail) (journal : Option Journal) (it : Task) → Follows (plan_of words) f g (Ok it) → RanTask it s t detail journal → Ran words f g s t detail journal
+pub ran_task : (words : List (List ℕ)) (f g : FilesSeen) (s t : SinkSeen) (detail : Detail) (journal : Option Journal) (it : Task) → Reads words f g (Ok it) → RanTask it s t detail journal → Ran words f g s t detail journal
 ran_task words f g s t detail (Some journal) (task.Run input told) follows (legal, headline, written) = record {
   input = input;
   told = told;
@@ -93,7 +92,7 @@ ran_task words f g s t detail None (task.Check proof) follows ends = inr (inr (i
 -- How a command ended: by what the reading came to, or by the writing, or for want of memory.
 Ended : List (List ℕ) → FilesSeen → FilesSeen → SinkSeen → SinkSeen → Detail → Type 0
 Ended words f g s t detail =
-    ((reading : Result Task (Stop Fault)) × Follows (plan_of words) f g reading × Ending (ComesTo reading) s t detail)
+    ((reading : Result Task (Stop Fault)) × Reads words f g reading × Ending (ComesTo reading) s t detail)
 
 ended : (words : List (List ℕ)) (f g : FilesSeen) (s t : SinkSeen) (detail : Detail) (journal : Option Journal) → Ran words f g s t detail journal → Ended words f g s t detail
 unfolding Ended
@@ -131,9 +130,9 @@ limit_of (Err (Unreadable f)) what limit e = absurd (cc)
 limit_of (Err (TooLong f n)) what limit e = let w : FileBytes ≡ what = cc in let h : n ≡ limit = cc in inr (sym w, (f, ap (λ z. Err (TooLong f z)) h))
 limit_of (Err NoMemory) what limit e = absurd (cc)
 
-told_read : (words : List (List ℕ)) (f g : FilesSeen) (reading : Result Task (Stop Fault)) (file : List ℕ) → Follows (plan_of words) f g reading → ComesToRead reading file → FailedAt file f g
-told_read words f g reading file follows (inl is) = read_fault (plan_of words) f g file (subst (λ z. Follows (plan_of words) f g z) is follows)
-told_read words f g reading file follows (inr is) = absurd (refused_is words f g (fault.Read file) (subst (λ z. Follows (plan_of words) f g z) is follows))
+told_read : (words : List (List ℕ)) (f g : FilesSeen) (reading : Result Task (Stop Fault)) (file : List ℕ) → Reads words f g reading → ComesToRead reading file → FailedAt file f g
+told_read words f g reading file follows (inl is) = reads_failed words f g file (subst (λ z. Reads words f g z) is follows)
+told_read words f g reading file follows (inr is) = absurd (refused_is words f g (fault.Read file) (subst (λ z. Reads words f g z) is follows))
 
 pub ran_read : (words : List (List ℕ)) (f g : FilesSeen) (s t : SinkSeen) (detail : Detail) (journal : Option Journal) → Ran words f g s t detail journal → (file : List ℕ) → detail ≡ Faulted (fault.Read file) → FailedAt file f g
 unfolding Ended
@@ -144,9 +143,9 @@ ran_read words f g s t detail journal ran file e = by_end (ended words f g s t d
     by_end (reading, follows, inr (inl (is, rose))) = absurd (cc)
     by_end (reading, follows, inr (inr is)) = absurd (cc)
 
-told_limit : (words : List (List ℕ)) (f g : FilesSeen) (reading : Result Task (Stop Fault)) (what : Counted) (limit : ℕ) → Follows (plan_of words) f g reading → ComesToLimit reading what limit → IsLimit words what limit f g
-told_limit words f g reading what limit follows (inl is) = inl (subst (λ z. Follows (plan_of words) f g z) is follows)
-told_limit words f g reading what limit follows (inr (bytes, (file, is))) = inr (bytes, (file, long_file (plan_of words) f g file limit (subst (λ z. Follows (plan_of words) f g z) is follows)))
+told_limit : (words : List (List ℕ)) (f g : FilesSeen) (reading : Result Task (Stop Fault)) (what : Counted) (limit : ℕ) → Reads words f g reading → ComesToLimit reading what limit → IsLimit words what limit f g
+told_limit words f g reading what limit follows (inl is) = inl (subst (λ z. Reads words f g z) is follows)
+told_limit words f g reading what limit follows (inr (bytes, (file, is))) = inr (bytes, (file, reads_long words f g file limit (subst (λ z. Reads words f g z) is follows)))
 
 pub ran_limit : (words : List (List ℕ)) (f g : FilesSeen) (s t : SinkSeen) (detail : Detail) (journal : Option Journal) → Ran words f g s t detail journal → (what : Counted) (limit : ℕ) → detail ≡ Faulted (fault.Limit what limit) → IsLimit words what limit f g
 unfolding Ended
@@ -205,7 +204,7 @@ ran_accepted words f g s t detail None (inr (inr (inl it))) = λ e. inl (record 
 ran_accepted words f g s t detail None (inr (inr (inr it))) = λ e. inr (it.text, it.read)
 
 -- a reading that ends so is of a proof that has the fault
-rejects : (words : List (List ℕ)) (f g : FilesSeen) (reading : Result Task (Stop Fault)) (why : CheckFault) → Follows (plan_of words) f g reading → ComesTo reading (NotAccepted why) → Rejects words f g why
+rejects : (words : List (List ℕ)) (f g : FilesSeen) (reading : Result Task (Stop Fault)) (why : CheckFault) → Reads words f g reading → ComesTo reading (NotAccepted why) → Rejects words f g why
 rejects words f g (Ok (task.Run input told)) why follows e = absurd (cc)
 rejects words f g (Ok (task.Print text)) why follows e = absurd (cc)
 rejects words f g (Ok (task.Check proof)) why follows is = record { proof = proof; read = follows; holds = is }
@@ -231,56 +230,59 @@ unfolding Ended
 ran_asked contents words f g s t detail journal ran told = by_end (ended words f g s t detail journal ran)
   where
     by_end : Ended words f g s t detail → AsksFront f.asked g.asked (names_of contents (plan_of words))
-    by_end (reading, follows, end) = names_front contents (plan_of words) f g reading told follows
+    by_end (reading, follows, end) = reads_front contents words f g reading told follows
 
 -- where something is told
 pub if_told : (held : Option Contents) (P : Contents → Type 0) → ((contents : Contents) → held ≡ Some contents → P contents) → IfSome held P
 if_told None P h = tt
 if_told (Some contents) P h = h contents refl
 
+some_comes : (MayBe : Result Task (Stop Fault) → Type 0) (reading : Result Task (Stop Fault)) (detail : Detail) → MayBe reading → ComesTo reading detail → SomeComesTo MayBe detail
+some_comes MayBe reading detail may comes = record { reading = reading; may_be = may; comes = comes }
+
 -- what the files come to is told
-tells : (whole : Result Task (Stop Fault)) (detail : Detail) → ComesTo whole detail → Tells detail whole
-tells whole Done is = is
-tells whole (NotAccepted why) is = is
-tells whole (Faulted fault.Words) is = is
-tells whole (Faulted (fault.Input file reason)) is = is
-tells whole (Faulted (fault.Read file)) is = tt
-tells whole (Faulted (fault.Limit what limit)) is = is
-tells whole Write is = tt
-tells whole Memory is = tt
+tells : (MayBe : Result Task (Stop Fault) → Type 0) (detail : Detail) → SomeComesTo MayBe detail → Tells detail MayBe
+tells MayBe Done is = is
+tells MayBe (NotAccepted why) is = is
+tells MayBe (Faulted fault.Words) is = is
+tells MayBe (Faulted (fault.Input file reason)) is = is
+tells MayBe (Faulted (fault.Read file)) is = tt
+tells MayBe (Faulted (fault.Limit what limit)) is = is
+tells MayBe Write is = tt
+tells MayBe Memory is = tt
 
 -- what the reading came to tells of the words and the files
-tells_of : (reading whole : Result Task (Stop Fault)) (detail : Detail) → Settles reading whole → ComesTo reading detail → Tells detail whole
-tells_of (Ok it) whole detail e is = tells whole detail (subst (λ z. ComesTo z detail) (sym e) is)
-tells_of (Err (Refused r)) whole detail e is = tells whole detail (subst (λ z. ComesTo z detail) (sym e) is)
-tells_of (Err (Unreadable f)) whole detail e is = subst (λ z. Tells z whole) (sym is) tt
-tells_of (Err (TooLong f n)) whole detail e is = tells whole detail (subst (λ z. ComesTo z detail) (sym e) is)
-tells_of (Err NoMemory) whole detail e is = subst (λ z. Tells z whole) (sym is) tt
+tells_of : (MayBe : Result Task (Stop Fault) → Type 0) (reading : Result Task (Stop Fault)) (detail : Detail) → IsSettled reading MayBe → ComesTo reading detail → Tells detail MayBe
+tells_of MayBe (Ok it) detail e is = tells MayBe detail (some_comes MayBe (Ok it) detail e is)
+tells_of MayBe (Err (Refused r)) detail e is = tells MayBe detail (some_comes MayBe (Err (Refused r)) detail e is)
+tells_of MayBe (Err (Unreadable f)) detail e is = subst (λ z. Tells z MayBe) (sym is) tt
+tells_of MayBe (Err (TooLong f n)) detail e is = tells MayBe detail (some_comes MayBe (Err (TooLong f n)) detail e is)
+tells_of MayBe (Err NoMemory) detail e is = subst (λ z. Tells z MayBe) (sym is) tt
 
-pub ran_told : (contents : Contents) (words : List (List ℕ)) (f g : FilesSeen) (s t : SinkSeen) (detail : Detail) (journal : Option Journal) → Ran words f g s t detail journal → f.held ≡ Some contents → Tells detail (outcome_of contents (plan_of words))
+pub ran_told : (contents : Contents) (words : List (List ℕ)) (f g : FilesSeen) (s t : SinkSeen) (detail : Detail) (journal : Option Journal) → Ran words f g s t detail journal → f.held ≡ Some contents → Tells detail (Outcome contents words)
 unfolding Ended
 ran_told contents words f g s t detail journal ran told = by_end (ended words f g s t detail journal ran)
   where
-    by_end : Ended words f g s t detail → Tells detail (outcome_of contents (plan_of words))
-    by_end (reading, follows, inl is) = tells_of reading (outcome_of contents (plan_of words)) detail (determined contents (plan_of words) f g reading told follows) is
-    by_end (reading, follows, inr (inl (is, rose))) = subst (λ z. Tells z (outcome_of contents (plan_of words))) (sym is) tt
-    by_end (reading, follows, inr (inr is)) = subst (λ z. Tells z (outcome_of contents (plan_of words))) (sym is) tt
+    by_end : Ended words f g s t detail → Tells detail (Outcome contents words)
+    by_end (reading, follows, inl is) = tells_of (Outcome contents words) reading detail (reads_settled contents words f g reading told follows) is
+    by_end (reading, follows, inr (inl (is, rose))) = subst (λ z. Tells z (Outcome contents words)) (sym is) tt
+    by_end (reading, follows, inr (inr is)) = subst (λ z. Tells z (Outcome contents words)) (sym is) tt
 
 -- without a read fault the command comes to what the files come to, or memory ran out
-whole_of : (words : List (List ℕ)) (f g : FilesSeen) (reading whole : Result Task (Stop Fault)) (detail : Detail) → Settles reading whole → Follows (plan_of words) f g reading → ¬ Rose f.faults g.faults → ComesTo reading detail → (detail ≡ Memory) ⊎ ComesTo whole detail
-whole_of words f g (Ok it) whole detail e follows calm is = inr (subst (λ z. ComesTo z detail) (sym e) is)
-whole_of words f g (Err (Refused r)) whole detail e follows calm is = inr (subst (λ z. ComesTo z detail) (sym e) is)
-whole_of words f g (Err (Unreadable file)) whole detail e follows calm is = absurd (calm (read_fault (plan_of words) f g file follows).rose)
-whole_of words f g (Err (TooLong file n)) whole detail e follows calm is = inr (subst (λ z. ComesTo z detail) (sym e) is)
-whole_of words f g (Err NoMemory) whole detail e follows calm is = inl is
+whole_of : (words : List (List ℕ)) (f g : FilesSeen) (MayBe : Result Task (Stop Fault) → Type 0) (reading : Result Task (Stop Fault)) (detail : Detail) → IsSettled reading MayBe → Reads words f g reading → ¬ Rose f.faults g.faults → ComesTo reading detail → (detail ≡ Memory) ⊎ SomeComesTo MayBe detail
+whole_of words f g MayBe (Ok it) detail e follows calm is = inr (some_comes MayBe (Ok it) detail e is)
+whole_of words f g MayBe (Err (Refused r)) detail e follows calm is = inr (some_comes MayBe (Err (Refused r)) detail e is)
+whole_of words f g MayBe (Err (Unreadable file)) detail e follows calm is = absurd (calm (reads_failed words f g file follows).rose)
+whole_of words f g MayBe (Err (TooLong file n)) detail e follows calm is = inr (some_comes MayBe (Err (TooLong file n)) detail e is)
+whole_of words f g MayBe (Err NoMemory) detail e follows calm is = inl is
 
 pub ran_complete : (contents : Contents) (words : List (List ℕ)) (f g : FilesSeen) (s t : SinkSeen) (detail : Detail) (journal : Option Journal) → Ran words f g s t detail journal → f.held ≡ Some contents
-    → ¬ Rose f.faults g.faults → ¬ Rose s.faults t.faults → (detail ≡ Memory) ⊎ ComesTo (outcome_of contents (plan_of words)) detail
+    → ¬ Rose f.faults g.faults → ¬ Rose s.faults t.faults → (detail ≡ Memory) ⊎ SomeComesTo (Outcome contents words) detail
 unfolding Ended
 ran_complete contents words f g s t detail journal ran told calm still = by_end (ended words f g s t detail journal ran)
   where
-    by_end : Ended words f g s t detail → (detail ≡ Memory) ⊎ ComesTo (outcome_of contents (plan_of words)) detail
-    by_end (reading, follows, inl is) = whole_of words f g reading (outcome_of contents (plan_of words)) detail (determined contents (plan_of words) f g reading told follows) follows calm is
+    by_end : Ended words f g s t detail → (detail ≡ Memory) ⊎ SomeComesTo (Outcome contents words) detail
+    by_end (reading, follows, inl is) = whole_of words f g (Outcome contents words) reading detail (reads_settled contents words f g reading told follows) follows calm is
     by_end (reading, follows, inr (inl (is, rose))) = absurd (still rose)
     by_end (reading, follows, inr (inr is)) = inl is
 

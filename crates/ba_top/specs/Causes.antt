@@ -24,13 +24,19 @@ ComesTo (Ok (task.Print text)) detail = detail ≡ Done
 ComesTo (Ok (task.Check proof)) detail = IsVerdict proof detail
 ComesTo (Err stop) detail = detail ≡ faulted (fault_of stop)
 
--- an answer that tells of the words or of the files' contents is the one that the reading comes to
-abbrev pub Tells : Detail → Result Task (Stop Fault) → Type 0
-Tells Done reading = ComesTo reading Done
-Tells (NotAccepted why) reading = ComesTo reading (NotAccepted why)
-Tells (Faulted Words) reading = ComesTo reading (Faulted Words)
-Tells (Faulted (Input file reason)) reading = ComesTo reading (Faulted (Input file reason))
-Tells (Faulted (Limit what limit)) reading = ComesTo reading (Faulted (Limit what limit))
-Tells (Faulted (Read file)) reading = ⊤
-Tells Write reading = ⊤
-Tells Memory reading = ⊤
+-- a reading that may be comes to this
+pub record SomeComesTo (MayBe : Result Task (Stop Fault) → Type 0) (detail : Detail) : Type 0 where
+  pub reading : Result Task (Stop Fault)
+  pub may_be : MayBe reading
+  pub comes : ComesTo reading detail
+
+-- an answer that tells of the words or of the files' contents is one that a reading comes to
+abbrev pub Tells : Detail → (Result Task (Stop Fault) → Type 0) → Type 0
+Tells Done MayBe = SomeComesTo MayBe Done
+Tells (NotAccepted why) MayBe = SomeComesTo MayBe (NotAccepted why)
+Tells (Faulted Words) MayBe = SomeComesTo MayBe (Faulted Words)
+Tells (Faulted (Input file reason)) MayBe = SomeComesTo MayBe (Faulted (Input file reason))
+Tells (Faulted (Limit what limit)) MayBe = SomeComesTo MayBe (Faulted (Limit what limit))
+Tells (Faulted (Read file)) MayBe = ⊤
+Tells Write MayBe = ⊤
+Tells Memory MayBe = ⊤

@@ -1,11 +1,10 @@
 -- What a command may come to.
 use Rattle.std.specs.Prelude.{◌≡◌, ◌⊎◌, ℕ, List, Option, Some, None, Ok, Err, ⊤, if◌then◌else◌}
 use Rattle.ba_outside.specs.Seen.{FilesSeen, SinkSeen}
-use Rattle.ba_plan.specs.Follows.{Follows}
 use Rattle.ba_plan.specs.declared.stop.Stop.{Stop}
 use Rattle.ba_proof.specs.declared.checking.CheckFault.{CheckFault}
 use Rattle.ba_proof.specs.declared.proof.Proof.{Proof}
-use Rattle.ba_input.specs.Reading.{plan_of}
+use Rattle.ba_input.specs.Reads.{Reads}
 use Rattle.ba_input.specs.Stops.{fault_of}
 use Rattle.ba_input.specs.declared.detail.Detail.{Detail}
 use Rattle.ba_input.specs.declared.detail.Detail.TheVariants.{Done, NotAccepted, Fault as Faulted, Write, Memory}
@@ -67,7 +66,7 @@ pub record Served (words : List (List ℕ)) (f g : FilesSeen) (s t : SinkSeen) (
     (journal : Journal) : Type 0 where
   pub input : Input
   pub told : Told
-  pub read : Follows (plan_of words) f g (Ok (task.Run input told))
+  pub read : Reads words f g (Ok (task.Run input told))
   pub legal : Legal input journal
   pub headline : Headline input journal
   pub written : EndsRun input told journal s t detail
@@ -98,14 +97,14 @@ RanTask (task.Check proof) s t detail None = EndsCheck proof s t detail
 pub record Checked (words : List (List ℕ)) (f g : FilesSeen) (s t : SinkSeen) (detail : Detail)
     : Type 0 where
   pub proof : Proof
-  pub read : Follows (plan_of words) f g (Ok (task.Check proof))
+  pub read : Reads words f g (Ok (task.Check proof))
   pub ends : EndsCheck proof s t detail
 
 -- A script was printed, line by line, or a front of it.
 pub record Printed (words : List (List ℕ)) (f g : FilesSeen) (s t : SinkSeen) (detail : Detail)
     : Type 0 where
   pub text : List ℕ
-  pub read : Follows (plan_of words) f g (Ok (task.Print text))
+  pub read : Reads words f g (Ok (task.Print text))
   pub ends : EndsPrint text s t detail
 
 -- With a journal the script was served.
@@ -116,8 +115,8 @@ abbrev pub Ran : List (List ℕ) → FilesSeen → FilesSeen → SinkSeen → Si
     → Option Journal → Type 0
 Ran words f g s t detail (Some journal) = Served words f g s t detail journal
 Ran words f g s t detail None =
-    ((stop : Stop Fault) × Follows (plan_of words) f g (Err stop) × EndsStop stop s t detail)
-    ⊎ ((input : Input) × (told : Told) × Follows (plan_of words) f g (Ok (task.Run input told))
+    ((stop : Stop Fault) × Reads words f g (Err stop) × EndsStop stop s t detail)
+    ⊎ ((input : Input) × (told : Told) × Reads words f g (Ok (task.Run input told))
     × (detail ≡ Memory) × (t ≡ s))
     ⊎ Checked words f g s t detail
     ⊎ Printed words f g s t detail
@@ -127,12 +126,12 @@ Ran words f g s t detail None =
 -- A proof was read, of which this holds.
 pub record ReadsProof (words : List (List ℕ)) (f g : FilesSeen) (P : Proof → Type 0) : Type 0 where
   pub proof : Proof
-  pub read : Follows (plan_of words) f g (Ok (task.Check proof))
+  pub read : Reads words f g (Ok (task.Check proof))
   pub holds : P proof
 
 -- a script was to be printed
 abbrev pub IsPrint : List (List ℕ) → FilesSeen → FilesSeen → Type 0
-IsPrint words f g = (text : List ℕ) × Follows (plan_of words) f g (Ok (task.Print text))
+IsPrint words f g = (text : List ℕ) × Reads words f g (Ok (task.Print text))
 
 -- without a journal, and where no script was to be printed, to be done is that the proof that was
 -- read is accepted

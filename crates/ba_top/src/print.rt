@@ -1,19 +1,23 @@
 //! Writes the lines of a run.
-ghost use Rattle.std.specs.Prelude.{◌≡◌, ◌==◌, ◌<◌, ◌+◌, [], ◌∷◌, List, IfOk, Some, length, position, slice_get, string_bytes};
+ghost use Rattle.std.specs.Prelude.{◌≡◌, ◌==◌, ◌<◌, ◌+◌, [], ◌∷◌, List, IfOk, Some, length, map, position, slice_get, string_bytes};
 ghost use Rattle.ba_input.specs.declared.input.Input.{Input as Given};
 ghost use Rattle.ba_lanes.specs.declared.journal.Entry.{Entry as EntryOf};
 ghost use Rattle.ba_plan.specs.Sent.{SentLines};
 ghost use Rattle.ba_wire.specs.Printed.{fault_bytes, line_bytes, printed};
-ghost use Rattle.ba_top.specs.Text.{entry_line, lines_of, name_in, printed_block, printed_by, reply_line, told_lines, told_of, total_bytes};
+ghost use Rattle.ba_lanes.specs.Legal.{left_templates};
+ghost use Rattle.ba_store.specs.Written.{line_of as template_bytes};
+ghost use Rattle.ba_top.specs.Text.{entry_line, lines_of, name_in, printed_block, printed_by, reply_line, told_end, told_lines, told_of, total_bytes};
 
 use crate::summary::count_all;
 use ba_input::{Input, Told};
 use ba_lanes::{Entry, Journal};
-use ba_model::Str;
+use ba_model::{Shared, Str};
 use ba_outside::{Sink, WriteFail};
 use ba_plan::send;
 use ba_script::ScriptEntry;
 use ba_session::{By, Reply, Why};
+use ba_store::template_line;
+use ba_template::Template;
 use ba_wire::{Block, By as PrintedBy, Fault, Line, fault_text, line_text, summary_text};
 use std::alloc::{AllocError, Global};
 
@@ -130,7 +134,7 @@ fn print_entry<S: Sink>(
             };
             send(sink, text.as_bytes())
         }
-        Told::Summary => Ok(()),
+        Told::Summary | Told::Templates => Ok(()),
     }
 }
 
@@ -159,8 +163,63 @@ fn print_summary<S: Sink>(alloc: Global, journal: &Journal, sink: &mut S) -> Res
     send(sink, text.as_bytes())
 }
 
+// Writes the line of a template.
+fn print_template<S: Sink>(
+    alloc: Global,
+    template: &Template,
+    sink: &mut S,
+) -> Result<(), WriteFail>
+    ensures { SentLines (template_bytes template.now ∷ []) (S.seen sink.old) (S.seen sink.new) result }
+{
+    let Ok(text) = template_line(alloc, template) else {
+        return Err(WriteFail::NoMemory);
+    };
+    send(sink, text.as_bytes())
+}
+
+// Writes the lines of templates, in order.
+fn print_each<S: Sink>(
+    alloc: Global,
+    templates: &[Shared<Template>],
+    sink: &mut S,
+) -> Result<(), WriteFail>
+    ensures { SentLines (map template_bytes templates.now)
+        (S.seen sink.old) (S.seen sink.new) result }
+{
+    for template in templates {
+        print_template(alloc, template, sink)?;
+    }
+    Ok(())
+}
+
+// Writes the templates that the shelves' histories leave.
+fn print_templates<S: Sink>(alloc: Global, journal: &Journal, sink: &mut S) -> Result<(), WriteFail>
+    ensures { SentLines (map template_bytes (left_templates journal.now))
+        (S.seen sink.old) (S.seen sink.new) result }
+{
+    let Ok(templates) = journal.templates(alloc) else {
+        return Err(WriteFail::NoMemory);
+    };
+    print_each(alloc, templates.as_slice(), sink)
+}
+
+// Writes what is told at the end of a run.
+fn print_last<S: Sink>(
+    alloc: Global,
+    journal: &Journal,
+    told: Told,
+    sink: &mut S,
+) -> Result<(), WriteFail>
+    ensures { SentLines (told_end told journal.now) (S.seen sink.old) (S.seen sink.new) result }
+{
+    match told {
+        Told::Lines | Told::Summary => print_summary(alloc, journal, sink),
+        Told::Templates => print_templates(alloc, journal, sink),
+    }
+}
+
 /// Writes what is told of a run: of each line of the script, by its entry, in order, and then the
-/// summary.
+/// summary; or the templates that the run leaves.
 pub(crate) fn print_told<S: Sink>(
     alloc: Global,
     input: &Input,
@@ -177,7 +236,7 @@ pub(crate) fn print_told<S: Sink>(
         let entry = journal.entries.get(place);
         print_entry(alloc, told, said, place as u64 + 1, entry, sink)?;
     }
-    print_summary(alloc, journal, sink)
+    print_last(alloc, journal, told, sink)
 }
 
 fn line_end(bytes: &[u8]) -> Option<usize>

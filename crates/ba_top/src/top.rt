@@ -3,13 +3,14 @@ ghost use Rattle.std.specs.Prelude.{◌≡◌, ◌⊎◌, List, ℕ, length, map
 ghost use Rattle.ba_model.specs.declared.limits.Counted.{Counted};
 ghost use Rattle.ba_outside.specs.Causes.{Rose};
 ghost use Rattle.ba_plan.specs.Ends.{AsksFront, FailedAt};
-ghost use Rattle.ba_plan.specs.Plan.{names_of, outcome_of};
+ghost use Rattle.ba_plan.specs.Plan.{names_of};
 ghost use Rattle.ba_proof.specs.declared.checking.CheckFault.{CheckFault};
 ghost use Rattle.ba_input.specs.Causes.{IsLimit};
 ghost use Rattle.ba_input.specs.Inputs.{IsInput};
 ghost use Rattle.ba_input.specs.Reading.{plan_of};
+ghost use Rattle.ba_input.specs.Reads.{Outcome as MayRead};
 ghost use Rattle.ba_input.specs.Tasks.{IsTask};
-ghost use Rattle.ba_top.specs.Causes.{ComesTo, Tells};
+ghost use Rattle.ba_top.specs.Causes.{SomeComesTo, Tells};
 ghost use Rattle.ba_top.specs.Ran.{Accepts, EndsFault, EndsPrint, EndsRun, EndsStop, Ran, RanInput, RanTask, Rejects, Served, fault_status, status_of, whole_run};
 
 use crate::checking::end_check;
@@ -154,9 +155,9 @@ fn run<R: Threads + Wait + Sync, F: Files, S: Sink, G: Gate + Sync>(
 
 /// Does what the words say.
 ///
-/// `run --schema S --policy P --tables D --script F [--workers N] [--budget B]` reads the schema S,
-/// the policy P, the file D/T.csv of each table T in the schema's order and the script F, each once;
-/// then answers or blocks each question of the script; then writes a line for each line of the
+/// `run --schema S --policy P --tables D --script F [--load L] [--workers N] [--budget B]` reads the
+/// schema S, the policy P, the file D/T.csv of each table T in the schema's order, the script F and,
+/// last, the templates L, each once; then answers or blocks each question of the script; then writes a line for each line of the
 /// script, in order, and the summary. A question is answered where single views of the policy cover
 /// it under its request's context, where a template, which is an earlier proof made general, matches
 /// it after what its request was told, or where at most B due steps prove that it is strongly
@@ -228,13 +229,13 @@ pub fn blockaid<R: Threads + Wait + Sync, F: Files, S: Sink, G: Gate + Sync>(
         (names_of contents (plan_of (map string_bytes words.now)))) }
     // Then the other answers are those that the words and the files come to.
     ensures told { IfSome (F.seen files.old).held (λ contents.
-        Tells result.detail (outcome_of contents (plan_of (map string_bytes words.now)))) }
+        Tells result.detail (MayRead contents (map string_bytes words.now))) }
     // Where no count rises either, there is no other answer, but for want of memory.
     ensures complete { IfSome (F.seen files.old).held (λ contents.
         ¬ Rose (F.seen files.old).faults (F.seen files.new).faults
         → ¬ Rose (S.seen sink.old).faults (S.seen sink.new).faults
         → (result.detail ≡ Detail.Memory)
-        ⊎ ComesTo (outcome_of contents (plan_of (map string_bytes words.now))) result.detail) }
+        ⊎ SomeComesTo (MayRead contents (map string_bytes words.now)) result.detail) }
 {
     let (detail, journal) = run(rt, alloc, words, files, sink, gate);
     Outcome {

@@ -2,10 +2,9 @@
 #![tactic(auto)]
 
 ghost use Rattle.std.specs.Prelude.{◌≡◌, ◌⊎◌, map, string_bytes};
-ghost use Rattle.ba_input.specs.Reading.{plan_of};
+ghost use Rattle.ba_input.specs.Reads.{Outcome as MayRead};
 ghost use Rattle.ba_outside.specs.MemFiles.{held_or_empty};
-ghost use Rattle.ba_plan.specs.Plan.{outcome_of};
-ghost use Rattle.ba_top.specs.Causes.{ComesTo};
+ghost use Rattle.ba_top.specs.Causes.{SomeComesTo};
 
 use ba_outside::{FreeGate, Held, SureFiles, SureSink};
 use ba_top::{Detail, Outcome, blockaid};
@@ -23,7 +22,7 @@ pub fn sure_run<R: Threads + Wait + Sync>(
     held: Vec<Held>,
 ) -> Outcome
     ensures { (result.detail ≡ Detail.Memory)
-        ⊎ ComesTo (outcome_of (held_or_empty held.items) (plan_of (map string_bytes words.now))) result.detail }
+        ⊎ SomeComesTo (MayRead (held_or_empty held.items) (map string_bytes words.now)) result.detail }
 {
     let mut files = SureFiles::new(alloc, held);
     let mut sink = SureSink::new(alloc);

@@ -82,7 +82,11 @@ pub fn tell_template(
                 "Template {id} of shard {shard}, made of the proof at line {line}, proves it with its values."
             )?
         }
-        None => format!(in alloc; "Template {id} of shard {shard} proves it with its values.")?,
+        None => {
+            format!(in alloc;
+                "Template {id} of shard {shard}, with which the run began, proves it with its values."
+            )?
+        }
     };
     page.say(2, text.as_str())?;
     tell_places(page, scene, found)

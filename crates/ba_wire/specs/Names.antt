@@ -1,5 +1,8 @@
--- How faults of query texts are printed.
+-- How faults of query texts and of steps are printed.
 use Rattle.std.specs.Prelude.{ℕ, List, ◌∷◌, ◌++◌, codes}
+use Rattle.std.specs.Fmt.{decimal}
+use Rattle.ba_kernel.specs.declared.step.StepFault.{StepFault}
+use Rattle.ba_kernel.specs.declared.step.StepFault.TheVariants.{NoBranch, BadFact, BadRule, CondNotShown, HeadDiffers, NotAbsurd}
 use Rattle.ba_lex.specs.declared.token.LexFault.{LexFault}
 use Rattle.ba_lex.specs.declared.token.LexFault.TheVariants.{TooLong, BadByte, OpenQuote, NumberTooLarge}
 use Rattle.ba_sql_query.specs.declared.fault.ReadQueryFault.{ReadQueryFault}
@@ -42,3 +45,12 @@ fault_words query.KindDiffers = fault_name query.KindDiffers
 fault_words query.OrderOnText = fault_name query.OrderOnText
 fault_words query.HeadDiffers = fault_name query.HeadDiffers
 fault_words query.TooMany = fault_name query.TooMany
+
+-- why a step isn't accepted, with the number of the condition or of the column
+unfoldable pub step_fault_text : StepFault → List ℕ
+step_fault_text NoBranch = codes "branch"
+step_fault_text BadFact = codes "fact"
+step_fault_text BadRule = codes "rule"
+step_fault_text (CondNotShown number) = codes "cond" ␣ decimal number
+step_fault_text (HeadDiffers number) = codes "head" ␣ decimal number
+step_fault_text NotAbsurd = codes "absurd"

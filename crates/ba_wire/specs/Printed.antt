@@ -16,7 +16,7 @@ use Rattle.ba_script.specs.declared.fault.LineFault.{LineFault}
 use Rattle.ba_script.specs.declared.fault.LineFault.TheVariants as line_fault
 use Rattle.ba_sql_query.specs.declared.fault.ReadQueryFault.{ReadQueryFault}
 use Rattle.ba_sql_query.specs.declared.fault.ReadQueryFault.TheVariants as query
-use Rattle.ba_wire.specs.Names.{◌␣◌, fault_name, fault_words}
+use Rattle.ba_wire.specs.Names.{◌␣◌, fault_name, fault_words, step_fault_text}
 use Rattle.ba_wire.specs.declared.line.By.{By}
 use Rattle.ba_wire.specs.declared.line.By.TheVariants as by
 use Rattle.ba_wire.specs.declared.line.Block.{Block}
@@ -28,6 +28,8 @@ use Rattle.ba_wire.specs.declared.fault.Reason.{Reason}
 use Rattle.ba_wire.specs.declared.fault.Reason.TheVariants as reason
 use Rattle.ba_wire.specs.declared.fault.Fault.{Fault}
 use Rattle.ba_wire.specs.declared.fault.Fault.TheVariants as fault
+use Rattle.ba_wire.specs.declared.fault.TemplateFault.{TemplateFault}
+use Rattle.ba_wire.specs.declared.fault.TemplateFault.TheVariants as template
 
 -- What a line says, apart from where that lies in memory.
 pub data Printed : Type 0 where
@@ -105,6 +107,13 @@ row_json row = array (items_of (map value_json row))
 abbrev pub row_words : List Value → List ℕ
 row_words row = compact_text (row_json row)
 
+-- why a line of a template file is none
+unfoldable pub template_fault_text : TemplateFault → List ℕ
+template_fault_text template.Json = codes "json"
+template_fault_text (template.Field name) = codes "field" ␣ name
+template_fault_text (template.NotShown step why) = codes "fault" ␣ step_fault_text why ␣ codes "step" ␣ decimal step
+template_fault_text (template.StillOpen branches) = codes "open" ␣ decimal branches
+
 -- numbers in decimal
 unfoldable pub reason_text : Reason → List ℕ
 reason_text (reason.Text it) = fault_words it
@@ -126,6 +135,7 @@ reason_text (reason.RuleRow rule row) = codes "rule" ␣ decimal rule ␣ codes 
 reason_text (reason.Line line why) = codes "line" ␣ decimal line ␣ line_name why
 reason_text reason.Json = codes "json"
 reason_text (reason.Field name) = codes "field" ␣ name
+reason_text (reason.Template line why) = codes "line" ␣ decimal line ␣ template_fault_text why
 
 abbrev pub what_name : Counted → List ℕ
 what_name what.TextBytes = codes "bytes"
@@ -224,7 +234,7 @@ unfoldable pub fault_json : Fault → Data
 fault_json fault.Words =
     object (member (codes "fault") (string (codes "words"))
     (member (codes "status") (count 2)
-    (member (codes "usage") (string (codes "blockaid run|check|gen")) no_members)))
+    (member (codes "usage") (string (codes "blockaid run|check|gen|store")) no_members)))
 fault_json (fault.Input file reason) =
     object (member (codes "fault") (string (codes "input"))
     (member (codes "file") (string file)

@@ -1,22 +1,10 @@
 -- What the line of a check says, and its bytes.
 use Rattle.std.specs.Prelude.{ℕ, List, codes, true, false}
-use Rattle.std.specs.Fmt.{decimal}
 use Rattle.serde_json.specs.Data.{Data, boolean, string, object, no_members, member}
-use Rattle.ba_kernel.specs.declared.step.StepFault.{StepFault}
-use Rattle.ba_kernel.specs.declared.step.StepFault.TheVariants.{NoBranch, BadFact, BadRule, CondNotShown, HeadDiffers, NotAbsurd}
-use Rattle.ba_wire.specs.Names.{◌␣◌}
+use Rattle.ba_wire.specs.Names.{step_fault_text}
 use Rattle.ba_wire.specs.Printed.{count, json_line}
 use Rattle.ba_wire.specs.declared.verdict.Verdict.{Verdict}
 use Rattle.ba_wire.specs.declared.verdict.Verdict.TheVariants.{Accepted, NotShown, StillOpen}
-
--- why a step isn't accepted, with the number of the condition or of the column
-unfoldable pub step_fault_text : StepFault → List ℕ
-step_fault_text NoBranch = codes "branch"
-step_fault_text BadFact = codes "fact"
-step_fault_text BadRule = codes "rule"
-step_fault_text (CondNotShown number) = codes "cond" ␣ decimal number
-step_fault_text (HeadDiffers number) = codes "head" ␣ decimal number
-step_fault_text NotAbsurd = codes "absurd"
 
 unfoldable pub verdict_json : Verdict → Data
 verdict_json (Accepted steps) =

@@ -3,17 +3,31 @@
 
 ghost use Rattle.std.specs.Prelude.{◌≡◌, codes, IfOk, string_bytes};
 ghost use Rattle.std.specs.Fmt.{decimal};
-ghost use Rattle.ba_wire.specs.Names.{◌␣◌, fault_words};
+ghost use Rattle.ba_wire.specs.Names.{◌␣◌, fault_words, step_fault_text};
 ghost use Rattle.ba_wire.specs.Object.{made};
-ghost use Rattle.ba_wire.specs.Printed.{ReadsBack, line_name, reason_text, row_words, what_name, fault_json, fault_bytes};
+ghost use Rattle.ba_wire.specs.Printed.{ReadsBack, line_name, reason_text, row_words, template_fault_text, what_name, fault_json, fault_bytes};
 
 use crate::answer::row_text;
-use crate::names::fault_words;
+use crate::names::{fault_words, step_fault_text};
 use crate::object::Object;
+use ba_kernel::StepFault;
 use ba_model::{Counted, Row, Str};
 use ba_script::LineFault;
 use ba_sql_query::ReadQueryFault;
 use std::alloc::{AllocError, Global};
+
+/// Why a line of a template file is none.
+#[derive(Debug, Drop)]
+pub enum TemplateFault {
+    /// It isn't a JSON object.
+    Json,
+    /// The field of this name isn't there, or isn't what it has to be.
+    Field { name: Str },
+    /// The step of this number, from 0, is the first that isn't accepted.
+    NotShown { step: u64, fault: StepFault },
+    /// All steps are accepted, and so many branches are open.
+    StillOpen { branches: u64 },
+}
 
 /// Why a file has no reading.
 #[derive(Debug, Drop)]
@@ -56,6 +70,8 @@ pub enum Reason {
     Json,
     /// The field of this name of a proof's file isn't there, or isn't what it has to be.
     Field { name: Str },
+    /// A line of a template file is none. Lines are numbered from 1.
+    Template { line: u64, reason: TemplateFault },
 }
 
 /// What ended a run before its first line.
@@ -135,6 +151,21 @@ impl Reason {
             Reason::Line { line, reason } => line_text(alloc, *line, *reason),
             Reason::Json => String::from_str(alloc, "json"),
             Reason::Field { name } => format!(in alloc; "field {name}"),
+            Reason::Template { line, reason } => template_line_text(alloc, *line, reason),
+        }
+    }
+}
+
+impl TemplateFault {
+    #[tactic(auto, unfolding(crate::specs::Printed::template_fault_text))]
+    fn text(&self, alloc: Global) -> Result<String, AllocError>
+        ensures { IfOk result (λ text. string_bytes text ≡ template_fault_text self.now) }
+    {
+        match self {
+            TemplateFault::Json => String::from_str(alloc, "json"),
+            TemplateFault::Field { name } => format!(in alloc; "field {name}"),
+            TemplateFault::NotShown { step, fault } => not_shown_text(alloc, *step, *fault),
+            TemplateFault::StillOpen { branches } => format!(in alloc; "open {branches}"),
         }
     }
 }
@@ -171,6 +202,26 @@ fn line_text(alloc: Global, line: u64, reason: LineFault) -> Result<String, Allo
     format!(in alloc; "line {line} {name}")
 }
 
+fn not_shown_text(alloc: Global, step: u64, fault: StepFault) -> Result<String, AllocError>
+    ensures { IfOk result (λ text. string_bytes text
+        ≡ codes "fault" ␣ step_fault_text fault ␣ codes "step" ␣ decimal step) }
+{
+    let words = step_fault_text(alloc, fault)?;
+    format!(in alloc; "fault {words} step {step}")
+}
+
+fn template_line_text(
+    alloc: Global,
+    line: u64,
+    reason: &TemplateFault,
+) -> Result<String, AllocError>
+    ensures { IfOk result (λ text. string_bytes text
+        ≡ codes "line" ␣ decimal line ␣ template_fault_text reason.now) }
+{
+    let words = reason.text(alloc)?;
+    format!(in alloc; "line {line} {words}")
+}
+
 fn fault_object(alloc: Global, fault: &Fault) -> Result<Object, AllocError>
     ensures { IfOk result (λ it. made it ≡ fault_json fault.now) }
 {
@@ -188,7 +239,7 @@ fn words_object(alloc: Global) -> Result<Object, AllocError>
     Object::new(alloc)
         .with_text("fault", "words")?
         .with_count("status", 2)?
-        .with_text("usage", "blockaid run|check|gen")
+        .with_text("usage", "blockaid run|check|gen|store")
 }
 
 fn input_object(alloc: Global, file: &Str, reason: &Reason) -> Result<Object, AllocError>

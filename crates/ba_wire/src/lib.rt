@@ -11,7 +11,7 @@ mod rows;
 mod summary;
 mod verdict;
 
-pub use fault::{Fault, Reason, fault_text};
+pub use fault::{Fault, Reason, TemplateFault, fault_text};
 pub use line::{Block, By, Line, line_text};
 pub use summary::{Summary, summary_text};
 pub use verdict::{Verdict, verdict_text};

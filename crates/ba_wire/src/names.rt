@@ -1,7 +1,8 @@
-//! How faults of query texts are printed.
+//! How faults of query texts and of steps are printed.
 ghost use Rattle.std.specs.Prelude.{◌≡◌, IfOk, string_bytes};
-ghost use Rattle.ba_wire.specs.Names.{fault_name, fault_words, lex_name};
+ghost use Rattle.ba_wire.specs.Names.{fault_name, fault_words, lex_name, step_fault_text};
 
+use ba_kernel::StepFault;
 use ba_lex::LexFault;
 use ba_sql_query::ReadQueryFault;
 use std::alloc::{AllocError, Global};
@@ -45,5 +46,20 @@ pub(crate) fn fault_words(alloc: Global, fault: &ReadQueryFault) -> Result<Strin
     match fault {
         ReadQueryFault::Unsupported(word) => format!(in alloc; "unsupported {word}"),
         _ => String::from_str(alloc, fault_name(fault)),
+    }
+}
+
+/// Why a step isn't accepted.
+#[tactic(auto, unfolding(crate::specs::Names::step_fault_text))]
+pub(crate) fn step_fault_text(alloc: Global, fault: StepFault) -> Result<String, AllocError>
+    ensures { IfOk result (λ text. string_bytes text ≡ step_fault_text fault) }
+{
+    match fault {
+        StepFault::NoBranch => String::from_str(alloc, "branch"),
+        StepFault::BadFact => String::from_str(alloc, "fact"),
+        StepFault::BadRule => String::from_str(alloc, "rule"),
+        StepFault::CondNotShown(number) => format!(in alloc; "cond {number}"),
+        StepFault::HeadDiffers(number) => format!(in alloc; "head {number}"),
+        StepFault::NotAbsurd => String::from_str(alloc, "absurd"),
     }
 }

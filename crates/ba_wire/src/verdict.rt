@@ -4,8 +4,9 @@
 ghost use Rattle.std.specs.Prelude.{◌≡◌, IfOk, string_bytes};
 ghost use Rattle.ba_wire.specs.Object.{made};
 ghost use Rattle.ba_wire.specs.Printed.{ReadsBack};
-ghost use Rattle.ba_wire.specs.Verdicts.{step_fault_text, verdict_bytes, verdict_json};
+ghost use Rattle.ba_wire.specs.Verdicts.{verdict_bytes, verdict_json};
 
+use crate::names::step_fault_text;
 use crate::object::Object;
 use ba_kernel::StepFault;
 use serde_json::Value as Json;
@@ -20,21 +21,6 @@ pub enum Verdict {
     NotShown { step: u32, fault: StepFault },
     /// All steps are accepted, and so many branches are open.
     StillOpen { branches: u32 },
-}
-
-// Why a step isn't accepted.
-#[tactic(auto, unfolding(crate::specs::Verdicts::step_fault_text))]
-fn step_fault_text(alloc: Global, fault: StepFault) -> Result<String, AllocError>
-    ensures { IfOk result (λ text. string_bytes text ≡ step_fault_text fault) }
-{
-    match fault {
-        StepFault::NoBranch => String::from_str(alloc, "branch"),
-        StepFault::BadFact => String::from_str(alloc, "fact"),
-        StepFault::BadRule => String::from_str(alloc, "rule"),
-        StepFault::CondNotShown(number) => format!(in alloc; "cond {number}"),
-        StepFault::HeadDiffers(number) => format!(in alloc; "head {number}"),
-        StepFault::NotAbsurd => String::from_str(alloc, "absurd"),
-    }
 }
 
 fn accepted_object(alloc: Global, steps: u64) -> Result<Object, AllocError>

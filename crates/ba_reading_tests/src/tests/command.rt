@@ -22,11 +22,29 @@ fn write_command(told: &mut String, command: &Command) -> Told {
             policy,
             tables,
             script,
+            load,
+            workers,
+            budget,
+        } => {
+            write!(
+                told,
+                "{schema} {policy} {tables} {script} {workers} {budget}"
+            )?;
+            match load {
+                Some(load) => write!(told, " {load}"),
+                None => Ok(()),
+            }
+        }
+        Command::Store {
+            schema,
+            policy,
+            tables,
+            script,
             workers,
             budget,
         } => write!(
             told,
-            "{schema} {policy} {tables} {script} {workers} {budget}"
+            "store {schema} {policy} {tables} {script} {workers} {budget}"
         ),
         Command::Check {
             schema,
@@ -79,6 +97,19 @@ run --schema S T --policy P --tables D --script F
 run S P D F
 run --schema S --policy P --tables D --script F --proof F
 
+store --schema S --policy P --tables D --script F => store S P D F 1 2000
+store --budget=16 --script F --workers 16 --tables D --policy P --schema S => store S P D F 16 16
+
+store
+Store --schema S --policy P --tables D --script F
+store store --schema S --policy P --tables D --script F
+store --schema S --policy P --tables D
+store --schema S --policy P --tables D --script F --load T
+store --schema S --policy P --tables D --script F --budget 15
+store --schema S --policy P --tables D --script F --workers 17
+store --schema S --policy P --tables D --script F --print
+store --schema S --policy P --proof F
+
 check --schema S --policy P --proof F => check S P F
 check --proof=F --policy=P --schema=S => check S P F
 check --policy check --proof run --schema check => check check check run
@@ -122,7 +153,15 @@ gen gen --seed 7 --requests 1
 generate --seed 7 --requests 1";
 
 /// Options behind the four names.
-const OPTIONS: &str = "--budget 100000 => S P D F 1 100000
+const OPTIONS: &str = "--load T => S P D F 1 2000 T
+--load=T --budget 16 => S P D F 1 16 T
+--workers 2 --load t/0 --budget 20 => S P D F 2 20 t/0
+--load F => S P D F 1 2000 F
+--load
+--load T --load T
+--load T U
+--loa T
+--budget 100000 => S P D F 1 100000
 --budget=+0016 => S P D F 1 16
 --budget 15
 --budget 100001

@@ -1,9 +1,10 @@
-//! Lines of checks, and the reasons of files that are no proofs, as the program prints them.
+//! Lines of checks, and the reasons of files that are no proofs or no templates, as the program prints
+//! them.
 
 use super::faults::write_reason;
 use ba_kernel::StepFault;
 use ba_model::{Counted, Str};
-use ba_wire::{Fault, Reason, Verdict, fault_text, verdict_text};
+use ba_wire::{Fault, Reason, TemplateFault, Verdict, fault_text, verdict_text};
 use std::alloc::{AllocError, Global};
 use std::test::Fail;
 
@@ -61,16 +62,53 @@ fn reasons_of_no_proofs(rt: HostRuntime) -> Result<(), Fail> {
     Ok(())
 }
 
+fn write_template(
+    alloc: Global,
+    line: u64,
+    reason: TemplateFault,
+    told: &mut String,
+) -> Result<(), AllocError> {
+    write_reason(alloc, Reason::Template { line, reason }, told)?;
+    told.push(';')
+}
+
 #[test]
-fn more_steps_than_the_limit(rt: HostRuntime) -> Result<(), Fail> {
-    let line = fault_text(
-        rt.alloc(),
-        &Fault::Limit {
-            what: Counted::Steps,
-            limit: 100_000,
-        },
+fn reasons_of_no_templates(rt: HostRuntime) -> Result<(), Fail> {
+    let alloc = rt.alloc();
+    let mut told = String::new(alloc);
+    write_template(alloc, 3, TemplateFault::Json, &mut told)?;
+    let name = Str::new(alloc, "vars")?;
+    write_template(alloc, 8192, TemplateFault::Field { name }, &mut told)?;
+    let fault = StepFault::CondNotShown(0);
+    write_template(
+        alloc,
+        1,
+        TemplateFault::NotShown { step: 1, fault },
+        &mut told,
     )?;
-    let wanted = "{\"fault\":\"limit\",\"limit\":100000,\"status\":7,\"what\":\"steps\"}\n";
-    assert_eq!(rt; line.as_str(), wanted);
+    write_template(
+        alloc,
+        1,
+        TemplateFault::StillOpen { branches: 2 },
+        &mut told,
+    )?;
+    let wanted = "line 3 json;line 8192 field vars;line 1 fault cond 0 step 1;line 1 open 2;";
+    assert_eq!(rt; told.as_str(), wanted);
+    Ok(())
+}
+
+const LIMITS: &str = "{\"fault\":\"limit\",\"limit\":100000,\"status\":7,\"what\":\"steps\"}
+{\"fault\":\"limit\",\"limit\":8192,\"status\":7,\"what\":\"templates\"}
+";
+
+#[test]
+fn more_steps_and_templates_than_the_limits(rt: HostRuntime) -> Result<(), Fail> {
+    let mut told = String::new(rt.alloc());
+    for what in [Counted::Steps, Counted::Templates] {
+        let limit = what.limit();
+        let line = fault_text(rt.alloc(), &Fault::Limit { what, limit })?;
+        told.push_str(line.as_str())?;
+    }
+    assert_eq!(rt; told.as_str(), LIMITS);
     Ok(())
 }

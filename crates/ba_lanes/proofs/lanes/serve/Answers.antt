@@ -1,19 +1,38 @@
 use denote.Exit.{yes}
 use denote.Param.{param}
 use denote.Param.Send.{arg_send, param_send}
-use Rattle.std.proofs.Common.{◌∙◌, [], ap, arith, length, refl}
+use Rattle.std.proofs.Common.{◌∙◌, ℕ, [], ap, arith, get_or, length, refl, subst}
 use Rattle.std.proofs.lemmas.List.{length-map}
 use Rattle.ba_lanes.proofs.Crossing.{work_send}
 use Rattle.ba_lanes.proofs.HeadlineLemmas.{headline}
 use Rattle.ba_lanes.proofs.LegalLemmas.{legal, whole}
 use Rattle.ba_lanes.proofs.ServeLemmas.{as_many, same_length}
-use Rattle.ba_lanes.proofs.WorkLemmas.{some_of}
+use Rattle.ba_lanes.proofs.WorkLemmas.{done_by, off_done, some_of}
 use Rattle.ba_lanes.specs.Legal.{LineDone}
 use Rattle.ba_lanes.specs.Serving.{lines_in}
+use Rattle.ba_session.specs.Passing.{IsOpened}
 use Rattle.ba_lanes.proofs.lanes.serve.Goals as goal
 
 pub fan_out-works-requires-send-J : goal.fan_out-works-requires-send-J
 fan_out-works-requires-send-J g c κs within = param_send 0 _ (arg_send _ yes _ (work_send _ (param 0 g.row.R) (param 2 g.row.S) c.type_bounds.sync-R c.type_bounds.sync-S))
+
+pub load-requires-clause-opened : goal.load-requires-clause-opened
+load-requires-clause-opened g c =
+    let all = c.of_run-all.ensures in
+    subst (λ (z : ℕ × ℕ). IsOpened z.0 z.1 c.in_ok-service.passes) (λ i. (all.calls i, all.looks i)) c.in_ok-service.ensures.known
+
+pub join-requires-clause-split : goal.join-requires-clause-split
+join-requires-clause-split g c =
+    let many = c.in_ok-works.ensures.many in
+    let ok = c.in_ok-works.works.ok.0 in
+    off_done c.args.input.now c.in_ok-works.works.items c.fan_out-works.result.items c.split.new.passes c.in_ok-works.ensures.split (λ k d low. (c.fan_out-works.ensures.done k d (omega (arith, many, ok, low))).1)
+
+pub join-requires-clause-done : goal.join-requires-clause-done
+join-requires-clause-done g c = λ k d low.
+    let many = c.in_ok-works.ensures.many in
+    let ok = c.in_ok-works.works.ok.0 in
+    done_by g.S.Settle.orders c.args.input.now c.in_ok-service.service k (get_or c.in_ok-works.works.items k d) (get_or c.fan_out-works.result.items k d) (c.in_ok-works.ensures.ready k d low)
+    (c.fan_out-works.ensures.done k d (omega (arith, many, ok, low))).0
 
 pub merge-requires-clause-long : goal.merge-requires-clause-long
 merge-requires-clause-long g c = λ k d low.

@@ -21,7 +21,9 @@ loop-work-init g c =
     }
 
 pub join-requires-clause-opening : goal.join-requires-clause-opening
-join-requires-clause-opening g c = are_opening c.args.input.now.workers (length c.loop-work.queues.items) c.loop-work.invariant.gathering.done c.loop-work.passes c.loop-work.invariant.gathering.joined
+join-requires-clause-opening g c =
+    let so_far = c.loop-work.invariant.gathering in
+    are_opening so_far.loads c.args.input.now.workers (length c.loop-work.queues.items) so_far.done c.loop-work.passes so_far.joined
 
 pub push_reserved-requires : goal.push_reserved-requires
 push_reserved-requires g c =

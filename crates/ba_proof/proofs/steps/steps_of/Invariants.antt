@@ -4,4 +4,4 @@ use Rattle.ba_proof.proofs.EachLemmas.{EachAt}
 use Rattle.ba_proof.proofs.steps.steps_of.Given as goal
 
 abbrev pub invariant-loop-item : goal.invariant-loop-item
-invariant-loop-item l = EachAt view (step_at l.params l.version) l.items l.item-index l.found
+invariant-loop-item l = EachAt view (step_at l.params l.vars l.version) l.items l.item-index l.found

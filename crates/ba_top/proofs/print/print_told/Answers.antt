@@ -1,6 +1,6 @@
 use Rattle.std.proofs.Common.{Err, take}
 use Rattle.std.proofs.lemmas.Result.{err_from_is_err_and}
-use Rattle.ba_top.specs.Text.{total_bytes}
+use Rattle.ba_top.specs.Text.{told_end}
 use Rattle.ba_top.proofs.PrintLemmas.{line_at, said_at, told_err, told_then}
 use Rattle.ba_top.proofs.print.print_told.Goals as goal
 
@@ -14,7 +14,7 @@ returns-in_err-print_entry g c =
     let i = c.loop-place.place in
     let entry = c.get-entry.result.now in
     rw (p.1, p.2) (c.loop-place.invariant t (Err e)
-    (told_err (Unit {0}) (Unit {0}) c.args.told c.args.input.now entries i entry (total_bytes entries) s t e c.get-entry.ensures
+    (told_err (Unit {0}) (Unit {0}) c.args.told c.args.input.now entries i entry (told_end c.args.told c.args.journal.now) s t e c.get-entry.ensures
     (c.in_err-print_entry.ensures c.args.input.now (take i entries) (said_at c.args.input.now.script.entries c.get-said.result.now entries i entry c.get-entry.ensures c.get-said.ensures) (line_at entries i entry c.get-entry.ensures))))
 
 pub loop-place-preserved : goal.loop-place-preserved
@@ -25,5 +25,5 @@ loop-place-preserved g c = λ t r h.
     let i = c.loop-place.place in
     let entry = c.get-entry.result.now in
     c.loop-place.invariant t r
-    (told_then c.args.told c.args.input.now entries i entry (total_bytes entries) s m t r c.get-entry.ensures
+    (told_then c.args.told c.args.input.now entries i entry (told_end c.args.told c.args.journal.now) s m t r c.get-entry.ensures
     (c.in_ok-print_entry.ensures c.args.input.now (take i entries) (said_at c.args.input.now.script.entries c.get-said.result.now entries i entry c.get-entry.ensures c.get-said.ensures) (line_at entries i entry c.get-entry.ensures)) h)

@@ -1,0 +1,11 @@
+pub mod FitLemmas
+pub mod LoadLemmas
+pub mod TextLemmas
+pub mod LineLemmas
+pub mod OutcomeLemmas
+pub mod ResultLemmas
+pub mod NameLemmas
+pub mod JsonLemmas
+pub mod PrintLemmas
+pub mod ReadBackLemmas
+pub mod WriteLemmas

@@ -1,0 +1,14 @@
+use Rattle.std.proofs.lemmas.Result.{err_from_is_err_and}
+use Rattle.serde_json.specs.View.{view}
+use Rattle.ba_proof.proofs.EachLemmas.{each_fails, each_goes_on}
+use Rattle.ba_store.specs.Reading.{atom_at}
+use Rattle.ba_store.proofs.operands.atoms_of.Goals as goal
+
+pub returns-in_err-atom : goal.returns-in_err-atom
+returns-in_err-atom c =
+    let p = err_from_is_err_and c.from_residual.result c.from_residual.ensures.1 in
+    rw (p.1, p.2) (each_fails view (atom_at c.args.field c.args.params.now) c.args.items.now c.loop-item.item-index c.loop-item.found c.item-item.result c.in_err-atom.field-0.0 c.loop-item.invariant c.loop-item-test.true c.item-item.is c.in_err-atom.ensures)
+
+pub loop-item-preserved : goal.loop-item-preserved
+loop-item-preserved c =
+    each_goes_on view (atom_at c.args.field c.args.params.now) c.args.items.now c.loop-item.item-index c.loop-item.found _ c.item-item.result c.in_ok-atom.atom c.loop-item.invariant c.loop-item-test.true c.item-item.is c.in_ok-atom.ensures c.in_ok-push.ensures.ok
