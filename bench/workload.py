@@ -134,4 +134,5 @@ def main():
         print_beside_sqlite(program, said, folder, script)
 
 
-main()
+if __name__ == "__main__":
+    main()
