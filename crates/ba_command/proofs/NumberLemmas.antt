@@ -1,5 +1,5 @@
 -- The numbers that std's `parse` reads.
-use Rattle.std.proofs.Common.{◌≡◌, ◌∙◌, ◌&&◌, ◌<◌, ◌≤◌, ◌^◌, ℕ, List, [], ◌∷◌, Bool, true, false, cond, length, nat_le, nat_lt, Some, None, Result, Ok, Err, ap, refl, subst, sym}
+use Rattle.std.proofs.Common.{◌≡◌, ◌⊎◌, ◌∙◌, ◌&&◌, ◌<◌, ◌≤◌, ◌^◌, inl, inr, ℕ, zero, suc, List, [], ◌∷◌, Bool, true, false, cond, length, nat_le, nat_lt, Some, None, Result, Ok, Err, ap, refl, subst, sym}
 use Rattle.std.proofs.Common.{arith}
 use Rattle.std.proofs.lemmas.Bool.Decides.{nat_tests}
 use Rattle.std.specs.List.{list_all}
@@ -52,3 +52,10 @@ no_number least most text (Err y) x small h e = by (is_numeral (without_leading_
         let fits : digits_value 10 (without_leading_plus text) < 2 ^ 64 = omega (arith, within, small) in
         absurd (h ((some, told _ q.1), fits))
     by false t = refl
+
+-- between one and two
+pub one_or_two : (n : ℕ) → 1 ≤ n → n ≤ 2 → (n ≡ 1) ⊎ (n ≡ 2)
+one_or_two zero least most = absurd (omega (arith, least))
+one_or_two (suc zero) least most = inl refl
+one_or_two (suc (suc zero)) least most = inr refl
+one_or_two (suc (suc (suc n))) least most = absurd (omega (arith, most))

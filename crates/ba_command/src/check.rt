@@ -3,7 +3,7 @@ ghost use Rattle.std.specs.Prelude.{◌≡◌, ◌≤◌, map, string_bytes, IfO
 ghost use Rattle.clap.specs.Words.{app_of, first_value, found_of};
 ghost use Rattle.ba_model.specs.Readings.{Gives};
 ghost use Rattle.ba_model.specs.Limits.{most_budget};
-ghost use Rattle.ba_command.specs.Words.{AreWorkers, WorkloadFits, budget_of, check_app, check_from, check_of, workers_of};
+ghost use Rattle.ba_command.specs.Words.{AreOrders, AreWorkers, WorkloadFits, budget_of, check_app, check_from, check_of, orders_of, workers_of};
 
 use crate::command::{Command, WordsFault};
 use crate::form::{bare, needed, refusal, text_of};
@@ -24,6 +24,7 @@ fn command_of(alloc: Global, matches: &ArgMatches<'_>) -> Result<Command, Failur
     ensures reads { Gives result (check_from (first_value (found_of matches.now))) }
     ensures budget { IfOk result (λ command. budget_of command ≤ most_budget) }
     ensures workers { IfOk result (λ command. IfSome (workers_of command) AreWorkers) }
+    ensures orders { IfOk result (λ command. IfSome (orders_of command) AreOrders) }
     ensures workload { IfOk result WorkloadFits }
 {
     let schema = text_of(alloc, matches, "schema")?;
@@ -44,6 +45,7 @@ pub(crate) fn read_check(alloc: Global, words: &[String]) -> Result<Command, Fai
     ensures reads { Gives result (check_of (map string_bytes words.now)) }
     ensures budget { IfOk result (λ command. budget_of command ≤ most_budget) }
     ensures workers { IfOk result (λ command. IfSome (workers_of command) AreWorkers) }
+    ensures orders { IfOk result (λ command. IfSome (orders_of command) AreOrders) }
     ensures workload { IfOk result WorkloadFits }
 {
     let form = check_form(alloc)?;

@@ -2,10 +2,14 @@
 
 use ba_model::Str;
 
+/// In how many orders of its due steps a proof is searched for where the words don't say.
+pub const ORDERS: u32 = 1;
+
 /// A command with its options.
 #[derive(Debug, Drop)]
 pub enum Command {
-    /// `run --schema S --policy P --tables D --script F [--load T] [--workers N] [--budget B]`
+    /// `run --schema S --policy P --tables D --script F [--load T] [--proofs] [--workers N] [--budget B]
+    /// [--orders N]`
     Run {
         /// The name of the schema's file.
         schema: Str,
@@ -17,12 +21,17 @@ pub enum Command {
         script: Str,
         /// The name of the file of the templates to begin with, if there is one.
         load: Option<Str>,
+        /// Whether each answer's proof and each refuted question's pair are to be printed.
+        proofs: bool,
         /// How many workers answer, from 1 to 16; 1 where the words don't say.
         workers: u32,
         /// How many steps a search may take, from 16 to 100,000; 2000 where the words don't say.
         budget: u32,
+        /// In how many orders of its due steps a proof is searched for, 1 or 2; 1 where the words don't
+        /// say.
+        orders: u32,
     },
-    /// `store --schema S --policy P --tables D --script F [--workers N] [--budget B]`
+    /// `store --schema S --policy P --tables D --script F [--workers N] [--budget B] [--orders N]`
     Store {
         /// The name of the schema's file.
         schema: Str,
@@ -36,6 +45,9 @@ pub enum Command {
         workers: u32,
         /// How many steps a search may take, from 16 to 100,000; 2000 where the words don't say.
         budget: u32,
+        /// In how many orders of its due steps a proof is searched for, 1 or 2; 1 where the words don't
+        /// say.
+        orders: u32,
     },
     /// `check --schema S --policy P --proof F`
     Check {
@@ -56,6 +68,19 @@ pub enum Command {
         workers: u32,
         /// Whether the script is to be printed, and not to be run.
         print: bool,
+    },
+    /// `audit --schema S --policy P --tables D --script F --output O`
+    Audit {
+        /// The name of the schema's file.
+        schema: Str,
+        /// The name of the policy's file.
+        policy: Str,
+        /// The name of the table set.
+        tables: Str,
+        /// The name of the script's file.
+        script: Str,
+        /// The name of the file of the output to be audited.
+        output: Str,
     },
 }
 

@@ -1,7 +1,7 @@
 //! Commands and their options, as `clap` reads them.
 ghost use Rattle.std.specs.Prelude.{◌≡◌, ◌≢◌, false, IfOk};
 ghost use Rattle.clap.specs.Words.{app_of, first_value, found_of, kind_of, rule_of};
-ghost use Rattle.ba_command.specs.Words.{bare, needed, option_rule};
+ghost use Rattle.ba_command.specs.Words.{bare, flag_rule, is_set, needed, option_rule};
 
 use crate::command::WordsFault;
 use ba_model::{Failure, Str};
@@ -25,6 +25,14 @@ pub(crate) fn needed<'a>(alloc: Global, id: &'a str) -> Arg<'a>
     option(alloc, id).required(true)
 }
 
+/// An option that has no value.
+pub(crate) fn flag<'a>(alloc: Global, id: &'a str) -> Arg<'a>
+    ensures rule { rule_of result ≡ flag_rule id.entry.now }
+    ensures local { result.global ≡ false }
+{
+    Arg::new(alloc, id).long(id).action(ArgAction::SetTrue)
+}
+
 /// A command without its options.
 pub(crate) fn bare<'a>(alloc: Global, name: &'a str) -> Form<'a>
     ensures { app_of result ≡ bare name.entry.now }
@@ -46,6 +54,16 @@ pub(crate) fn text_of(
     match matches.get_str(id) {
         Some(text) => Ok(Some(Str::new(alloc, text)?)),
         None => Ok(None),
+    }
+}
+
+/// Whether an option that has no value is given.
+pub(crate) fn is_set(matches: &ArgMatches<'_>, id: &str) -> bool
+    ensures { result ≡ is_set (first_value (found_of matches.now) id.now) }
+{
+    match matches.get_str(id) {
+        Some(text) => text == "true",
+        None => false,
     }
 }
 

@@ -3,22 +3,14 @@ ghost use Rattle.std.specs.Prelude.{◌≡◌, ◌≤◌, false, map, string_byt
 ghost use Rattle.clap.specs.Words.{app_of, first_value, found_of, rule_of};
 ghost use Rattle.ba_model.specs.Readings.{Gives};
 ghost use Rattle.ba_model.specs.Limits.{most_budget};
-ghost use Rattle.ba_command.specs.Words.{AreWorkers, WorkloadFits, budget_of, flag_rule, gen_app, gen_from, gen_of, is_set, needed, number_rule, workers_of};
+ghost use Rattle.ba_command.specs.Words.{AreOrders, AreWorkers, WorkloadFits, budget_of, gen_app, gen_from, gen_of, needed, number_rule, orders_of, workers_of};
 
 use crate::command::{Command, WordsFault};
-use crate::form::{bare, refusal};
+use crate::form::{bare, flag, is_set, refusal};
 use crate::number::{number, number_of, number_or};
 use ba_model::{Failure, MAX_REQUESTS, MAX_SEED, MAX_WORKERS, MIN_WORKERS, WORKERS};
-use clap::{Arg, ArgAction, ArgMatches, Command as Form};
+use clap::{Arg, ArgMatches, Command as Form};
 use std::alloc::{AllocError, Global};
-
-// An option that has no value.
-fn flag<'a>(alloc: Global, id: &'a str) -> Arg<'a>
-    ensures rule { rule_of result ≡ flag_rule id.entry.now }
-    ensures local { result.global ≡ false }
-{
-    Arg::new(alloc, id).long(id).action(ArgAction::SetTrue)
-}
 
 // An option that must be given, whose value is a number of a range.
 fn needed_number<'a>(alloc: Global, id: &'a str, least: u64, most: u64) -> Arg<'a>
@@ -38,20 +30,11 @@ fn gen_form<'a>(alloc: Global) -> Result<Form<'a>, AllocError>
         .arg(flag(alloc, "print"))
 }
 
-// Whether an option that has no value is given.
-fn is_set(matches: &ArgMatches<'_>, id: &str) -> bool
-    ensures { result ≡ is_set (first_value (found_of matches.now) id.now) }
-{
-    match matches.get_str(id) {
-        Some(text) => text == "true",
-        None => false,
-    }
-}
-
 fn command_of(matches: &ArgMatches<'_>) -> Result<Command, Failure<WordsFault>>
     ensures reads { Gives result (gen_from (first_value (found_of matches.now))) }
     ensures budget { IfOk result (λ command. budget_of command ≤ most_budget) }
     ensures workers { IfOk result (λ command. IfSome (workers_of command) AreWorkers) }
+    ensures orders { IfOk result (λ command. IfSome (orders_of command) AreOrders) }
     ensures workload { IfOk result WorkloadFits }
 {
     let seed = number_of(matches, "seed", 0, MAX_SEED);
@@ -74,6 +57,7 @@ pub(crate) fn read_gen(alloc: Global, words: &[String]) -> Result<Command, Failu
     ensures reads { Gives result (gen_of (map string_bytes words.now)) }
     ensures budget { IfOk result (λ command. budget_of command ≤ most_budget) }
     ensures workers { IfOk result (λ command. IfSome (workers_of command) AreWorkers) }
+    ensures orders { IfOk result (λ command. IfSome (orders_of command) AreOrders) }
     ensures workload { IfOk result WorkloadFits }
 {
     let form = gen_form(alloc)?;

@@ -1,15 +1,17 @@
 //! The words of a command line.
 #![tactic(auto)]
 
+mod audit;
 mod check;
 mod command;
 mod form;
 mod generate;
+mod given;
 mod number;
 mod run;
 mod served;
 mod store;
 mod words;
 
-pub use command::{Command, WordsFault};
+pub use command::{Command, ORDERS, WordsFault};
 pub use words::read_words;

@@ -3,10 +3,10 @@ ghost use Rattle.std.specs.Prelude.{◌≡◌, ◌≤◌, map, string_bytes, IfO
 ghost use Rattle.clap.specs.Words.{app_of, first_value, found_of};
 ghost use Rattle.ba_model.specs.Readings.{Gives};
 ghost use Rattle.ba_model.specs.Limits.{most_budget};
-ghost use Rattle.ba_command.specs.Words.{AreWorkers, WorkloadFits, budget_of, run_app, run_from, run_of, workers_of};
+ghost use Rattle.ba_command.specs.Words.{AreOrders, AreWorkers, WorkloadFits, budget_of, orders_of, run_app, run_from, run_of, workers_of};
 
 use crate::command::{Command, WordsFault};
-use crate::form::{option, refusal, text_of};
+use crate::form::{flag, is_set, option, refusal, text_of};
 use crate::served::{served_form, served_of};
 use ba_model::Failure;
 use clap::{ArgMatches, Command as Form};
@@ -15,16 +15,20 @@ use std::alloc::{AllocError, Global};
 fn run_form<'a>(alloc: Global) -> Result<Form<'a>, AllocError>
     ensures { IfOk result (λ form. app_of form ≡ run_app) }
 {
-    served_form(alloc, "run")?.arg(option(alloc, "load"))
+    served_form(alloc, "run")?
+        .arg(option(alloc, "load"))?
+        .arg(flag(alloc, "proofs"))
 }
 
 fn command_of(alloc: Global, matches: &ArgMatches<'_>) -> Result<Command, Failure<WordsFault>>
     ensures reads { Gives result (run_from (first_value (found_of matches.now))) }
     ensures budget { IfOk result (λ command. budget_of command ≤ most_budget) }
     ensures workers { IfOk result (λ command. IfSome (workers_of command) AreWorkers) }
+    ensures orders { IfOk result (λ command. IfSome (orders_of command) AreOrders) }
     ensures workload { IfOk result WorkloadFits }
 {
     let load = text_of(alloc, matches, "load")?;
+    let proofs = is_set(matches, "proofs");
     let served = served_of(alloc, matches)?;
     Ok(Command::Run {
         schema: served.schema,
@@ -32,8 +36,10 @@ fn command_of(alloc: Global, matches: &ArgMatches<'_>) -> Result<Command, Failur
         tables: served.tables,
         script: served.script,
         load,
+        proofs,
         workers: served.workers,
         budget: served.budget,
+        orders: served.orders,
     })
 }
 
@@ -42,6 +48,7 @@ pub(crate) fn read_run(alloc: Global, words: &[String]) -> Result<Command, Failu
     ensures reads { Gives result (run_of (map string_bytes words.now)) }
     ensures budget { IfOk result (λ command. budget_of command ≤ most_budget) }
     ensures workers { IfOk result (λ command. IfSome (workers_of command) AreWorkers) }
+    ensures orders { IfOk result (λ command. IfSome (orders_of command) AreOrders) }
     ensures workload { IfOk result WorkloadFits }
 {
     let form = run_form(alloc)?;

@@ -3,7 +3,7 @@ ghost use Rattle.std.specs.Prelude.{◌≡◌, ◌≤◌, map, string_bytes, IfO
 ghost use Rattle.clap.specs.Words.{app_of, first_value, found_of};
 ghost use Rattle.ba_model.specs.Readings.{Gives};
 ghost use Rattle.ba_model.specs.Limits.{most_budget};
-ghost use Rattle.ba_command.specs.Words.{AreWorkers, WorkloadFits, budget_of, store_app, store_from, store_of, workers_of};
+ghost use Rattle.ba_command.specs.Words.{AreOrders, AreWorkers, WorkloadFits, budget_of, orders_of, store_app, store_from, store_of, workers_of};
 
 use crate::command::{Command, WordsFault};
 use crate::form::refusal;
@@ -22,6 +22,7 @@ fn command_of(alloc: Global, matches: &ArgMatches<'_>) -> Result<Command, Failur
     ensures reads { Gives result (store_from (first_value (found_of matches.now))) }
     ensures budget { IfOk result (λ command. budget_of command ≤ most_budget) }
     ensures workers { IfOk result (λ command. IfSome (workers_of command) AreWorkers) }
+    ensures orders { IfOk result (λ command. IfSome (orders_of command) AreOrders) }
     ensures workload { IfOk result WorkloadFits }
 {
     let served = served_of(alloc, matches)?;
@@ -32,6 +33,7 @@ fn command_of(alloc: Global, matches: &ArgMatches<'_>) -> Result<Command, Failur
         script: served.script,
         workers: served.workers,
         budget: served.budget,
+        orders: served.orders,
     })
 }
 
@@ -40,6 +42,7 @@ pub(crate) fn read_store(alloc: Global, words: &[String]) -> Result<Command, Fai
     ensures reads { Gives result (store_of (map string_bytes words.now)) }
     ensures budget { IfOk result (λ command. budget_of command ≤ most_budget) }
     ensures workers { IfOk result (λ command. IfSome (workers_of command) AreWorkers) }
+    ensures orders { IfOk result (λ command. IfSome (orders_of command) AreOrders) }
     ensures workload { IfOk result WorkloadFits }
 {
     let form = store_form(alloc)?;

@@ -1,5 +1,5 @@
 -- From the steps that a proof keeps to its template.
-use Rattle.std.proofs.Common.{◌≡◌, ℕ, suc, ◌+◌, ◌<◌, ◌≤◌, List, [], ◌∷◌, length, refl, sym, ap₂, subst, arith}
+use Rattle.std.proofs.Common.{◌≡◌, ℕ, suc, ◌+◌, ◌<◌, ◌≤◌, List, [], ◌∷◌, ◌++◌, length, refl, sym, ap₂, subst, arith}
 use Rattle.std.proofs.Math.Nat.{lt_of_not-le}
 use Rattle.std.specs.Prelude.{Any}
 use Rattle.ba_kernel.proofs.AskedLemmas.{question_is_problem}
@@ -9,10 +9,13 @@ use Rattle.ba_kernel.specs.SearchStates.{IsProved, Proof}
 use Rattle.ba_kernel.specs.declared.problem.Problem.{Problem}
 use Rattle.ba_kernel.specs.declared.step.Step.{Step}
 use Rattle.ba_kernel.specs.declared.step.Step.TheVariants as steps
+use Rattle.ba_model.specs.Fit.{AtomFits, kinds_of}
 use Rattle.ba_model.specs.declared.query.Atom.{Atom}
 use Rattle.ba_model.specs.declared.value.Value.{Value}
 use Rattle.ba_template.specs.Templates.{EachVarStands}
+use Rattle.ba_general.proofs.FullFitsLemmas.{assuming_fits, full_fits, pattern_operands}
 use Rattle.ba_general.proofs.FullLemmas.{full_is_accepted}
+use Rattle.ba_general.proofs.LeftLemmas.{condition_some, some_have}
 use Rattle.ba_general.proofs.MakesLemmas.{zip_wide}
 use Rattle.ba_general.proofs.PatternFitsLemmas.{pattern_fits}
 use Rattle.ba_general.proofs.StandsLemmas.{stands_all}
@@ -56,6 +59,14 @@ renumbered_few numbers kept renumbered n m are few fewer =
 
 pub assuming_stands : (g : Problem) (atoms : List Atom) → EachVarStands g → EachVarStands (assuming g atoms)
 assuming_stands g atoms h = record { stands = h.stands }
+
+-- with what the pass leaves of the full condition the pattern's problem fits
+pub condition_fits : (it : Pattern) {taken : List Step} (condition : List Atom) → PatternFits it → IsCondition it.problem it.operands taken condition →
+    ProblemFits (assuming it.problem condition)
+condition_fits it {taken} condition fits c =
+    assuming_fits it.problem condition fits.problem
+    (some_have (AtomFits it.problem.policy.schema (kinds_of it.problem.policy.params) it.problem.vars []) (condition_some it.problem it.operands taken condition c)
+    (full_fits it.problem it.operands c.fixed c.less c.apart c.equal (c.fixed ++ c.less ++ c.apart ++ c.equal) (pattern_operands it fits) c.full refl))
 
 -- ---- the steps
 

@@ -12,7 +12,7 @@ use Rattle.ba_model.specs.SchemaFaults.{AreTables}
 use Rattle.ba_kernel.specs.SearchStates as kernel
 use Rattle.ba_command.specs.Words.{command_of}
 use Rattle.ba_command.specs.declared.command.Command.{Command}
-use Rattle.ba_command.specs.declared.command.Command.TheVariants.{Check}
+use Rattle.ba_command.specs.declared.command.Command.TheVariants.{Audit, Check}
 use Rattle.ba_command.specs.declared.command.WordsFault.{WordsFault}
 use Rattle.ba_command.specs.declared.command.WordsFault.TheVariants.{NoForm}
 use Rattle.ba_model.specs.Conform.{RowFits}
@@ -43,7 +43,7 @@ use Rattle.ba_tables.specs.Checked.{checked}
 use Rattle.ba_tables.specs.TableSet.{TableSet}
 use Rattle.ba_input.specs.Inputs.{IsInput, RowsOfTables}
 use Rattle.ba_input.specs.Published.{IsSetOf}
-use Rattle.ba_input.specs.Reading.{Gathered, Names, ProofNames, check_plan, command_plan, gathered, load_plan, loading, plan_at, policy_and_proof_plan, policy_plan, proof_plan, proof_reading_of, published_plan, reading_of, ready, rest_plan, rows_plan, script_plan, served_plan, set_plan, sets_plan, table_plan, tables_plan, workload_plan, workload_reading}
+use Rattle.ba_input.specs.Reading.{AuditNames, Gathered, Names, ProofNames, audit_plan, check_plan, command_plan, gathered, given_names, load_plan, loading, output_plan, plan_at, policy_and_proof_plan, policy_plan, proof_plan, proof_reading_of, published_plan, reading_of, ready, rest_plan, rows_plan, script_plan, served_plan, set_plan, sets_plan, table_plan, tables_plan, workload_plan, workload_reading}
 use Rattle.ba_input.specs.Reads.{Comes, Finds, Reads, run_with}
 use Rattle.ba_input.specs.Refusals.{broken_refusal, ddl_refusal, policy_refusal}
 use Rattle.ba_input.specs.declared.input.Input.{Input}
@@ -53,44 +53,6 @@ use Rattle.ba_input.specs.declared.task.Task.{Task}
 use Rattle.ba_input.specs.declared.task.Task.TheVariants as task
 use Rattle.ba_input.specs.declared.task.Told.{Told}
 use Rattle.ba_input.specs.declared.task.Told.TheVariants.{Summary}
-
--- what was read belongs together
-pub input_fits : (policy : Policy) (tables : TableSet) (script : Script) (sets : List TableSet) (workers budget : ℕ) → PolicyFits policy → IsSetOf policy.schema tables → IsScript policy.params script
-    → All (IsSetOf policy.schema) sets → length sets ≡ published script.entries → (0 < workers) × (workers ≤ most_workers) → budget ≤ most_budget → AreTables policy.schema.tables → AreRules policy.schema
-    → IsInput (record { policy = policy; tables = tables; script = script; published = sets; workers = workers; budget = budget; loaded = []; orders = 1 })
-input_fits policy tables script sets workers budget fits set is all count many few tables_are rules = record {
-  policy = fits;
-  schema = set.schema_is;
-  conform = set.conform;
-  script = is;
-  sets = all;
-  one_each = count;
-  workers = many;
-  budget = few;
-  tables_are = tables_are;
-  rules = rules.fit;
-  loaded = All-nil (λ (it : kernel.Proof). it.problem.policy ≡ policy);
-  few_loaded = omega arith;
-  one_order = refl;
-}
-
--- the same with templates
-pub loaded_fits : (input : Input) (templates : List kernel.Proof) → IsInput input → All (λ it. it.problem.policy ≡ input.policy) templates → length templates ≤ most_templates → IsInput (record input { loaded = templates })
-loaded_fits input templates is all few = record {
-  policy = is.policy;
-  schema = is.schema;
-  conform = is.conform;
-  script = is.script;
-  sets = is.sets;
-  one_each = is.one_each;
-  workers = is.workers;
-  budget = is.budget;
-  tables_are = is.tables_are;
-  rules = is.rules;
-  loaded = all;
-  few_loaded = few;
-  one_order = is.one_order;
-}
 
 zip_end : {A B : Type 0} (R : A → B → Type 0) (xs : List A) (ys : List B) (x : A) (y : B) → AllZip R xs ys → R x y → AllZip R (xs ++ x ∷ []) (ys ++ y ∷ [])
 zip_end R [] [] x y h last = (last, tt)
@@ -187,24 +149,24 @@ sets_count entries sets more i entry set below is before one kept =
     omega (arith, ap length kept, length-append sets (option_to_list set), before, one, whole, published_more (published (take i entries)) entry)
 
 -- all sets, and then the input
-pub published_ok : (workers budget : ℕ) (policy : Policy) (tables : TableSet) (script : Script) (schema : Schema) (entries : List ScriptEntry) (sets : List TableSet) (loaded : List kernel.Proof) (s t : FilesSeen) → schema ≡ policy.schema → entries ≡ script.entries → loaded ≡ []
-    → Follows (sets_plan schema entries []) s t (Ok sets) → Follows (published_plan workers budget policy tables script) s t (Ok (record { policy = policy; tables = tables; script = script; published = sets; workers = workers; budget = budget; loaded = loaded; orders = 1 }))
-published_ok workers budget policy tables script schema entries sets loaded s t same is none follows =
-    then_ok (sets_plan policy.schema script.entries []) (λ z. done (record { policy = policy; tables = tables; script = script; published = z; workers = workers; budget = budget; loaded = []; orders = 1 })) s t t sets _
+pub published_ok : (names : Names) (policy : Policy) (tables : TableSet) (script : Script) (schema : Schema) (entries : List ScriptEntry) (sets : List TableSet) (loaded : List kernel.Proof) (s t : FilesSeen) → schema ≡ policy.schema → entries ≡ script.entries → loaded ≡ []
+    → Follows (sets_plan schema entries []) s t (Ok sets) → Follows (published_plan names policy tables script) s t (Ok (record { policy = policy; tables = tables; script = script; published = sets; workers = names.workers; budget = names.budget; loaded = loaded; orders = names.orders }))
+published_ok names policy tables script schema entries sets loaded s t same is none follows =
+    then_ok (sets_plan policy.schema script.entries []) (λ z. done (record { policy = policy; tables = tables; script = script; published = z; workers = names.workers; budget = names.budget; loaded = []; orders = names.orders })) s t t sets _
     (subst (λ z. Follows (sets_plan z script.entries []) s t (Ok sets)) same (subst (λ z. Follows (sets_plan schema z []) s t (Ok sets)) is follows))
-    (ap (λ z. Ok (record { policy = policy; tables = tables; script = script; published = sets; workers = workers; budget = budget; loaded = z; orders = 1 })) (sym none), refl)
+    (ap (λ z. Ok (record { policy = policy; tables = tables; script = script; published = sets; workers = names.workers; budget = names.budget; loaded = z; orders = names.orders })) (sym none), refl)
 
-pub published_err : (workers budget : ℕ) (policy : Policy) (tables : TableSet) (script : Script) (schema : Schema) (entries : List ScriptEntry) (s t : FilesSeen) (e : Stop Fault) → schema ≡ policy.schema → entries ≡ script.entries
-    → Follows (sets_plan schema entries []) s t (Err e) → Follows (published_plan workers budget policy tables script) s t (Err e)
-published_err workers budget policy tables script schema entries s t e same is follows =
-    then_err (sets_plan policy.schema script.entries []) (λ z. done (record { policy = policy; tables = tables; script = script; published = z; workers = workers; budget = budget; loaded = []; orders = 1 })) s t e
+pub published_err : (names : Names) (policy : Policy) (tables : TableSet) (script : Script) (schema : Schema) (entries : List ScriptEntry) (s t : FilesSeen) (e : Stop Fault) → schema ≡ policy.schema → entries ≡ script.entries
+    → Follows (sets_plan schema entries []) s t (Err e) → Follows (published_plan names policy tables script) s t (Err e)
+published_err names policy tables script schema entries s t e same is follows =
+    then_err (sets_plan policy.schema script.entries []) (λ z. done (record { policy = policy; tables = tables; script = script; published = z; workers = names.workers; budget = names.budget; loaded = []; orders = names.orders })) s t e
     (subst (λ z. Follows (sets_plan z script.entries []) s t (Err e)) same (subst (λ z. Follows (sets_plan schema z []) s t (Err e)) is follows))
 
 -- the schema, the policy, the tables, and then the rest
 pub named_ok : (names : Names) (bytes text : List ℕ) (schema : Schema) (policy : Policy) (tables : TableSet) (s m n o t : FilesSeen) (r : Result Input (Stop Fault))
     → Got names.schema most_file_bytes bytes s m → widened (ddl_refusal names.schema) (schema_of bytes) ≡ Ok schema
     → Got names.policy most_file_bytes text m n → widened (policy_refusal names.policy) (policy_of schema text) ≡ Ok policy
-    → Follows (tables_plan names.tables schema) n o (Ok tables) → Follows (script_plan names.script names.workers names.budget policy tables) o t r → Follows (reading_of names) s t r
+    → Follows (tables_plan names.tables schema) n o (Ok tables) → Follows (script_plan names policy tables) o t r → Follows (reading_of names) s t r
 named_ok names bytes text schema policy tables s m n o t r got read given is set rest = inr (
   bytes,
   m,
@@ -215,7 +177,7 @@ named_ok names bytes text schema policy tables s m n o t r got read given is set
         n,
         given,
         found_ok (widened (policy_refusal names.policy) (policy_of schema text)) (rest_plan names schema) n t r policy is
-            (then_ok (tables_plan names.tables schema) (script_plan names.script names.workers names.budget policy) n o t tables r set rest),
+            (then_ok (tables_plan names.tables schema) (script_plan names policy) n o t tables r set rest),
       )),
 )
 
@@ -234,7 +196,7 @@ named_err names bytes text schema policy s m n t e got read given is set = inr (
         n,
         given,
         found_ok (widened (policy_refusal names.policy) (policy_of schema text)) (rest_plan names schema) n t (Err e) policy is
-            (then_err (tables_plan names.tables schema) (script_plan names.script names.workers names.budget policy) n t e set),
+            (then_err (tables_plan names.tables schema) (script_plan names policy) n t e set),
       )),
 )
 
@@ -333,6 +295,21 @@ check_ok names proof s t follows = then_ok (proof_reading_of names) (λ z. done 
 
 pub check_err : (names : ProofNames) (s t : FilesSeen) (e : Stop Fault) → Follows (proof_reading_of names) s t (Err e) → Follows (check_plan names) s t (Err e)
 check_err names s t e follows = then_err (proof_reading_of names) (λ z. done (task.Check z)) s t e follows
+
+-- what the run was given, and then the output
+pub audit_ok : (names : AuditNames) (input : Input) (s m t : FilesSeen) (r : Result Task (Stop Fault)) → Follows (reading_of (given_names names)) s m (Ok input) → Follows (output_plan names.output input) m t r → Follows (audit_plan names) s t r
+audit_ok names input s m t r follows rest = then_ok (reading_of (given_names names)) (output_plan names.output) s m t input r follows rest
+
+pub audit_err : (names : AuditNames) (s t : FilesSeen) (e : Stop Fault) → Follows (reading_of (given_names names)) s t (Err e) → Follows (audit_plan names) s t (Err e)
+audit_err names s t e follows = then_err (reading_of (given_names names)) (output_plan names.output) s t e follows
+
+-- an audit, with the names of its files
+pub comes_audit : (command : Command) (schema policy tables script output a b d e o : List ℕ) (s t : FilesSeen) (r : Result Task (Stop Fault)) → command ≡ Audit schema policy tables script output → a ≡ schema → b ≡ policy → d ≡ tables → e ≡ script → o ≡ output
+    → Follows (audit_plan (record { schema = a; policy = b; tables = d; script = e; output = o })) s t r → Comes (command_plan command) s t r
+comes_audit command schema policy tables script output a b d e o s t r is first second third fourth fifth follows =
+    let names : AuditNames = record { schema = schema; policy = policy; tables = tables; script = script; output = output } in
+    let same : record { schema = a; policy = b; tables = d; script = e; output = o } ≡ names = rw (first, second, third, fourth, fifth) refl in
+    subst (λ z. Comes (command_plan z) s t r) (sym is) (comes_ready (audit_plan names) s t r (subst (λ z. Follows (audit_plan z) s t r) same follows))
 
 -- a policy that was read for a schema that was read
 pub policy_is : (policy : Policy) → PolicyFits policy → AreTables policy.schema.tables → AreRules policy.schema → IsPolicy policy

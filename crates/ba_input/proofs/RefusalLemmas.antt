@@ -4,7 +4,7 @@ use Rattle.std.specs.Prelude.{⊤, unwrap_or}
 use Rattle.std.specs.Option.{option_to_list}
 use Rattle.ba_command.specs.Words.{command_of}
 use Rattle.ba_command.specs.declared.command.Command.{Command}
-use Rattle.ba_command.specs.declared.command.Command.TheVariants.{Run, Check, Gen, Store}
+use Rattle.ba_command.specs.declared.command.Command.TheVariants.{Run, Check, Gen, Store, Audit}
 use Rattle.ba_command.specs.declared.command.WordsFault.{WordsFault}
 use Rattle.ba_command.specs.declared.command.WordsFault.TheVariants.{NoForm}
 use Rattle.ba_lex.specs.declared.token.LexFault.{LexFault}
@@ -47,7 +47,7 @@ use Rattle.ba_tables.specs.declared.fault.TableFault.{TableFault}
 use Rattle.ba_tables.specs.declared.fault.TableFault.TheVariants as table_fault
 use Rattle.ba_input.proofs.ReadsLemmas.{OfTemplates, stopped}
 use Rattle.ba_input.specs.Path.{path_of}
-use Rattle.ba_input.specs.Reading.{Names, ProofNames, check_plan, command_plan, file_of, gathered, load_plan, over, plan_at, plan_of, policy_and_proof_plan, policy_plan, proof_plan, proof_reading_of, published_plan, reading_of, ready, rest_plan, rows_plan, script_plan, served_plan, set_plan, sets_plan, table_plan, tables_plan, workload_names, workload_plan, workload_reading}
+use Rattle.ba_input.specs.Reading.{AuditNames, Names, ProofNames, audit_plan, check_plan, command_plan, file_of, gathered, given_names, load_plan, output_plan, over, plan_at, plan_of, policy_and_proof_plan, policy_plan, proof_plan, proof_reading_of, published_plan, reading_of, ready, rest_plan, rows_plan, script_plan, served_plan, set_plan, sets_plan, table_plan, tables_plan, told_by, workload_names, workload_plan, workload_reading}
 use Rattle.ba_input.specs.Reads.{Reads}
 use Rattle.ba_input.specs.Refusals.{broken_refusal, ddl_refusal, lex_fault, policy_refusal, proof_refusal, schema_fault, script_refusal, table_refusal, template_refusal}
 use Rattle.ba_input.specs.Stops.{IsRefusal}
@@ -55,7 +55,7 @@ use Rattle.ba_input.specs.declared.input.Input.{Input}
 use Rattle.ba_input.specs.declared.task.Task.{Task}
 use Rattle.ba_input.specs.declared.task.Task.TheVariants as task
 use Rattle.ba_input.specs.declared.task.Told.{Told}
-use Rattle.ba_input.specs.declared.task.Told.TheVariants.{Lines, Summary, Templates}
+use Rattle.ba_input.specs.declared.task.Told.TheVariants.{Summary, Templates}
 use Rattle.ba_workload.specs.Files.{bytes_in, files_of}
 use Rattle.ba_wire.specs.declared.fault.Fault.{Fault}
 use Rattle.ba_wire.specs.declared.fault.Fault.TheVariants as fault
@@ -184,19 +184,19 @@ sets_refuses schema [] sets = tt
 sets_refuses schema (entry ∷ entries) sets =
     then_refuses (set_plan schema entry) (λ set. sets_plan schema entries (sets ++ option_to_list set)) (set_refuses schema entry) (λ set. sets_refuses schema entries (sets ++ option_to_list set))
 
-published_refuses : (workers budget : ℕ) (policy : Policy) (tables : TableSet) (script : Script) → Refuses (published_plan workers budget policy tables script)
-published_refuses workers budget policy tables script =
-    then_refuses (sets_plan policy.schema script.entries []) (λ sets. done (record { policy = policy; tables = tables; script = script; published = sets; workers = workers; budget = budget; loaded = []; orders = 1 }))
+published_refuses : (names : Names) (policy : Policy) (tables : TableSet) (script : Script) → Refuses (published_plan names policy tables script)
+published_refuses names policy tables script =
+    then_refuses (sets_plan policy.schema script.entries []) (λ sets. done (record { policy = policy; tables = tables; script = script; published = sets; workers = names.workers; budget = names.budget; loaded = []; orders = names.orders }))
     (sets_refuses policy.schema script.entries []) (λ sets. tt)
 
-script_refuses : (name : List ℕ) (workers budget : ℕ) (policy : Policy) (tables : TableSet) → Refuses (script_plan name workers budget policy tables)
-script_refuses name workers budget policy tables = λ bytes.
-    then_refuses (found (widened (script_refusal name) (script_of policy.params bytes))) (published_plan workers budget policy tables) (found_refuses (script_refusal name) (script_of policy.params bytes) (script_is name))
-    (published_refuses workers budget policy tables)
+script_refuses : (names : Names) (policy : Policy) (tables : TableSet) → Refuses (script_plan names policy tables)
+script_refuses names policy tables = λ bytes.
+    then_refuses (found (widened (script_refusal names.script) (script_of policy.params bytes))) (published_plan names policy tables) (found_refuses (script_refusal names.script) (script_of policy.params bytes) (script_is names.script))
+    (published_refuses names policy tables)
 
 rest_refuses : (names : Names) (schema : Schema) (policy : Policy) → Refuses (rest_plan names schema policy)
 rest_refuses names schema policy =
-    then_refuses (tables_plan names.tables schema) (script_plan names.script names.workers names.budget policy) (tables_refuses names.tables schema) (script_refuses names.script names.workers names.budget policy)
+    then_refuses (tables_plan names.tables schema) (script_plan names policy) (tables_refuses names.tables schema) (script_refuses names policy)
 
 policy_refuses : (names : Names) (schema : Schema) → Refuses (policy_plan names schema)
 policy_refuses names schema = λ bytes.
@@ -244,13 +244,19 @@ gathered_refuses plan h = then_refuses plan (λ it. done (ready it)) h (λ it. t
 check_refuses : (names : ProofNames) → Refuses (check_plan names)
 check_refuses names = then_refuses (proof_reading_of names) (λ it. done (task.Check it)) (proof_refuses names) (λ it. tt)
 
+audit_refuses : (names : AuditNames) → Refuses (audit_plan names)
+audit_refuses names = then_refuses (reading_of (given_names names)) (output_plan names.output) (reading_refuses (given_names names)) (λ input bytes. tt)
+
 command_refuses : (command : Command) → Refuses (command_plan command)
-command_refuses (Run schema policy tables script load workers budget) = served_refuses Lines load (record { schema = schema; policy = policy; tables = tables; script = script; workers = workers; budget = budget })
-command_refuses (Store schema policy tables script workers budget) = served_refuses Templates None (record { schema = schema; policy = policy; tables = tables; script = script; workers = workers; budget = budget })
+command_refuses (Run schema policy tables script load proofs workers budget orders) = served_refuses (told_by proofs) load (record { schema = schema; policy = policy; tables = tables; script = script; workers = workers; budget = budget; orders = orders })
+command_refuses (Store schema policy tables script workers budget orders) = served_refuses Templates None (record { schema = schema; policy = policy; tables = tables; script = script; workers = workers; budget = budget; orders = orders })
 command_refuses (Gen seed requests workers print) = gathered_refuses (workload_plan seed requests workers print) (workload_refuses seed requests workers print)
 command_refuses (Check schema policy proof) =
     let names : ProofNames = record { schema = schema; policy = policy; proof = proof } in
     gathered_refuses (check_plan names) (check_refuses names)
+command_refuses (Audit schema policy tables script output) =
+    let names : AuditNames = record { schema = schema; policy = policy; tables = tables; script = script; output = output } in
+    gathered_refuses (audit_plan names) (audit_refuses names)
 
 plan_refuses : (command : Result Command WordsFault) → Refuses (plan_at command)
 plan_refuses (Err NoForm) = tt

@@ -1,5 +1,5 @@
 -- What a run is given.
-use Rattle.std.specs.Prelude.{◌≡◌, ◌<◌, ◌≤◌, List, All, length}
+use Rattle.std.specs.Prelude.{◌≡◌, ◌⊎◌, ◌<◌, ◌≤◌, List, All, length}
 use Rattle.std.specs.List.{AllZip}
 use Rattle.ba_model.specs.Conform.{Conforms, RowFits}
 use Rattle.ba_model.specs.Fit.{PolicyFits}
@@ -21,7 +21,8 @@ RowsOfTables tables lists = AllZip (λ table list. All (RowFits table) list) tab
 -- The input belongs together: the policy fits its schema, which is well formed, the tables are of
 -- that schema and conform to it, the script is one for the policy's parameters, there is a table set
 -- for each of its publish lines, of that schema too, the templates to begin with are of the policy,
--- and they, the workers and the budget are within their limits. A search is made in one order.
+-- and they, the workers and the budget are within their limits. A search is made in one order, or in
+-- two side by side.
 pub record IsInput (input : Input) : Type 0 where
   pub policy : PolicyFits input.policy
   pub schema : input.tables.schema ≡ input.policy.schema
@@ -35,7 +36,7 @@ pub record IsInput (input : Input) : Type 0 where
   pub rules : All (RuleFits input.policy.schema) input.policy.schema.rules
   pub loaded : All (λ it. it.problem.policy ≡ input.policy) input.loaded
   pub few_loaded : length input.loaded ≤ most_templates
-  pub one_order : input.orders ≡ 1
+  pub orders : (input.orders ≡ 1) ⊎ (input.orders ≡ 2)
 
 -- how a question's proof is searched for in a run
 abbrev pub effort_of : Input → Effort

@@ -1,9 +1,9 @@
 -- How what the words name is read.
 use Rattle.std.specs.Prelude.{ℕ, List, [], ◌∷◌, ◌++◌, Bool, true, false, Option, Some, None, Result, Ok, Err, codes, if◌then◌else◌, length, nat_lt, unwrap_or}
 use Rattle.std.specs.Option.{option_to_list}
-use Rattle.ba_command.specs.Words.{command_of}
+use Rattle.ba_command.specs.Words.{command_of, usual_orders}
 use Rattle.ba_command.specs.declared.command.Command.{Command}
-use Rattle.ba_command.specs.declared.command.Command.TheVariants.{Run, Check, Gen, Store}
+use Rattle.ba_command.specs.declared.command.Command.TheVariants.{Run, Check, Gen, Store, Audit}
 use Rattle.ba_command.specs.declared.command.WordsFault.{WordsFault}
 use Rattle.ba_command.specs.declared.command.WordsFault.TheVariants.{NoForm}
 use Rattle.ba_model.specs.Readings.{widened}
@@ -12,7 +12,7 @@ use Rattle.ba_model.specs.declared.schema.Schema.{Schema}
 use Rattle.ba_model.specs.declared.schema.Table.{Table}
 use Rattle.ba_model.specs.declared.value.Value.{Value}
 use Rattle.ba_model.specs.declared.limits.Counted.TheVariants.{FileBytes}
-use Rattle.ba_model.specs.Limits.{most_file_bytes, usual_budget}
+use Rattle.ba_model.specs.Limits.{most_file_bytes, usual_budget, usual_workers}
 use Rattle.ba_plan.specs.Plan.{Plan, done, refuse, ask, found, ◌>>=◌}
 use Rattle.ba_policy.specs.Reading.{policy_of}
 use Rattle.ba_proof.specs.Reading.{proof_of}
@@ -33,13 +33,14 @@ use Rattle.ba_wire.specs.declared.fault.Fault.TheVariants.{Limit, Words}
 use Rattle.ba_input.specs.declared.task.Task.{Task}
 use Rattle.ba_input.specs.declared.task.Task.TheVariants as task
 use Rattle.ba_input.specs.declared.task.Told.{Told}
-use Rattle.ba_input.specs.declared.task.Told.TheVariants.{Lines, Summary, Templates}
+use Rattle.ba_input.specs.declared.task.Told.TheVariants.{Lines, Proofs, Summary, Templates}
 use Rattle.ba_workload.specs.Files.{bytes_in, files_of}
 use Rattle.ba_workload.specs.Requests.{script_text}
 
 -- ---- a run
 
--- the names of the files, and of the table set, the number of workers, and the budget of a search
+-- the names of the files, and of the table set, the number of workers, the budget of a search, and in
+-- how many orders it is made
 pub record Names : Type 0 where
   pub schema : List ℕ
   pub policy : List ℕ
@@ -47,6 +48,7 @@ pub record Names : Type 0 where
   pub script : List ℕ
   pub workers : ℕ
   pub budget : ℕ
+  pub orders : ℕ
 
 abbrev pub file_of : List ℕ → Plan Fault (List ℕ)
 file_of name = ask name most_file_bytes done
@@ -85,21 +87,21 @@ sets_plan schema (entry ∷ entries) sets = do
   set ← set_plan schema entry
   sets_plan schema entries (sets ++ option_to_list set)
 
-abbrev pub published_plan : ℕ → ℕ → Policy → TableSet → Script → Plan Fault Input
-published_plan workers budget policy tables script = do
+abbrev pub published_plan : Names → Policy → TableSet → Script → Plan Fault Input
+published_plan names policy tables script = do
   published ← sets_plan policy.schema script.entries []
-  done (record { policy = policy; tables = tables; script = script; published = published; workers = workers; budget = budget; loaded = []; orders = 1 })
+  done (record { policy = policy; tables = tables; script = script; published = published; workers = names.workers; budget = names.budget; loaded = []; orders = names.orders })
 
-abbrev pub script_plan : List ℕ → ℕ → ℕ → Policy → TableSet → Plan Fault Input
-script_plan name workers budget policy tables = do
-  bytes ← file_of name
-  script ← found (widened (script_refusal name) (script_of policy.params bytes))
-  published_plan workers budget policy tables script
+abbrev pub script_plan : Names → Policy → TableSet → Plan Fault Input
+script_plan names policy tables = do
+  bytes ← file_of names.script
+  script ← found (widened (script_refusal names.script) (script_of policy.params bytes))
+  published_plan names policy tables script
 
 abbrev pub rest_plan : Names → Schema → Policy → Plan Fault Input
 rest_plan names schema policy = do
   tables ← tables_plan names.tables schema
-  script_plan names.script names.workers names.budget policy tables
+  script_plan names policy tables
 
 abbrev pub policy_plan : Names → Schema → Plan Fault Input
 policy_plan names schema = do
@@ -124,7 +126,7 @@ over bytes (refuse e) = refuse e
 over bytes (ask name limit next) = if nat_lt limit (length (bytes name)) then refuse (Limit FileBytes limit) else over bytes (next (bytes name))
 
 abbrev pub workload_names : ℕ → Names
-workload_names workers = record { schema = codes "schema.sql"; policy = codes "policy.sql"; tables = codes "tables"; script = codes "script.jsonl"; workers = workers; budget = usual_budget }
+workload_names workers = record { schema = codes "schema.sql"; policy = codes "policy.sql"; tables = codes "tables"; script = codes "script.jsonl"; workers = workers; budget = usual_budget; orders = usual_orders }
 
 -- the input of a workload: its files are read as those of a run
 unfoldable pub workload_reading : ℕ → ℕ → ℕ → Plan Fault Input
@@ -156,6 +158,32 @@ proof_reading_of names = do
   schema ← found (widened (ddl_refusal names.schema) (schema_of bytes))
   policy_and_proof_plan names schema
 
+-- ---- an audit
+
+-- the names of the files of an audit, and of the table set
+pub record AuditNames : Type 0 where
+  pub schema : List ℕ
+  pub policy : List ℕ
+  pub tables : List ℕ
+  pub script : List ℕ
+  pub output : List ℕ
+
+-- what the run was given whose output is audited, which isn't run anew
+abbrev pub given_names : AuditNames → Names
+given_names names = record { schema = names.schema; policy = names.policy; tables = names.tables; script = names.script; workers = usual_workers; budget = usual_budget; orders = usual_orders }
+
+-- the output, whatever its bytes are
+abbrev pub output_plan : List ℕ → Input → Plan Fault Task
+output_plan name input = do
+  bytes ← file_of name
+  done (task.Audit input bytes)
+
+-- first all that the run was given, and last the output
+abbrev pub audit_plan : AuditNames → Plan Fault Task
+audit_plan names = do
+  input ← reading_of (given_names names)
+  output_plan names.output input
+
 -- ---- the commands
 
 -- What the files give: a task; or one that is whole once the input has its templates, those that the
@@ -177,6 +205,11 @@ load_plan told (Some file) input = do
   bytes ← file_of file
   done (loading input told file bytes)
 
+-- a run tells its lines, with their proofs or without
+abbrev pub told_by : Bool → Told
+told_by true = Proofs
+told_by false = Lines
+
 -- a script that is served, and told so
 abbrev pub served_plan : Told → Option (List ℕ) → Names → Plan Fault Gathered
 served_plan told load names = do
@@ -196,10 +229,11 @@ check_plan names = do
   done (task.Check proof)
 
 abbrev pub command_plan : Command → Plan Fault Gathered
-command_plan (Run schema policy tables script load workers budget) = served_plan Lines load (record { schema = schema; policy = policy; tables = tables; script = script; workers = workers; budget = budget })
-command_plan (Store schema policy tables script workers budget) = served_plan Templates None (record { schema = schema; policy = policy; tables = tables; script = script; workers = workers; budget = budget })
+command_plan (Run schema policy tables script load proofs workers budget orders) = served_plan (told_by proofs) load (record { schema = schema; policy = policy; tables = tables; script = script; workers = workers; budget = budget; orders = orders })
+command_plan (Store schema policy tables script workers budget orders) = served_plan Templates None (record { schema = schema; policy = policy; tables = tables; script = script; workers = workers; budget = budget; orders = orders })
 command_plan (Gen seed requests workers print) = gathered (workload_plan seed requests workers print)
 command_plan (Check schema policy proof) = gathered (check_plan (record { schema = schema; policy = policy; proof = proof }))
+command_plan (Audit schema policy tables script output) = gathered (audit_plan (record { schema = schema; policy = policy; tables = tables; script = script; output = output }))
 
 abbrev pub plan_at : Result Command WordsFault → Plan Fault Gathered
 plan_at (Err NoForm) = refuse Words

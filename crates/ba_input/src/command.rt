@@ -1,12 +1,13 @@
 //! Reads what the words of a command name.
 ghost use Rattle.std.specs.Prelude.{◌≡◌, ◌<◌, ◌≤◌, IfOk, IfSome, map, string_bytes};
 ghost use Rattle.std.specs.Option.{option_copied};
-ghost use Rattle.ba_command.specs.Words.{budget_of, workers_of};
+ghost use Rattle.ba_command.specs.Words.{AreOrders, budget_of, orders_of, workers_of};
 ghost use Rattle.ba_model.specs.Limits.{most_budget, most_workers};
-ghost use Rattle.ba_input.specs.Reading.{command_plan, served_plan};
+ghost use Rattle.ba_input.specs.Reading.{command_plan, served_plan, told_by};
 ghost use Rattle.ba_input.specs.Reads.{Comes, Reads};
 ghost use Rattle.ba_input.specs.Tasks.{IsTask};
 
+use crate::audit_input::{NamedAudit, read_audit};
 use crate::proof_input::{NamedProof, read_check};
 use crate::run_input::{Named, read_named};
 use crate::task::{Task, Told};
@@ -29,6 +30,13 @@ fn name_of(load: &Option<Str>) -> Option<&str>
     }
 }
 
+// What a run tells: its lines, with their proofs or without.
+fn told_by(proofs: bool) -> Told
+    ensures { result ≡ told_by proofs }
+{
+    if proofs { Told::Proofs } else { Told::Lines }
+}
+
 // A script that is served, and told so; to begin with the templates of a file, if one is named.
 fn read_served<F: Files>(
     alloc: Global,
@@ -39,6 +47,7 @@ fn read_served<F: Files>(
 ) -> Result<Task, Stop<Fault>>
     requires workers { (0 < named.now.workers) × (named.now.workers ≤ most_workers) }
     requires budget { named.now.budget ≤ most_budget }
+    requires orders { AreOrders named.now.orders }
     ensures comes { Comes (served_plan told (option_copied load.entry) (record {
       schema = named.now.schema.now;
       policy = named.now.policy.now;
@@ -46,6 +55,7 @@ fn read_served<F: Files>(
       script = named.now.script.now;
       workers = named.now.workers;
       budget = named.now.budget;
+      orders = named.now.orders;
     }))
         (F.seen files.old) (F.seen files.new) result }
     ensures task { IfOk result IsTask }
@@ -64,6 +74,7 @@ fn read_command<F: Files>(
 ) -> Result<Task, Stop<Fault>>
     requires workers { IfSome (workers_of command.now) (λ n. (0 < n) × (n ≤ most_workers)) }
     requires budget { budget_of command.now ≤ most_budget }
+    requires orders { IfSome (orders_of command.now) AreOrders }
     ensures comes { Comes (command_plan command.now)
         (F.seen files.old) (F.seen files.new) result }
     ensures task { IfOk result IsTask }
@@ -75,8 +86,10 @@ fn read_command<F: Files>(
             tables,
             script,
             load,
+            proofs,
             workers,
             budget,
+            orders,
         } => {
             let named = Named {
                 schema: schema.as_str(),
@@ -85,8 +98,9 @@ fn read_command<F: Files>(
                 script: script.as_str(),
                 workers: *workers,
                 budget: *budget,
+                orders: *orders,
             };
-            read_served(alloc, files, &named, name_of(load), Told::Lines)
+            read_served(alloc, files, &named, name_of(load), told_by(*proofs))
         }
         Command::Store {
             schema,
@@ -95,6 +109,7 @@ fn read_command<F: Files>(
             script,
             workers,
             budget,
+            orders,
         } => {
             let named = Named {
                 schema: schema.as_str(),
@@ -103,6 +118,7 @@ fn read_command<F: Files>(
                 script: script.as_str(),
                 workers: *workers,
                 budget: *budget,
+                orders: *orders,
             };
             read_served(alloc, files, &named, None, Told::Templates)
         }
@@ -124,12 +140,29 @@ fn read_command<F: Files>(
             };
             read_check(alloc, files, &named)
         }
+        Command::Audit {
+            schema,
+            policy,
+            tables,
+            script,
+            output,
+        } => {
+            let named = NamedAudit {
+                schema: schema.as_str(),
+                policy: policy.as_str(),
+                tables: tables.as_str(),
+                script: script.as_str(),
+                output: output.as_str(),
+            };
+            read_audit(alloc, files, &named)
+        }
     }
 }
 
 /// Reads what the words name, and the table sets that a script publishes: file by file, in order, up
 /// to the first fault. The file of templates, if the words name one, is the last; nothing in it is
-/// believed, and each template's steps are taken anew. What was read belongs together.
+/// believed, and each template's steps are taken anew. So is an output that is audited the last, of
+/// which any bytes will do. What was read belongs together.
 ///
 /// # Errors
 /// `Refused` where the words are no command's form, a file has no reading, rows break a key or a link,

@@ -20,6 +20,6 @@ pub struct Input {
     /// The templates of the file that the words name, in its order: with these the shelves begin. None
     /// where no file is named.
     pub loaded: List<Shared<Template>>,
-    /// In how many orders of its due steps a proof is searched for, side by side: in one.
+    /// In how many orders of its due steps a proof is searched for, side by side: in one or in two.
     pub orders: u32,
 }

@@ -1,5 +1,5 @@
 //! Reads what a run is given.
-ghost use Rattle.std.specs.Prelude.{◌≡◌, ◌<◌, ◌≤◌, ◌++◌, [], All, IfOk, IfSome, length, Err};
+ghost use Rattle.std.specs.Prelude.{◌≡◌, ◌⊎◌, ◌<◌, ◌≤◌, ◌++◌, [], All, IfOk, IfSome, length, Err};
 ghost use Rattle.std.specs.Option.{option_to_list};
 ghost use Rattle.ba_model.specs.Conform.{RowFits};
 ghost use Rattle.ba_model.specs.Fit.{PolicyFits};
@@ -35,7 +35,8 @@ use ba_tables::{Tables, rows_of_file};
 use ba_wire::Fault;
 use std::alloc::{AllocError, Global};
 
-/// The names of the files and of the table set, the number of workers, and the budget of a search.
+/// The names of the files and of the table set, the number of workers, the budget of a search, and in
+/// how many orders it is made.
 #[derive(Clone, Copy, Debug)]
 pub(crate) struct Named<'a> {
     pub(crate) schema: &'a str,
@@ -44,6 +45,7 @@ pub(crate) struct Named<'a> {
     pub(crate) script: &'a str,
     pub(crate) workers: u32,
     pub(crate) budget: u32,
+    pub(crate) orders: u32,
 }
 
 /// The schema of a file's bytes.
@@ -256,8 +258,7 @@ fn read_sets<F: Files>(
 fn read_published<F: Files>(
     alloc: Global,
     files: &mut F,
-    workers: u32,
-    budget: u32,
+    named: &Named<'_>,
     policy: Shared<Policy>,
     tables: Shared<Tables>,
     script: Script,
@@ -267,9 +268,18 @@ fn read_published<F: Files>(
     requires script { IsScript policy.params script }
     requires tables_are { AreTables policy.schema.tables }
     requires rules { AreRules policy.schema }
-    requires workers { (0 < workers) × (workers ≤ most_workers) }
-    requires budget { budget ≤ most_budget }
-    ensures follows { Follows (published_plan workers budget policy tables script)
+    requires workers { (0 < named.now.workers) × (named.now.workers ≤ most_workers) }
+    requires budget { named.now.budget ≤ most_budget }
+    requires orders { (named.now.orders ≡ 1) ⊎ (named.now.orders ≡ 2) }
+    ensures follows { Follows (published_plan (record {
+      schema = named.now.schema.now;
+      policy = named.now.policy.now;
+      tables = named.now.tables.now;
+      script = named.now.script.now;
+      workers = named.now.workers;
+      budget = named.now.budget;
+      orders = named.now.orders;
+    }) policy tables script)
         (F.seen files.old) (F.seen files.new) result }
     ensures input { IfOk result IsInput }
     ensures rules { IfOk result (λ input. AreRules input.policy.schema) }
@@ -281,10 +291,10 @@ fn read_published<F: Files>(
         tables,
         script,
         published,
-        workers,
-        budget,
+        workers: named.workers,
+        budget: named.budget,
         loaded,
-        orders: 1,
+        orders: named.orders,
     })
 }
 
@@ -292,9 +302,7 @@ fn read_published<F: Files>(
 fn read_rest<F: Files>(
     alloc: Global,
     files: &mut F,
-    name: &str,
-    workers: u32,
-    budget: u32,
+    named: &Named<'_>,
     policy: Shared<Policy>,
     tables: Shared<Tables>,
 ) -> Result<Input, Stop<Fault>>
@@ -302,16 +310,25 @@ fn read_rest<F: Files>(
     requires tables { IsSetOf policy.schema tables }
     requires tables_are { AreTables policy.schema.tables }
     requires rules { AreRules policy.schema }
-    requires workers { (0 < workers) × (workers ≤ most_workers) }
-    requires budget { budget ≤ most_budget }
-    ensures follows { Follows (script_plan name.now workers budget policy tables)
+    requires workers { (0 < named.now.workers) × (named.now.workers ≤ most_workers) }
+    requires budget { named.now.budget ≤ most_budget }
+    requires orders { (named.now.orders ≡ 1) ⊎ (named.now.orders ≡ 2) }
+    ensures follows { Follows (script_plan (record {
+      schema = named.now.schema.now;
+      policy = named.now.policy.now;
+      tables = named.now.tables.now;
+      script = named.now.script.now;
+      workers = named.now.workers;
+      budget = named.now.budget;
+      orders = named.now.orders;
+    }) policy tables)
         (F.seen files.old) (F.seen files.new) result }
     ensures input { IfOk result IsInput }
     ensures rules { IfOk result (λ input. AreRules input.policy.schema) }
 {
-    let bytes = read_file(alloc, files, name, MAX_FILE_BYTES)?;
-    let script = script_at(alloc, name, &policy.params, &bytes)?;
-    read_published(alloc, files, workers, budget, policy, tables, script)
+    let bytes = read_file(alloc, files, named.script, MAX_FILE_BYTES)?;
+    let script = script_at(alloc, named.script, &policy.params, &bytes)?;
+    read_published(alloc, files, named, policy, tables, script)
 }
 
 pub(crate) fn read_named<F: Files>(
@@ -321,6 +338,7 @@ pub(crate) fn read_named<F: Files>(
 ) -> Result<Input, Stop<Fault>>
     requires workers { (0 < named.now.workers) × (named.now.workers ≤ most_workers) }
     requires budget { named.now.budget ≤ most_budget }
+    requires orders { (named.now.orders ≡ 1) ⊎ (named.now.orders ≡ 2) }
     ensures follows { Follows (reading_of (record {
       schema = named.now.schema.now;
       policy = named.now.policy.now;
@@ -328,6 +346,7 @@ pub(crate) fn read_named<F: Files>(
       script = named.now.script.now;
       workers = named.now.workers;
       budget = named.now.budget;
+      orders = named.now.orders;
     }))
         (F.seen files.old) (F.seen files.new) result }
     ensures input { IfOk result IsInput }
@@ -338,13 +357,5 @@ pub(crate) fn read_named<F: Files>(
     let text = read_file(alloc, files, named.policy, MAX_FILE_BYTES)?;
     let policy = policy_at(alloc, named.policy, &schema, &text)?;
     let tables = read_tables(alloc, files, named.tables, &schema)?;
-    read_rest(
-        alloc,
-        files,
-        named.script,
-        named.workers,
-        named.budget,
-        policy,
-        tables,
-    )
+    read_rest(alloc, files, named, policy, tables)
 }

@@ -12,6 +12,7 @@ use crate::input::Input;
 use crate::refusal::fault_of;
 use crate::run_input::{Named, read_named};
 use crate::task::{Task, Told};
+use ba_command::ORDERS;
 use ba_model::{BUDGET, Str};
 use ba_outside::SureFiles;
 use ba_plan::Stop;
@@ -51,6 +52,7 @@ fn workload_input(
         script: SCRIPT_FILE,
         workers,
         budget: BUDGET,
+        orders: ORDERS,
     };
     match read_named(alloc, &mut files, &named) {
         Ok(input) => Ok(input),

@@ -1,4 +1,4 @@
-//! Tests of problems and searches (ba_kernel) over branches (ba_facts), of how they end (ba_instant), of decision
+//! Tests of problems and searches (ba_kernel) over branches (ba_facts), of how they end (ba_instant, ba_portfolio), of decision
 //! templates (ba_template), their making (ba_general) and their matches (ba_match), and of proof files and the checker
 //! (ba_proof), by values worked out by hand.
 //!

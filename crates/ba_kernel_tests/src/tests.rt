@@ -9,6 +9,7 @@ mod forged;
 mod generals;
 mod given;
 mod matches;
+mod orders;
 mod policies;
 mod searches;
 mod spelled;

@@ -7,8 +7,7 @@ use Rattle.ba_machine_laws.specs.Whole.{AreSound}
 use Rattle.ba_comply.specs.Comply.{Complies, Strong, StrongComplies}
 use Rattle.ba_core.specs.State.{State}
 use Rattle.ba_direct.specs.Cover.{CoverCovers, CoveredIsStrong}
-use Rattle.ba_settle.specs.Dues.{Searches}
-use Rattle.ba_settle.specs.declared.order.Pick.{Pick}
+use Rattle.ba_settle.proofs.SettledLemmas.{proof_closes}
 use Rattle.ba_kernel.proofs.StepFits.{All-at}
 use Rattle.ba_kernel.specs.Asked.{AnswersAreRecords, QuestionFits, QuestionIsProblem}
 use Rattle.ba_kernel.specs.Courses.{ClosedIsStrong, Slots}
@@ -41,10 +40,6 @@ pub record Grounds : Type 0 where
   pub question : QuestionIsProblem
   pub complies : StrongComplies
 
-runs_of : {pick : Pick} {p : Problem} {taken : List Step} {slots : Slots} → Searches pick p taken slots → courses.Runs p taken slots
-runs_of (Searches.start h) = courses.Runs.start h
-runs_of (Searches.next before each picked takes) = courses.Runs.next (runs_of before) takes
-
 strong_by : Grounds → (number : ℕ → ℕ → ℕ) (policy : Policy) (t : State) (asker : Request) (effort : Effort) (query : Query) (made : ShelfCalls) (basis : By) → IsServable policy → AreSound t →
     HasFound number t made → IsRequestOf policy asker → IsQuery policy.schema (kinds_of policy.params) [] query → IsGround policy asker effort query basis made →
     Strong policy asker.context asker.trace query
@@ -56,8 +51,10 @@ strong_by laws number policy t asker effort query made (by.Template shard id tem
     (All-at (λ (it : Proof). StrongAll it.problem) t.templates (number shard id) template sound there) may.context ground.first.first.is_match
 strong_by laws number policy t asker effort query made (by.Proof steps keeping) checked sound found may asks ground =
     let fits : QuestionFits policy asker.context asker.trace query = question_fits laws.records policy asker query checked may asks in
+    let p = question policy asker query in
+    let left = proof_closes effort p (record { problem = p; steps = steps }) ground.proof in
     laws.problem policy asker.context asker.trace query may.context
-    (laws.closed (question policy asker query) steps ground.proof.1.slots (laws.question policy asker.context asker.trace query fits) (runs_of ground.proof.1.searches) ground.proof.1.closed)
+    (laws.closed p steps left.0 (laws.question policy asker.context asker.trace query fits) left.1 left.2)
 
 -- an answer complies on a machine that has the request
 pub answers_comply : Grounds → AnswersComply

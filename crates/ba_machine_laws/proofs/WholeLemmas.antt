@@ -25,8 +25,7 @@ use Rattle.ba_core.specs.declared.event.Ground.TheVariants as grounds
 use Rattle.ba_core.specs.declared.opened.Answered.{Answered}
 use Rattle.ba_core.specs.declared.opened.Opened.{Opened}
 use Rattle.ba_direct.specs.Cover.{CoverCovers, CoveredIsStrong}
-use Rattle.ba_settle.specs.Dues.{Searches}
-use Rattle.ba_settle.specs.declared.order.Pick.{Pick}
+use Rattle.ba_settle.proofs.SettledLemmas.{proof_closes}
 use Rattle.ba_kernel.proofs.StepFits.{All-at}
 use Rattle.ba_kernel.specs.Asked.{AnswersAreRecords, QuestionFits, QuestionIsProblem}
 use Rattle.ba_kernel.specs.Courses.{ClosedIsStrong, Slots}
@@ -66,10 +65,6 @@ pub record Laws : Type 0 where
 
 -- ---- an answer is compliant
 
-runs_of : {pick : Pick} {p : Problem} {taken : List Step} {slots : Slots} → Searches pick p taken slots → courses.Runs p taken slots
-runs_of (Searches.start h) = courses.Runs.start h
-runs_of (Searches.next before each picked takes) = courses.Runs.next (runs_of before) takes
-
 -- what holds of all holds of the last one
 of_last : {X : Type 0} (P : X → Type 0) (xs : List X) (y : X) → All P (xs ++ y ∷ []) → P y
 of_last P [] y all = All-head P y [] all
@@ -92,9 +87,10 @@ module _ (laws : Laws) (number : ℕ → ℕ → ℕ) (policy : Policy) (checked
       (All-at (λ (it : Proof). StrongAll it.problem) t.templates (number shard id) template sound there) may.context ground.first.first.is_match
   strong_by t asker effort query made (by.Proof steps keeping) sound found may asks ground =
       let fits : QuestionFits policy asker.context asker.trace query = question_fits laws.records policy asker query checked may asks in
+      let p = question policy asker query in
+      let left = proof_closes effort p (record { problem = p; steps = steps }) ground.proof in
       laws.problem policy asker.context asker.trace query may.context
-      (laws.closed (question policy asker query) steps ground.proof.1.slots (laws.question policy asker.context asker.trace query fits)
-      (runs_of ground.proof.1.searches) ground.proof.1.closed)
+      (laws.closed p steps left.0 (laws.question policy asker.context asker.trace query fits) left.1 left.2)
 
   -- its answer is compliant on a machine that has the request
   compliant : (t : State) (k : ℕ) (asker : Request) (effort : Effort) (query : Query) (rows : List (List Value)) (made : ShelfCalls) (basis : By) → HasRequest policy t k asker → AreSound t →

@@ -9,3 +9,5 @@ pub mod StartLemmas
 pub mod OneLemmas
 pub mod RowLemmas
 pub mod TestedLemmas
+pub mod MovedLemmas
+pub mod NumberLemmas

@@ -3,3 +3,4 @@ pub mod Conditions
 pub mod Matching
 pub mod Searches
 pub mod Tested
+pub mod Instances

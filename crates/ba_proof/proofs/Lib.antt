@@ -5,6 +5,7 @@ pub mod CheckLemmas
 pub mod PutLemmas
 pub mod ContextLemmas
 pub mod StepLemmas
+pub mod SpellLemmas
 pub mod EntryLemmas
 pub mod FitLemmas
 pub mod JsonLemmas

@@ -111,7 +111,7 @@ atom_reads params vars atom apart h = rw (op_reads atom.op, term_reads params va
 
 -- ---- NULL
 
-no_null : (b : Branch) (t : Term) (kind : Kind) → kind_of_term b t ≡ Some kind → t ≢ term.Val value.Null
+pub no_null : (b : Branch) (t : Term) (kind : Kind) → kind_of_term b t ≡ Some kind → t ≢ term.Val value.Null
 no_null b t kind e same = cc (sym (ap (kind_of_term b) same) ∙ e)
 
 pub null_no_term : NullIsNoTerm

@@ -33,7 +33,7 @@ use Rattle.ba_proof.specs.declared.fault.ProofField.TheVariants as field
 
 -- ---- parameters
 
-place_numbered : (o : Option ℕ) (n : ℕ) → option_and_then short o ≡ Some n → numbered UnknownParam o ≡ Ok n
+pub place_numbered : (o : Option ℕ) (n : ℕ) → option_and_then short o ≡ Some n → numbered UnknownParam o ≡ Ok n
 place_numbered None n e = cc e
 place_numbered (Some m) n e = by (nat_le m 0xffff_ffff) refl e
   where
@@ -41,7 +41,7 @@ place_numbered (Some m) n e = by (nat_le m 0xffff_ffff) refl e
     by true t h = let same : m ≡ n = cc h in ap Ok same
     by false t h = cc h
 
-numbered_place : (o : Option ℕ) (n : ℕ) → numbered UnknownParam o ≡ Ok n → option_and_then short o ≡ Some n
+pub numbered_place : (o : Option ℕ) (n : ℕ) → numbered UnknownParam o ≡ Ok n → option_and_then short o ≡ Some n
 numbered_place None n e = cc e
 numbered_place (Some m) n e = by (nat_le m 0xffff_ffff) refl e
   where
@@ -166,7 +166,7 @@ module _ (params : List Parameter) (vars : ℕ) where
 
   -- ---- atoms
 
-  op_is : (s : List ℕ) (op : Op) → op_of s ≡ Ok op → s ≡ op_name op
+  pub op_is : (s : List ℕ) (op : Op) → op_of s ≡ Ok op → s ≡ op_name op
   unfolding op_of
   op_is s op e =
       choose (s ≡ op_name op) (bytes_eq s (codes "=")) _ _ op e (λ b h. same_text s (codes "=") b ∙ ap op_name (ok_same Eq op h))

@@ -47,15 +47,34 @@ pub record AtomSpells (params : List Parameter) (vars : ℕ) (atom : TermAtom) :
   pub left : TermSpells params vars atom.left
   pub right : TermSpells params vars atom.right
 
+-- numbers of 32 bits, an entry's of 64, and such an atom
+abbrev pub StepIsShort : (TermAtom → Type 0) → Step → Type 0
+StepIsShort Has (steps.Entry branch entry) = IsShort branch × (entry < 2 ^ 64)
+StepIsShort Has (steps.Key branch key left right) = IsShort branch × IsShort key × IsShort left × IsShort right
+StepIsShort Has (steps.Link branch link fact) = IsShort branch × IsShort link × IsShort fact
+StepIsShort Has (steps.Rule branch rule part facts) = IsShort branch × IsShort rule × IsShort part × All IsShort facts
+StepIsShort Has (steps.View branch view part facts) = IsShort branch × IsShort view × IsShort part × All IsShort facts
+StepIsShort Has (steps.Split branch atom) = IsShort branch × Has atom
+StepIsShort Has (steps.Absurd branch) = IsShort branch
+StepIsShort Has (steps.Goal branch part facts) = IsShort branch × IsShort part × All IsShort facts
+
 abbrev pub StepSpells : List Parameter → ℕ → Step → Type 0
-StepSpells params vars (steps.Entry branch entry) = IsShort branch × (entry < 2 ^ 64)
-StepSpells params vars (steps.Key branch key left right) = IsShort branch × IsShort key × IsShort left × IsShort right
-StepSpells params vars (steps.Link branch link fact) = IsShort branch × IsShort link × IsShort fact
-StepSpells params vars (steps.Rule branch rule part facts) = IsShort branch × IsShort rule × IsShort part × All IsShort facts
-StepSpells params vars (steps.View branch view part facts) = IsShort branch × IsShort view × IsShort part × All IsShort facts
-StepSpells params vars (steps.Split branch atom) = IsShort branch × AtomSpells params vars atom
-StepSpells params vars (steps.Absurd branch) = IsShort branch
-StepSpells params vars (steps.Goal branch part facts) = IsShort branch × IsShort part × All IsShort facts
+StepSpells params vars step = StepIsShort (AtomSpells params vars) step
+
+-- ---- numbers have their bits: 32, a literal 64 with a sign, and an entry's 64
+
+abbrev pub TermHasBits : Term → Type 0
+TermHasBits (term.Unknown n) = IsShort n
+TermHasBits (term.Val v) = ValueSpells v
+TermHasBits (term.Param n) = IsShort n
+TermHasBits (term.Var n) = IsShort n
+
+pub record AtomHasBits (atom : TermAtom) : Type 0 where
+  pub left : TermHasBits atom.left
+  pub right : TermHasBits atom.right
+
+abbrev pub StepHasBits : Step → Type 0
+StepHasBits step = StepIsShort AtomHasBits step
 
 -- its query can be printed, and its rows' values can be written
 pub record RecordSpells (policy : Policy) (it : TraceEntry) : Type 0 where

@@ -8,7 +8,7 @@ ghost use Rattle.ba_model.specs.Fit.{IsQuery, kinds_of};
 ghost use Rattle.ba_kernel.specs.Courses.{ProblemFits};
 ghost use Rattle.ba_kernel.specs.declared.problem.ProblemEntry.{ProblemEntry};
 ghost use Rattle.ba_sql_print.specs.Printed.{param_name, query_text};
-ghost use Rattle.ba_proof.specs.ReadBack.{ReadsBack};
+ghost use Rattle.ba_proof.specs.ReadBack.{AtomHasBits, IsShort, ReadsBack, StepHasBits, TermHasBits, ValueSpells};
 ghost use Rattle.ba_proof.specs.Written.{atom_json, count, entry_json, facts_json, is_rule, list_json, literal_in, literal_json, named, op_name, param_in, proof_json, proof_text, step_json, term_json, value_json, var_json, version_of, with_context, with_value};
 
 use crate::version::RULE_VERSION;
@@ -21,8 +21,10 @@ use serde_json::{Map, Value as Json, put};
 use std::alloc::{AllocError, Global};
 
 /// A value as JSON: NULL is `null`.
+#[tactic(auto, unfolding(ba_lex::specs::Spelling::fits))]
 pub fn value_json(alloc: Global, value: &Value) -> Result<Json, AllocError>
-    ensures { IfOk result (λ v. view v ≡ value_json value.now) }
+    ensures json { IfOk result (λ v. view v ≡ value_json value.now) }
+    ensures bits { IfOk result (λ _. ValueSpells value.now) }
 {
     match value {
         Value::Null => Ok(Json::Null),
@@ -52,7 +54,8 @@ fn plain_step(alloc: Global, name: &str, numbers: &[u64]) -> Result<Json, AllocE
 }
 
 fn facts_json(alloc: Global, facts: &[u32]) -> Result<Json, AllocError>
-    ensures { IfOk result (λ v. view v ≡ list_json (map count facts.now)) }
+    ensures json { IfOk result (λ v. view v ≡ list_json (map count facts.now)) }
+    ensures bits { IfOk result (λ _. All IsShort facts.now) }
 {
     let mut items = Vec::with_capacity(alloc, facts.len())?;
     for fact in facts {
@@ -68,7 +71,9 @@ fn facts_step(
     numbers: &[u64],
     facts: &List<u32>,
 ) -> Result<Json, AllocError>
-    ensures { IfOk result (λ v. view v ≡ named name.now numbers.now (facts_json facts.now)) }
+    ensures json { IfOk result (λ v. view v
+        ≡ named name.now numbers.now (facts_json facts.now)) }
+    ensures bits { IfOk result (λ _. All IsShort facts.now) }
 {
     let mut items = named(alloc, name, numbers)?;
     items.push(facts_json(alloc, facts.as_slice())?)?;
@@ -112,7 +117,8 @@ fn term_json(
     vars: usize,
     term: &Term,
 ) -> Result<Json, AllocError>
-    ensures { IfOk result (λ v. view v ≡ term_json params.now vars term.now) }
+    ensures json { IfOk result (λ v. view v ≡ term_json params.now vars term.now) }
+    ensures bits { IfOk result (λ _. TermHasBits term.now) }
 {
     match term {
         Term::Unknown(n) => marked(alloc, "u", Json::from(*n)),
@@ -146,7 +152,8 @@ fn atom_json(
     vars: usize,
     atom: &TermAtom,
 ) -> Result<Json, AllocError>
-    ensures { IfOk result (λ v. view v ≡ atom_json params.now vars atom.now) }
+    ensures json { IfOk result (λ v. view v ≡ atom_json params.now vars atom.now) }
+    ensures bits { IfOk result (λ _. AtomHasBits atom.now) }
 {
     let mut items = Vec::with_capacity(alloc, 3)?;
     items.push(Json::try_from_str(alloc, op_name(atom.op))?)?;
@@ -162,8 +169,9 @@ fn split_step(
     branch: u32,
     atom: &TermAtom,
 ) -> Result<Json, AllocError>
-    ensures { IfOk result (λ v. view v ≡ named (codes "split") (branch ∷ [])
+    ensures json { IfOk result (λ v. view v ≡ named (codes "split") (branch ∷ [])
         (atom_json params.now vars atom.now ∷ [])) }
+    ensures bits { IfOk result (λ _. AtomHasBits atom.now) }
 {
     let mut items = named(alloc, "split", &[branch as u64])?;
     items.push(atom_json(alloc, params, vars, atom)?)?;
@@ -177,7 +185,8 @@ fn step_json(
     vars: usize,
     step: &Step,
 ) -> Result<Json, AllocError>
-    ensures { IfOk result (λ v. view v ≡ step_json params.now vars step.now) }
+    ensures json { IfOk result (λ v. view v ≡ step_json params.now vars step.now) }
+    ensures bits { IfOk result (λ _. StepHasBits step.now) }
 {
     match step {
         Step::Entry { branch, entry } => plain_step(alloc, "entry", &[*branch as u64, *entry]),
@@ -230,13 +239,16 @@ fn step_json(
 
 /// Steps as JSON, as a proof file has them, over parameters and so many variables: a proof file's
 /// problem has none. A variable that isn't there, and NULL, are written as `null`, which is no term.
+/// The numbers of the steps have the bits of their types.
 pub fn steps_json(
     alloc: Global,
     params: &[Parameter],
     vars: usize,
     steps: &[Step],
 ) -> Result<Json, AllocError>
-    ensures { IfOk result (λ v. view v ≡ list_json (map (step_json params.now vars) steps.now)) }
+    ensures json { IfOk result (λ v. view v
+        ≡ list_json (map (step_json params.now vars) steps.now)) }
+    ensures bits { IfOk result (λ _. All StepHasBits steps.now) }
 {
     let mut items = Vec::with_capacity(alloc, steps.len())?;
     for step in steps {

@@ -15,6 +15,7 @@ use Rattle.ba_comply.specs.declared.trace.TraceEntry.{TraceEntry}
 use Rattle.ba_direct.specs.Cover.{AlwaysStrong, Covered, IsCover}
 use Rattle.ba_direct.specs.declared.covers.Cover.{Cover}
 use Rattle.ba_general.specs.Generals.{IsOfQuestion}
+use Rattle.ba_settle.proofs.SettledLemmas.{leaf_problem, proof_problem}
 use Rattle.ba_settle.specs.Dues.{IsLeaf}
 use Rattle.ba_settle.specs.Settling.{Effort, SettledAreLeaves, Settles}
 use Rattle.ba_settle.specs.declared.ends.Leaf.{Leaf}
@@ -108,13 +109,6 @@ refutal_seen policy seen asker query seen_query same same_query leaf it h =
 
 -- ---- how a search ends
 
--- what it was made for
-settled_problem : (effort : Effort) (p : Problem) (leaf : Leaf) → Settles effort p (settled.Saturated leaf) → leaf.problem ≡ p
-settled_problem effort p leaf h = h.1.problem_is
-
-proved_problem : (effort : Effort) (p : Problem) (proof : Proof) → Settles effort p (settled.Proved proof) → proof.problem ≡ p
-proved_problem effort p proof h = h.1.problem_is
-
 module _ (policy : Policy) (asker : Request) (effort : Effort) (query : Query) (problem : Problem) (is : problem ≡ question policy asker query)
     (end : Settled) (ends : Settles effort problem end) where
   pub settles_at : (it : Settled) → end ≡ it → Settles effort (question policy asker query) it
@@ -124,13 +118,13 @@ module _ (policy : Policy) (asker : Request) (effort : Effort) (query : Query) (
   leaf_at leaf e law = law effort (question policy asker query) leaf (settles_at (settled.Saturated leaf) e)
 
   pub problem_at : (leaf : Leaf) → end ≡ settled.Saturated leaf → leaf.problem ≡ question policy asker query
-  problem_at leaf e = settled_problem effort (question policy asker query) leaf (settles_at (settled.Saturated leaf) e)
+  problem_at leaf e = leaf_problem effort (question policy asker query) leaf (settles_at (settled.Saturated leaf) e)
 
   pub proved_at : (proof : Proof) → end ≡ settled.Proved proof → ProblemIsQuestion → QuestionFits policy asker.context asker.trace query → StrongAll proof.problem →
       IsSearched policy asker effort query (Prove proof)
   proved_at proof e law fits strong =
       let it = settles_at (settled.Proved proof) e in
-      (it, law policy asker.context asker.trace query fits.context (subst StrongAll (proved_problem effort (question policy asker query) proof it) strong))
+      (it, law policy asker.context asker.trace query fits.context (subst StrongAll (proof_problem effort (question policy asker query) proof it) strong))
 
 -- ---- templates
 
@@ -269,7 +263,7 @@ module _ (policy : Policy) (asker : Request) (effort : Effort) (query : Query) w
 
   -- its problem is the question's
   pub shown_problem : (proof : Proof) (old new : Passes) → Weighed (Ok (Prove proof)) old new → proof.problem ≡ question policy asker query
-  shown_problem proof old new (made, shown, makes) = proved_problem effort (question policy asker query) proof shown.proved
+  shown_problem proof old new (made, shown, makes) = proof_problem effort (question policy asker query) proof shown.proved
 
   pub shown_of_question : QuestionFits policy asker.context asker.trace query → (proof : Proof) (old new : Passes) → Weighed (Ok (Prove proof)) old new → IsOfQuestion proof.problem
   shown_of_question fits proof old new h =
@@ -285,7 +279,7 @@ module _ (policy : Policy) (asker : Request) (effort : Effort) (query : Query) w
   ground_shown proof made shown calls (by.Template shard id template it) h = absurd h
   ground_shown proof made shown calls (by.Proof taken keeping) (same, kept_is) =
       let here : proof ≡ record { problem = question policy asker query; steps = taken } =
-      λ i. record { problem = proved_problem effort (question policy asker query) proof shown.proved i; steps = sym same i } in
+      λ i. record { problem = proof_problem effort (question policy asker query) proof shown.proved i; steps = sym same i } in
       record {
         uncovered = shown.uncovered;
         found = shown.found;
@@ -308,7 +302,7 @@ module _ (policy : Policy) (asker : Request) (effort : Effort) (query : Query) w
   judges_proved proof old between (made, shown, makes) basis new (calls, told, more) = (
     on_shelf query (look_at query shown.found ∷ calls),
     (ground_shown proof made shown calls basis told, shown.compliant),
-    both_made proof made shown calls old between new makes (subst (λ (p : Problem). Makes (on_shelf p.goal calls) between new) (proved_problem effort (question policy asker query) proof shown.proved) more),
+    both_made proof made shown calls old between new makes (subst (λ (p : Problem). Makes (on_shelf p.goal calls) between new) (proof_problem effort (question policy asker query) proof shown.proved) more),
   )
 
   -- ---- other grounds

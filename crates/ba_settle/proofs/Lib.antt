@@ -1,3 +1,4 @@
 pub mod OrderLemmas
 mod PickLemmas
 pub mod SearchLemmas
+pub mod SettledLemmas

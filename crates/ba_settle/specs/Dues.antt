@@ -10,6 +10,7 @@ use Rattle.ba_kernel.specs.declared.problem.Problem.{Problem}
 use Rattle.ba_kernel.specs.declared.step.Step.{Step}
 use Rattle.ba_settle.specs.Order.{pick_cmp}
 use Rattle.ba_settle.specs.declared.order.Pick.{Pick}
+use Rattle.ba_settle.specs.declared.order.Pick.TheVariants.{Last}
 use Rattle.ba_settle.specs.declared.ends.Leaf.{Leaf}
 use Rattle.ba_settle.specs.declared.ends.Settled.{Settled}
 use Rattle.ba_settle.specs.declared.ends.Settled.TheVariants.{Proved, Saturated, Spent}
@@ -60,6 +61,10 @@ pub data DueList (pick : Pick) (p : Problem) : List Step → Slots → Type 0 wh
   start : {slots : Slots} → IsStart p slots → DueList pick p [] slots
   next : {taken : List Step} {step : Step} {old new : Slots} → DueList pick p taken old →
       IsPicked pick p old step → Takes p old step new → DueList pick p (taken ++ step ∷ []) new
+
+-- A late due list: at each time the last of all due steps is taken, and not the first.
+abbrev pub LateDueList : Problem → List Step → Slots → Type 0
+LateDueList p taken slots = DueList Last p taken slots
 
 -- A due list, before each step of which every open branch has a new step.
 pub data Searches (pick : Pick) (p : Problem) : List Step → Slots → Type 0 where

@@ -1,6 +1,6 @@
 //! What holds of every search, stated as functions that do nothing.
 ghost use Rattle.ba_settle.specs.Dues.{DueListsAreOne, EndsAreLeaves, PickedIsOne, SearchesAreDue};
-ghost use Rattle.ba_settle.specs.Settling.{SettledAreLeaves};
+ghost use Rattle.ba_settle.specs.Settling.{SettledAreDue, SettledAreLeaves};
 
 /// A leaf that a search ends at is one: its steps are accepted from its problem's start, and leave
 /// its branch, on which no step is new.
@@ -27,4 +27,10 @@ pub fn due_lists_are_one()
 /// A leaf that a search ends at is one, however it is made.
 pub fn settled_are_leaves()
     ensures { SettledAreLeaves }
+{}
+
+/// The steps that a search tells are a due list of its problem; or else a late one, where it is made
+/// in both orders and doesn't spend its budget.
+pub fn settled_are_due()
+    ensures { SettledAreDue }
 {}

@@ -10,7 +10,8 @@ use std::alloc::{AllocError, Global};
 
 /// What ends a search for a proof. Threads share it, so it keeps nothing between two searches.
 pub trait Settle {
-    /// In how many orders of due steps it searches side by side.
+    /// In how many orders of due steps it searches side by side: in one, in which the first due step
+    /// is taken, or in two, in the other of which it is the last.
     ghost orders: { Self → ℕ };
 
     /// Searches for a proof of the problem, in each order by at most so many due steps, and says how

@@ -153,7 +153,7 @@ module _ (p : Problem) where
 
 -- ---- atoms of a condition
 
-numbers_equal : (n m : ℕ) → (n == m) ≡ true → n ≡ m
+pub numbers_equal : (n m : ℕ) → (n == m) ≡ true → n ≡ m
 numbers_equal n m e = grind (arith, nat_tests)
 
 equal_numbers : (n : ℕ) → (n == n) ≡ true

@@ -9,3 +9,5 @@ pub mod JsonLemmas
 pub mod PrintLemmas
 pub mod ReadBackLemmas
 pub mod WriteLemmas
+pub mod QuerySaid
+pub mod LineSaid

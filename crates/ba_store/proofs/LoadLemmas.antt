@@ -41,7 +41,7 @@ use Rattle.ba_store.specs.declared.fault.LineFault.TheVariants.{Field}
 use Rattle.ba_store.specs.declared.fault.StoreField.{StoreField}
 use Rattle.ba_store.specs.declared.fault.StoreField.TheVariants as field
 
-ok_same : {A F : Type 0} (x y : A) → ◌≡◌ {A = Result A F} (Ok x) (Ok y) → x ≡ y
+pub ok_same : {A F : Type 0} (x y : A) → ◌≡◌ {A = Result A F} (Ok x) (Ok y) → x ≡ y
 ok_same x y e = cc e
 
 pub widened_ok : {A F G : Type 0} (into : F → G) (r : Result A F) (x : A) → widened into r ≡ Ok x → r ≡ Ok x
@@ -75,7 +75,7 @@ checked_is it schema params vars parts q e =
     let h = wide_enough (is_query schema (kinds_of params) vars parts) (Ok (query_with parts)) it q e in
     subst (IsQuery schema (kinds_of params) vars) (ok_same (query_with parts) q h.1) (tests_query schema (kinds_of params) vars parts h.0)
 
-query_is : (it : StoreField) (schema : Schema) (params : List Parameter) (vars : List Kind) (d : Data) (q : Query) → query_at it schema params vars d ≡ Ok q
+pub query_is : (it : StoreField) (schema : Schema) (params : List Parameter) (vars : List Kind) (d : Data) (q : Query) → query_at it schema params vars d ≡ Ok q
     → IsQuery schema (kinds_of params) vars q
 unfolding query_at
 query_is it schema params vars d q e =
@@ -127,7 +127,7 @@ module _ (p : Problem) where
   form_is (member k a (member l b no_members)) entry e = entry_is a b entry (wide_enough _ (entry_of p.policy.schema p.policy.params p.vars a b) field.Entries entry e).1
   form_is (member k a (member l b (member m c more))) entry e = cc e
 
-  entry_fits : (d : Data) (entry : ProblemEntry) → entry_at p.policy.schema p.policy.params p.vars d ≡ Ok entry → EntryFits p entry
+  pub entry_fits : (d : Data) (entry : ProblemEntry) → entry_at p.policy.schema p.policy.params p.vars d ≡ Ok entry → EntryFits p entry
   entry_fits d entry e =
       let ms = bound (or_bad field.Entries (as_object d)) (entry_form p.policy.schema p.policy.params p.vars) entry e in
       form_is ms.0 entry ms.2
@@ -145,7 +145,7 @@ module _ (p : Problem) where
 
   -- ---- the condition
 
-  assumed_fits : (d : Data) (atom : Atom) → assumed_at p.policy.schema p.policy.params p.vars d ≡ Ok atom → AtomFits p.policy.schema (kinds_of p.policy.params) p.vars [] atom
+  pub assumed_fits : (d : Data) (atom : Atom) → assumed_at p.policy.schema p.policy.params p.vars d ≡ Ok atom → AtomFits p.policy.schema (kinds_of p.policy.params) p.vars [] atom
   assumed_fits d atom e =
       let it = bound _ (if_assumed p.policy.schema p.policy.params p.vars) atom e in
       let h = wide_enough (is_assumed p.policy.schema (kinds_of p.policy.params) p.vars it.0) (Ok it.0) field.Condition atom it.2 in
@@ -185,13 +185,13 @@ record IsAsked (policy : Policy) (p : Problem) : Type 0 where
   stands : vars_stand p ≡ true
 
 -- the readings behind the first ones
-abbrev then_entries : Policy → Data → List Kind → Query → Result Problem StoreField
+abbrev pub then_entries : Policy → Data → List Kind → Query → Result Problem StoreField
 then_entries policy d vars goal = entries_of policy.schema policy.params vars (get (codes "entries") d) >>= λ entries. if_vars_stand (problem_with policy vars [] entries goal)
 
-abbrev then_goal : Policy → Data → List Kind → Result Problem StoreField
+abbrev pub then_goal : Policy → Data → List Kind → Result Problem StoreField
 then_goal policy d vars = goal_at policy.schema policy.params vars (get (codes "goal") d) >>= then_entries policy d vars
 
-abbrev then_vars : Policy → Data → Result Problem StoreField
+abbrev pub then_vars : Policy → Data → Result Problem StoreField
 then_vars policy d = vars_at policy.params (get (codes "vars") d) >>= then_goal policy d
 
 asked_is : (policy : Policy) (d : Data) (p : Problem) → asked_at policy d ≡ Ok p → IsAsked policy p
@@ -248,16 +248,16 @@ under_condition policy p assumed all h atoms few =
     (vars_is q (subst (λ it. vars_stand it ≡ true) h.is h.stands))
     (subst (λ (it : Problem). All (AtomFits it.policy.schema (kinds_of it.policy.params) it.vars []) assumed) h.is atoms) few)
 
-abbrev then_keys : Members → Problem → List Step → Result Proof StoreField
+abbrev pub then_keys : Members → Problem → List Step → Result Proof StoreField
 then_keys ms problem steps = keys_at ms >>= λ keys. Ok (draft_with problem steps)
 
-abbrev then_steps : Policy → Data → Members → Problem → Result Proof StoreField
+abbrev pub then_steps : Policy → Data → Members → Problem → Result Proof StoreField
 then_steps policy d ms problem = steps_at policy.params (length problem.vars) (get (codes "steps") d) >>= then_keys ms problem
 
-abbrev then_condition : Policy → Data → Problem → Result Problem StoreField
+abbrev pub then_condition : Policy → Data → Problem → Result Problem StoreField
 then_condition policy d p = condition_at policy.schema policy.params p.vars (get (codes "condition") d) >>= λ assumed. Ok (with_condition p assumed)
 
-fields_pass : (policy : Policy) (d : Data) (ms : Members) (draft : Proof) → fields_of policy d ms ≡ Ok draft → PassesTests policy draft.problem draft.steps
+pub fields_pass : (policy : Policy) (d : Data) (ms : Members) (draft : Proof) → fields_of policy d ms ≡ Ok draft → PassesTests policy draft.problem draft.steps
 unfolding fields_of problem_at
 fields_pass policy d ms draft e =
     let problem = bound (asked_at policy d >>= then_condition policy d) (then_steps policy d ms) draft e in

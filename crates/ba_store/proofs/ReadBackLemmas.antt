@@ -42,7 +42,7 @@ use Rattle.ba_proof.specs.declared.version.TheConstants.{RULE_VERSION}
 use Rattle.ba_store.proofs.FitLemmas.{assumed_said, is_checked, stands_said, vars_said}
 use Rattle.ba_store.proofs.NameLemmas.{below_length, place_is, there_is}
 use Rattle.ba_store.specs.Fits.{is_assumed, row_stands, stands_for, vars_stand}
-use Rattle.ba_store.specs.ReadBack.{AtomSpells, EntrySpells, IsNamedApart, OperandSpells, PartSpells, QuerySpells, TemplateSpells}
+use Rattle.ba_store.specs.ReadBack.{AtomHasBits, EntryHasBits, IsNamedApart, OperandHasBits, PartHasBits, QueryHasBits, TemplateHasBits}
 use Rattle.ba_store.specs.Reading.{asked_at, assumed_at, atom_at, column_at, condition_at, draft_at, draft_with, entries_at, entries_of, entry_at, entry_of, entry_with, fields_of, few_entries, few_steps, few_vars, goal_at, if_assumed, if_stands, is_key, keys_at, kind_at, kind_named, marked_at, operand_at, operand_given, param_at, part_at, part_of, part_with, parts_at, problem_at, problem_with, query_at, steps_at, steps_of, table_at, vars_at, version_at, with_condition}
 use Rattle.ba_store.specs.Shapes.{list_at, number_at, or_bad}
 use Rattle.ba_store.specs.Tests.{PassesTests}
@@ -109,7 +109,7 @@ module _ (params : List Parameter) (apart : AreDistinct (map (λ q. q.name) para
       let p = there_is (λ (q : Parameter). q.name) params n lt in
       rw (name_there params n p.0 p.1, place_is (λ (q : Parameter). q.name) params n p.0 apart p.1 lt bits) refl
 
-  operand_back : (it : StoreField) (x : Operand) → OperandSpells x × IsHere params x → operand_at it params (operand_json params x) ≡ Ok x
+  operand_back : (it : StoreField) (x : Operand) → OperandHasBits x × IsHere params x → operand_at it params (operand_json params x) ≡ Ok x
   unfolding operand_at marked_at column_at
   operand_back it (Col place column) h = rw (number_back it place h.0.0, number_back it column h.0.1) refl
   operand_back it (Val value.Null) h = refl
@@ -119,7 +119,7 @@ module _ (params : List Parameter) (apart : AreDistinct (map (λ q. q.name) para
   operand_back it (Param n) h = param_back it n h.1 h.0
   operand_back it (Var n) h = rw (number_back it n h.0) refl
 
-  atom_back : (it : StoreField) (atom : Atom) → AtomSpells atom × AreHere params atom → atom_at it params (atom_json params atom) ≡ Ok atom
+  atom_back : (it : StoreField) (atom : Atom) → AtomHasBits atom × AreHere params atom → atom_at it params (atom_json params atom) ≡ Ok atom
   unfolding atom_at atom_json
   atom_back it atom h = rw (op_reads atom.op, operand_back it atom.left (h.0.left, h.1.0), operand_back it atom.right (h.0.right, h.1.1)) refl
 
@@ -146,15 +146,15 @@ module _ (s : Schema) (params : List Parameter) (apart : AreDistinct (map (λ q.
   unfolding part_of
   part_made it a b c from conds head x y z = rw (x, y, z) refl
 
-  part_back : (it : StoreField) (part : Part) → PartSpells part × PartIsHere part → part_at it s params (part_json s params part) ≡ Ok part
+  part_back : (it : StoreField) (part : Part) → PartHasBits part × PartIsHere part → part_at it s params (part_json s params part) ≡ Ok part
   unfolding part_json
   part_back it part h =
       part_made it (list_json (map (atom_json params) part.conds)) (list_json (map (table_json s) part.from)) (list_json (map (operand_json params) part.head)) part.from part.conds part.head
-      (items_back it (atom_at it params) (atom_json params) (λ x. AtomSpells x × AreHere params x) (atom_back params apart it) part.conds
-      (pair_all AtomSpells (AreHere params) part.conds (recursion_from_All AtomSpells part.conds h.0.conds) h.1.conds))
+      (items_back it (atom_at it params) (atom_json params) (λ x. AtomHasBits x × AreHere params x) (atom_back params apart it) part.conds
+      (pair_all AtomHasBits (AreHere params) part.conds (recursion_from_All AtomHasBits part.conds h.0.conds) h.1.conds))
       (items_back it (table_at it s) (table_json s) (λ t. IsShort t × IsTable t) (table_back it) part.from (pair_all IsShort IsTable part.from (recursion_from_All IsShort part.from h.0.from) h.1.from))
-      (items_back it (operand_at it params) (operand_json params) (λ x. OperandSpells x × IsHere params x) (operand_back params apart it) part.head
-      (pair_all OperandSpells (IsHere params) part.head (recursion_from_All OperandSpells part.head h.0.head) h.1.head))
+      (items_back it (operand_at it params) (operand_json params) (λ x. OperandHasBits x × IsHere params x) (operand_back params apart it) part.head
+      (pair_all OperandHasBits (IsHere params) part.head (recursion_from_All OperandHasBits part.head h.0.head) h.1.head))
 
   module _ (vars : List Kind) where
     atom_here : (from : List ℕ) (atom : Atom) → AtomFits s (kinds_of params) vars from atom → AreHere params atom
@@ -181,18 +181,30 @@ module _ (s : Schema) (params : List Parameter) (apart : AreDistinct (map (λ q.
           head = head_here part.from part.head kinds h.head;
         }
 
-    parts_back : (it : StoreField) (q : Query) → IsQuery s (kinds_of params) vars q → QuerySpells q → parts_at it s params (query_json s params q) ≡ Ok q.parts
+    parts_back : (it : StoreField) (q : Query) → IsQuery s (kinds_of params) vars q → QueryHasBits q → parts_at it s params (query_json s params q) ≡ Ok q.parts
     unfolding query_json
     parts_back it q fits h =
-        items_back it (part_at it s params) (part_json s params) (λ part. PartSpells part × PartIsHere part) (part_back it) q.parts
-        (pair_all PartSpells PartIsHere q.parts (recursion_from_All PartSpells q.parts h.parts)
+        items_back it (part_at it s params) (part_json s params) (λ part. PartHasBits part × PartIsHere part) (part_back it) q.parts
+        (pair_all PartHasBits PartIsHere q.parts (recursion_from_All PartHasBits q.parts h.parts)
         (weaker (PartFits s (kinds_of params) vars fits.fits.kinds) PartIsHere (part_here fits.fits.kinds) q.parts (recursion_from_All (PartFits s (kinds_of params) vars fits.fits.kinds) q.parts fits.fits.parts)))
 
-    pub query_back : (it : StoreField) (q : Query) → IsQuery s (kinds_of params) vars q → QuerySpells q → query_at it s params vars (query_json s params q) ≡ Ok q
+    pub query_back : (it : StoreField) (q : Query) → IsQuery s (kinds_of params) vars q → QueryHasBits q → query_at it s params vars (query_json s params q) ≡ Ok q
     unfolding query_at
     query_back it q fits h = rw (parts_back it q fits h) (is_checked it s params vars q.parts q fits refl)
 
 -- ---- the fields of a template
+
+-- the row of an entry that fits may stand for its query's head
+pub entry_stands : (p : Problem) (entry : ProblemEntry) → EntryFits p entry → row_stands p.policy.schema (kinds_of p.policy.params) p.vars entry.query entry.row ≡ true
+entry_stands p entry fits = by (slice_get entry.query.parts 0) refl
+  where
+    none_first : (parts : List Part) → slice_get parts 0 ≡ None → parts ≡ []
+    none_first [] e = refl
+    none_first (part ∷ parts) e = cc e
+
+    by : (first : Option Part) → slice_get entry.query.parts 0 ≡ first → stands_for p.policy.schema (kinds_of p.policy.params) p.vars first entry.row ≡ true
+    by None e = absurd (fits.query.fits.some_part (none_first entry.query.parts e))
+    by (Some part) e = stands_said p part.from part.head entry.row (stands_from_entry p entry part e fits)
 
 module _ (p : Problem) (apart : IsNamedApart p.policy) where
   abbrev schema : Schema
@@ -213,32 +225,21 @@ module _ (p : Problem) (apart : IsNamedApart p.policy) where
     row_here kinds row z.1,
   )
 
-  entry_stands : (entry : ProblemEntry) → EntryFits p entry → row_stands schema (kinds_of params) p.vars entry.query entry.row ≡ true
-  entry_stands entry fits = by (slice_get entry.query.parts 0) refl
-    where
-      none_first : (parts : List Part) → slice_get parts 0 ≡ None → parts ≡ []
-      none_first [] e = refl
-      none_first (part ∷ parts) e = cc e
-
-      by : (first : Option Part) → slice_get entry.query.parts 0 ≡ first → stands_for schema (kinds_of params) p.vars first entry.row ≡ true
-      by None e = absurd (fits.query.fits.some_part (none_first entry.query.parts e))
-      by (Some part) e = stands_said p part.from part.head entry.row (stands_from_entry p entry part e fits)
-
   entry_made : (a b : Data) (q : Query) (row : List Operand) → query_at field.Entries schema params p.vars a ≡ Ok q → (list_at field.Entries b >>= each (operand_at field.Entries params)) ≡ Ok row
       → row_stands schema (kinds_of params) p.vars q row ≡ true → entry_of schema params p.vars a b ≡ Ok (entry_with q row)
   unfolding entry_of
   entry_made a b q row x y z = rw (x, y, z) refl
 
-  entry_back : (entry : ProblemEntry) → EntryFits p entry × EntrySpells entry → entry_at schema params p.vars (entry_json schema params entry) ≡ Ok entry
+  entry_back : (entry : ProblemEntry) → EntryFits p entry × EntryHasBits entry → entry_at schema params p.vars (entry_json schema params entry) ≡ Ok entry
   unfolding entry_json
   entry_back entry h =
       entry_made (query_json schema params entry.query) (list_json (map (operand_json params) entry.row)) entry.query entry.row
       (query_back schema params apart.params apart.tables p.vars field.Entries entry.query h.0.query h.1.query)
-      (items_back field.Entries (operand_at field.Entries params) (operand_json params) (λ x. OperandSpells x × IsHere params x) (operand_back params apart.params field.Entries) entry.row
-      (pair_all OperandSpells (IsHere params) entry.row (recursion_from_All OperandSpells entry.row h.1.row) (row_here h.0.query.fits.kinds entry.row h.0.row)))
-      (entry_stands entry h.0)
+      (items_back field.Entries (operand_at field.Entries params) (operand_json params) (λ x. OperandHasBits x × IsHere params x) (operand_back params apart.params field.Entries) entry.row
+      (pair_all OperandHasBits (IsHere params) entry.row (recursion_from_All OperandHasBits entry.row h.1.row) (row_here h.0.query.fits.kinds entry.row h.0.row)))
+      (entry_stands p entry h.0)
 
-  assumed_back : (atom : Atom) → AtomFits schema (kinds_of params) p.vars [] atom × AtomSpells atom → assumed_at schema params p.vars (atom_json params atom) ≡ Ok atom
+  assumed_back : (atom : Atom) → AtomFits schema (kinds_of params) p.vars [] atom × AtomHasBits atom → assumed_at schema params p.vars (atom_json params atom) ≡ Ok atom
   assumed_back atom h =
       rw (
         atom_back params apart.params field.Condition atom (h.1, (kind_here schema params p.vars [] atom.left h.0.kind h.0.left_is, kind_here schema params p.vars [] atom.right h.0.kind h.0.right_is)),
@@ -263,26 +264,26 @@ module _ (p : Problem) (apart : IsNamedApart p.policy) where
       le-leb _ most_operands (subst (λ n. n + length params ≤ most_operands) (sym (length_map kind_json p.vars)) few) in
       rw (items_are (map kind_json p.vars), small) (kinds_back p.vars)
 
-  goal_back : IsQuery schema (kinds_of params) p.vars p.goal → QuerySpells p.goal → goal_at schema params p.vars (Some (query_json schema params p.goal)) ≡ Ok p.goal
+  goal_back : IsQuery schema (kinds_of params) p.vars p.goal → QueryHasBits p.goal → goal_at schema params p.vars (Some (query_json schema params p.goal)) ≡ Ok p.goal
   unfolding goal_at
   goal_back fits h = query_back schema params apart.params apart.tables p.vars field.Goal p.goal fits h
 
-  entries_back : All (EntryFits p) p.entries → All EntrySpells p.entries → length p.entries ≤ most_entries
+  entries_back : All (EntryFits p) p.entries → All EntryHasBits p.entries → length p.entries ≤ most_entries
       → entries_of schema params p.vars (Some (list_json (map (entry_json schema params) p.entries))) ≡ Ok p.entries
   unfolding entries_of
   entries_back fit h few =
       let small : nat_le (length (map (entry_json schema params) p.entries)) most_entries ≡ true =
       le-leb _ most_entries (subst (λ n. n ≤ most_entries) (sym (length_map (entry_json schema params) p.entries)) few) in
       rw (items_are (map (entry_json schema params) p.entries), small)
-      (each_back (entry_at schema params p.vars) (entry_json schema params) (λ x. EntryFits p x × EntrySpells x) entry_back p.entries
-      (pair_all (EntryFits p) EntrySpells p.entries (recursion_from_All (EntryFits p) p.entries fit) (recursion_from_All EntrySpells p.entries h)))
+      (each_back (entry_at schema params p.vars) (entry_json schema params) (λ x. EntryFits p x × EntryHasBits x) entry_back p.entries
+      (pair_all (EntryFits p) EntryHasBits p.entries (recursion_from_All (EntryFits p) p.entries fit) (recursion_from_All EntryHasBits p.entries h)))
 
-  condition_back : All (AtomFits schema (kinds_of params) p.vars []) p.assumed → All AtomSpells p.assumed
+  condition_back : All (AtomFits schema (kinds_of params) p.vars []) p.assumed → All AtomHasBits p.assumed
       → condition_at schema params p.vars (Some (list_json (map (atom_json params) p.assumed))) ≡ Ok p.assumed
   unfolding condition_at
   condition_back fit h =
-      items_back field.Condition (assumed_at schema params p.vars) (atom_json params) (λ x. AtomFits schema (kinds_of params) p.vars [] x × AtomSpells x) assumed_back p.assumed
-      (pair_all (AtomFits schema (kinds_of params) p.vars []) AtomSpells p.assumed (recursion_from_All (AtomFits schema (kinds_of params) p.vars []) p.assumed fit) (recursion_from_All AtomSpells p.assumed h))
+      items_back field.Condition (assumed_at schema params p.vars) (atom_json params) (λ x. AtomFits schema (kinds_of params) p.vars [] x × AtomHasBits x) assumed_back p.assumed
+      (pair_all (AtomFits schema (kinds_of params) p.vars []) AtomHasBits p.assumed (recursion_from_All (AtomFits schema (kinds_of params) p.vars []) p.assumed fit) (recursion_from_All AtomHasBits p.assumed h))
 
   -- steps by rules are allowed
   versions : (all : List Step) → AllByRecursion (HasVersion RULE_VERSION) all
@@ -322,10 +323,11 @@ module _ (p : Problem) (apart : IsNamedApart p.policy) where
   unfolding version_at
   version_back = refl
 
-  pub template_back : (all : List Step) → PassesTests p.policy p all → TemplateSpells p all → draft_at p.policy (template_json p all) ≡ Ok (draft_with p all)
+  pub template_back : (all : List Step) → PassesTests p.policy p all → TemplateHasBits p all → All (StepSpells params (length p.vars)) all
+      → draft_at p.policy (template_json p all) ≡ Ok (draft_with p all)
   unfolding template_json
-  template_back all tests h =
+  template_back all tests h spelled =
       let asked = asked_made (template_json p all) version_back (vars_back tests.few_vars) (goal_back tests.formed.goal h.goal) (entries_back tests.formed.entries h.entries tests.few_entries)
       (vars_said (problem_with p.policy p.vars [] p.entries p.goal) (record { stands = tests.stands.stands })) in
       ap (widened line.Field)
-      (fields_made (template_json p all) _ all asked (condition_back tests.formed.assumed h.condition) (steps_back all h.steps tests.few_steps) (keys_back _ _ _ _ _ _))
+      (fields_made (template_json p all) _ all asked (condition_back tests.formed.assumed h.condition) (steps_back all spelled tests.few_steps) (keys_back _ _ _ _ _ _))

@@ -11,18 +11,15 @@ use Rattle.serde_json.specs.Read.{max_depth, read}
 use Rattle.serde_json.specs.Written.{compact_text, has_float}
 use Rattle.ba_model.specs.Limits.{most_operands, most_templates}
 use Rattle.ba_model.specs.declared.policy.Policy.{Policy}
-use Rattle.ba_kernel.specs.Replays.{Closes}
-use Rattle.ba_kernel.specs.SearchStates.{IsProved, Proof}
-use Rattle.ba_kernel.specs.declared.problem.Problem.{Problem}
-use Rattle.ba_kernel.specs.declared.step.Step.{Step}
+use Rattle.ba_kernel.specs.SearchStates.{Proof}
 use Rattle.ba_template.specs.Templates.{IsTemplate}
-use Rattle.ba_script.specs.Lines.{script_lines}
+use Rattle.ba_proof.proofs.SpellLemmas.{steps_spell}
 use Rattle.ba_store.proofs.JsonLemmas.{template_shallow, template_whole}
 use Rattle.ba_store.proofs.PrintLemmas.{line_first, text_inner}
 use Rattle.ba_store.proofs.ReadBackLemmas.{template_back}
 use Rattle.ba_store.proofs.TextLemmas.{text_reads}
 use Rattle.ba_store.specs.Loads.{IsLineOf, few, lines_of}
-use Rattle.ba_store.specs.ReadBack.{HasText, IsNamedApart, IsWritable, ReadsBack}
+use Rattle.ba_store.specs.ReadBack.{HasText, IsNamedApart, IsWritable, ReadsBack, TemplateHasBits}
 use Rattle.ba_store.specs.Reading.{draft_at, draft_of, draft_with}
 use Rattle.ba_store.specs.Tests.{PassesTests}
 use Rattle.ba_store.specs.Written.{json_text, line_of, template_json, text_of}
@@ -33,16 +30,30 @@ module _ (it : Proof) (d : Data) (bytes : List ℕ) (made : d ≡ template_json 
   pub text_is : (has_float d ≡ false → bytes ≡ compact_text d) → bytes ≡ json_text it
   text_is writes = writes (ap has_float made ∙ template_whole it.problem it.steps) ∙ ap compact_text made
 
-  pub has_text : IsTemplate it.problem it.steps → IsUtf8 bytes → (has_float d ≡ false → bytes ≡ compact_text d) → (depth d ≤ max_depth → read bytes ≡ Some d) → HasText it
-  has_text template utf8 writes reading =
+  pub has_text : IsTemplate it.problem it.steps → TemplateHasBits it.problem it.steps → IsUtf8 bytes → (has_float d ≡ false → bytes ≡ compact_text d)
+      → (depth d ≤ max_depth → read bytes ≡ Some d) → HasText it
+  has_text template bits utf8 writes reading =
       let is = text_is writes in
       record {
         utf8 = subst IsUtf8 is utf8;
         reads = ap read (sym is) ∙ reading (subst (λ x. depth x ≤ max_depth) (sym made) (template_shallow it.problem it.steps)) ∙ ap Some made;
-        closes = record { slots = template.proved.slots; runs = template.proved.runs; closed = template.proved.closed };
+        template = template;
+        bits = bits;
       }
 
 -- ---- the file
+
+-- a template passes the tests of its policy
+own_tests : (policy : Policy) (it : Proof) → IsWritable policy it → IsTemplate it.problem it.steps → PassesTests it.problem.policy it.problem it.steps
+own_tests policy it w template =
+    record {
+      of_policy = refl;
+      formed = record { entries = template.fits.entries; assumed = template.fits.assumed; goal = template.fits.goal };
+      few_vars = subst (λ (x : Policy). length it.problem.vars + length x.params ≤ most_operands) (sym w.of_policy) w.few_vars;
+      stands = template.stands;
+      few_entries = w.few_entries;
+      few_steps = template.proved.few;
+    }
 
 -- each line is its template
 line_is : (policy : Policy) → IsNamedApart policy → (it : Proof) → IsWritable policy it → HasText it → IsLineOf policy (json_text it) it
@@ -50,21 +61,11 @@ line_is policy apart it w h =
     record {
       says =
           text_reads policy (json_text it) (template_json it.problem it.steps) h.utf8 h.reads
-          ∙ subst (λ (x : Policy). draft_at x (template_json it.problem it.steps) ≡ Ok (draft_with it.problem it.steps)) w.tests.of_policy
-          (template_back it.problem (subst IsNamedApart (sym w.tests.of_policy) apart) it.steps (own w.tests) w.spells);
-      closes = h.closes;
+          ∙ subst (λ (x : Policy). draft_at x (template_json it.problem it.steps) ≡ Ok (draft_with it.problem it.steps)) w.of_policy
+          (template_back it.problem (subst IsNamedApart (sym w.of_policy) apart) it.steps (own_tests policy it w h.template) h.bits
+          (steps_spell it.problem h.template.fits h.template.proved.runs h.bits.steps));
+      closes = record { slots = h.template.proved.slots; runs = h.template.proved.runs; closed = h.template.proved.closed };
     }
-  where
-    own : PassesTests policy it.problem it.steps → PassesTests it.problem.policy it.problem it.steps
-    own t =
-        record {
-          of_policy = refl;
-          formed = t.formed;
-          few_vars = subst (λ (x : Policy). length it.problem.vars + length x.params ≤ most_operands) (sym t.of_policy) t.few_vars;
-          stands = t.stands;
-          few_entries = t.few_entries;
-          few_steps = t.few_steps;
-        }
 
 each_line : (policy : Policy) → IsNamedApart policy → (templates : List Proof) → AllByRecursion (IsWritable policy) templates → AllByRecursion HasText templates
     → AllZip (IsLineOf policy) (map json_text templates) templates

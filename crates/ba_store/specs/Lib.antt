@@ -2,6 +2,7 @@ pub mod Shapes
 pub mod Fits
 pub mod Tests
 pub mod Reading
+pub mod Says
 pub mod Loads
 pub mod Outcomes
 pub mod Written

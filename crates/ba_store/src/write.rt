@@ -4,7 +4,8 @@ ghost use Rattle.serde_json.specs.Data.{string};
 ghost use Rattle.serde_json.specs.View.{view};
 ghost use Rattle.ba_sql_print.specs.Printed.{table_name};
 ghost use Rattle.ba_proof.specs.Written.{count, list_json};
-ghost use Rattle.ba_store.specs.ReadBack.{HasText, ReadsBack};
+ghost use Rattle.ba_proof.specs.ReadBack.{IsShort};
+ghost use Rattle.ba_store.specs.ReadBack.{AtomHasBits, EntryHasBits, HasText, OperandHasBits, PartHasBits, QueryHasBits, ReadsBack, TemplateHasBits};
 ghost use Rattle.ba_store.specs.Written.{atom_json, entry_json, json_text, kind_json, kind_name, line_of, operand_json, part_json, query_json, table_json, template_json, text_of};
 
 use ba_kernel::{Problem, ProblemEntry, Step};
@@ -27,7 +28,8 @@ fn column_json(alloc: Global, place: u32, column: u32) -> Result<Json, AllocErro
 }
 
 fn operand_json(alloc: Global, params: &[Parameter], operand: &Operand) -> Result<Json, AllocError>
-    ensures { IfOk result (λ v. view v ≡ operand_json params.now operand.now) }
+    ensures json { IfOk result (λ v. view v ≡ operand_json params.now operand.now) }
+    ensures bits { IfOk result (λ _. OperandHasBits operand.now) }
 {
     match operand {
         Operand::Col(place, column) => column_json(alloc, *place, *column),
@@ -45,7 +47,9 @@ fn operands_json(
     params: &[Parameter],
     operands: &[Operand],
 ) -> Result<Json, AllocError>
-    ensures { IfOk result (λ v. view v ≡ list_json (map (operand_json params.now) operands.now)) }
+    ensures json { IfOk result (λ v. view v
+        ≡ list_json (map (operand_json params.now) operands.now)) }
+    ensures bits { IfOk result (λ _. All OperandHasBits operands.now) }
 {
     let mut items = Vec::with_capacity(alloc, operands.len())?;
     for operand in operands {
@@ -56,7 +60,8 @@ fn operands_json(
 
 #[tactic(auto, unfolding(crate::specs::Written::atom_json))]
 fn atom_json(alloc: Global, params: &[Parameter], atom: &Atom) -> Result<Json, AllocError>
-    ensures { IfOk result (λ v. view v ≡ atom_json params.now atom.now) }
+    ensures json { IfOk result (λ v. view v ≡ atom_json params.now atom.now) }
+    ensures bits { IfOk result (λ _. AtomHasBits atom.now) }
 {
     let mut items = Vec::with_capacity(alloc, 3)?;
     items.push(Json::try_from_str(alloc, op_name(atom.op))?)?;
@@ -66,7 +71,8 @@ fn atom_json(alloc: Global, params: &[Parameter], atom: &Atom) -> Result<Json, A
 }
 
 fn atoms_json(alloc: Global, params: &[Parameter], atoms: &[Atom]) -> Result<Json, AllocError>
-    ensures { IfOk result (λ v. view v ≡ list_json (map (atom_json params.now) atoms.now)) }
+    ensures json { IfOk result (λ v. view v ≡ list_json (map (atom_json params.now) atoms.now)) }
+    ensures bits { IfOk result (λ _. All AtomHasBits atoms.now) }
 {
     let mut items = Vec::with_capacity(alloc, atoms.len())?;
     for atom in atoms {
@@ -87,7 +93,8 @@ fn table_name(schema: &Schema, table: u32) -> &str
 }
 
 fn tables_json(alloc: Global, schema: &Schema, tables: &[u32]) -> Result<Json, AllocError>
-    ensures { IfOk result (λ v. view v ≡ list_json (map (table_json schema.now) tables.now)) }
+    ensures json { IfOk result (λ v. view v ≡ list_json (map (table_json schema.now) tables.now)) }
+    ensures bits { IfOk result (λ _. All IsShort tables.now) }
 {
     let mut items = Vec::with_capacity(alloc, tables.len())?;
     for table in tables {
@@ -98,8 +105,9 @@ fn tables_json(alloc: Global, schema: &Schema, tables: &[u32]) -> Result<Json, A
 
 #[tactic(auto, unfolding(crate::specs::Written::part_json))]
 fn part_json(alloc: Global, policy: &Policy, part: &Part) -> Result<Json, AllocError>
-    ensures { IfOk result (λ v. view v
+    ensures json { IfOk result (λ v. view v
         ≡ part_json policy.now.schema policy.now.params part.now) }
+    ensures bits { IfOk result (λ _. PartHasBits part.now) }
 {
     let params = policy.params.as_slice();
     let mut members = Map::new(alloc);
@@ -113,8 +121,9 @@ fn part_json(alloc: Global, policy: &Policy, part: &Part) -> Result<Json, AllocE
 }
 
 fn parts_json(alloc: Global, policy: &Policy, parts: &[Part]) -> Result<Json, AllocError>
-    ensures { IfOk result (λ v. view v
+    ensures json { IfOk result (λ v. view v
         ≡ list_json (map (part_json policy.now.schema policy.now.params) parts.now)) }
+    ensures bits { IfOk result (λ _. All PartHasBits parts.now) }
 {
     let mut items = Vec::with_capacity(alloc, parts.len())?;
     for part in parts {
@@ -125,8 +134,9 @@ fn parts_json(alloc: Global, policy: &Policy, parts: &[Part]) -> Result<Json, Al
 
 #[tactic(auto, unfolding(crate::specs::Written::query_json))]
 fn query_json(alloc: Global, policy: &Policy, query: &Query) -> Result<Json, AllocError>
-    ensures { IfOk result (λ v. view v
+    ensures json { IfOk result (λ v. view v
         ≡ query_json policy.now.schema policy.now.params query.now) }
+    ensures bits { IfOk result (λ _. QueryHasBits query.now) }
 {
     let mut members = Map::new(alloc);
     let parts = parts_json(alloc, policy, query.parts.as_slice())?;
@@ -136,8 +146,9 @@ fn query_json(alloc: Global, policy: &Policy, query: &Query) -> Result<Json, All
 
 #[tactic(auto, unfolding(crate::specs::Written::entry_json))]
 fn entry_json(alloc: Global, policy: &Policy, entry: &ProblemEntry) -> Result<Json, AllocError>
-    ensures { IfOk result (λ v. view v
+    ensures json { IfOk result (λ v. view v
         ≡ entry_json policy.now.schema policy.now.params entry.now) }
+    ensures bits { IfOk result (λ _. EntryHasBits entry.now) }
 {
     let mut members = Map::new(alloc);
     let query = query_json(alloc, policy, &entry.query)?;
@@ -152,8 +163,9 @@ fn entries_json(
     policy: &Policy,
     entries: &[ProblemEntry],
 ) -> Result<Json, AllocError>
-    ensures { IfOk result (λ v. view v
+    ensures json { IfOk result (λ v. view v
         ≡ list_json (map (entry_json policy.now.schema policy.now.params) entries.now)) }
+    ensures bits { IfOk result (λ _. All EntryHasBits entries.now) }
 {
     let mut items = Vec::with_capacity(alloc, entries.len())?;
     for entry in entries {
@@ -183,7 +195,8 @@ fn kinds_json(alloc: Global, kinds: &[Kind]) -> Result<Json, AllocError>
 
 #[tactic(auto, unfolding(crate::specs::Written::template_json))]
 fn template_json(alloc: Global, problem: &Problem, steps: &[Step]) -> Result<Json, AllocError>
-    ensures { IfOk result (λ v. view v ≡ template_json problem.now steps.now) }
+    ensures json { IfOk result (λ v. view v ≡ template_json problem.now steps.now) }
+    ensures bits { IfOk result (λ _. TemplateHasBits problem.now steps.now) }
 {
     let policy: &Policy = &problem.policy;
     let params = policy.params.as_slice();
@@ -202,8 +215,7 @@ fn template_json(alloc: Global, problem: &Problem, steps: &[Step]) -> Result<Jso
     Ok(Json::Object(members))
 }
 
-/// The text of a template, without its line feed, which reads as its JSON. The template's steps close
-/// its problem.
+/// The text of a template, without its line feed, which reads as its JSON.
 fn template_text(alloc: Global, template: &Template) -> Result<String, AllocError>
     ensures text { IfOk result (λ text. string_bytes text ≡ json_text template.now) }
     ensures has { IfOk result (λ _. HasText template.now) }
@@ -240,9 +252,9 @@ fn lines_of(alloc: Global, templates: &[Shared<Template>]) -> Result<Vec<u8>, Al
 /// The file of the templates: the line of each, in order.
 ///
 /// It loads templates of the same content, where they are at most [`ba_model::MAX_TEMPLATES`], of
-/// the policy that it is read for, and pass the tests of variables, entries and steps; whose problems
-/// are well formed, and numbers have their bits; and no two parameters or tables of the policy have
-/// one name. The only error is want of memory, which leaves nothing behind.
+/// the policy that it is read for, and pass the reader's tests of variables, entries and steps; and
+/// no two parameters or tables of the policy have one name, as the readers of policies and schemas
+/// ensure. The only error is want of memory, which leaves nothing behind.
 pub fn write_templates(alloc: Global, templates: &[Shared<Template>]) -> Result<Vec<u8>, AllocError>
     ensures text { IfOk result (λ bytes. bytes.items ≡ text_of templates.now) }
     ensures reads_back { IfOk result (λ bytes. ReadsBack templates.now bytes.items) }

@@ -6,6 +6,7 @@ use Rattle.ba_model.specs.declared.query.Operand.{Operand}
 use Rattle.ba_model.specs.declared.query.Operand.TheVariants.{Var}
 use Rattle.ba_model.specs.declared.query.Part.{Part}
 use Rattle.ba_model.specs.declared.query.Query.{Query}
+use Rattle.ba_kernel.specs.Courses.{ProblemFits}
 use Rattle.ba_kernel.specs.SearchStates.{IsProved}
 use Rattle.ba_kernel.specs.declared.problem.Problem.{Problem}
 use Rattle.ba_kernel.specs.declared.problem.ProblemEntry.{ProblemEntry}
@@ -36,8 +37,9 @@ operands_of_problem p = operands_of p.goal ++ flat_map operands_of_entry p.entri
 pub record EachVarStands (p : Problem) : Type 0 where
   pub stands : (n : ℕ) → n < length p.vars → Contains (operands_of_problem p) (Var n)
 
--- the steps prove the problem: they are at most 100,000, are accepted from its start and leave no branch open, and each instance that meets what is assumed is
--- strongly compliant; and each variable stands in the goal or an entry
+-- The problem is well formed; the steps prove it: they are at most 100,000, are accepted from its start and leave no branch open, and each instance that meets
+-- what is assumed is strongly compliant; and each variable stands in the goal or an entry.
 pub record IsTemplate (p : Problem) (steps : List Step) : Type 0 where
+  pub fits : ProblemFits p
   pub proved : IsProved p steps
   pub stands : EachVarStands p

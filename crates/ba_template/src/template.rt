@@ -1,4 +1,5 @@
 ghost use Rattle.std.specs.Prelude.{◌≡◌, ◌↔◌, IfOk, IsTrue};
+ghost use Rattle.ba_kernel.specs.Courses.{ProblemFits};
 ghost use Rattle.ba_kernel.specs.Problems.{StrongAll};
 ghost use Rattle.ba_template.specs.Shapes.{shape_of};
 ghost use Rattle.ba_template.specs.Templates.{EachVarStands, IsTemplate};
@@ -14,10 +15,11 @@ use std::marker::Model;
 /// literals of the question and of the rows that were shown before it, and a condition on them, its
 /// assumed atoms.
 ///
-/// The type keeps that the steps are at most [`ba_model::MAX_STEPS`], are accepted from the
-/// problem's start and leave no branch open, that under every context and valuation that meet the
-/// condition the question is strongly compliant after its rows, and that each variable stands in the
-/// goal or an entry.
+/// The type keeps that the problem fits: its queries, rows and condition, and what is kept of its
+/// policy, are well formed; that the steps are at most [`ba_model::MAX_STEPS`], are accepted from
+/// the problem's start and leave no branch open; that under every context and valuation that meet
+/// the condition the question is strongly compliant after its rows; and that each variable stands in
+/// the goal or an entry.
 #[derive(Drop)]
 pub struct Template {
     proved: Proved,
@@ -38,10 +40,11 @@ impl Model for Template {
 }
 
 impl Template {
-    /// The template of a proof, each of whose variables stands in the goal or an entry
-    /// ([`crate::each_var_stands`]).
+    /// The template of a proof of a problem that fits, each of whose variables stands in the goal or
+    /// an entry ([`crate::each_var_stands`]).
     pub fn of(alloc: Global, proved: Proved) -> Result<Template, AllocError>
-        requires { EachVarStands proved.problem }
+        requires fits { ProblemFits proved.problem }
+        requires stands { EachVarStands proved.problem }
         ensures { IfOk result (λ it. it ≡ proved) }
     {
         let shape = goal_shape(alloc, &proved)?;

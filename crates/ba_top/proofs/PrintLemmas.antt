@@ -1,11 +1,11 @@
 -- The lines of a run, one by one.
-use Rattle.std.proofs.Common.{◌≡◌, ◌∙◌, sym, subst, ap, ap₂, ℕ, suc, ◌+◌, ◌<◌, ◌≤◌, List, [], ◌∷◌, ◌++◌, length, map, drop, take, get_or, add-one, drop-cons, Some, slice_get, append_assoc, Result, Err, arith}
+use Rattle.std.proofs.Common.{◌≡◌, ◌∙◌, refl, sym, subst, ap, ap₂, ℕ, suc, ◌+◌, ◌<◌, ◌≤◌, List, [], ◌∷◌, ◌++◌, length, map, drop, take, get_or, add-one, drop-cons, Some, slice_get, append_assoc, Result, Err, arith}
 use Rattle.std.proofs.lemmas.List.{drop_all, length-take-le}
 use Rattle.std.proofs.lemmas.Option.{slice_get_within}
 use Rattle.std.specs.Prelude.{option_map, unwrap_or}
 use Rattle.ba_input.specs.declared.input.Input.{Input}
 use Rattle.ba_input.specs.declared.task.Told.{Told}
-use Rattle.ba_input.specs.declared.task.Told.TheVariants.{Lines}
+use Rattle.ba_input.specs.declared.task.Told.TheVariants.{Summary, Templates}
 use Rattle.ba_lanes.specs.declared.journal.Entry.{Entry}
 use Rattle.ba_outside.specs.Seen.{SinkSeen}
 use Rattle.ba_outside.specs.declared.sink.WriteFail.{WriteFail}
@@ -15,16 +15,21 @@ use Rattle.ba_script.specs.declared.entry.ScriptEntry.{ScriptEntry}
 use Rattle.ba_tables.proofs.FieldLemmas.{drop_element}
 use Rattle.ba_tables.proofs.IndexLemmas.{take_one}
 use Rattle.ba_wire.specs.Printed.{line_bytes}
-use Rattle.ba_top.specs.Text.{entry_bytes, entry_line, name_at, name_in, told_after, told_of}
+use Rattle.ba_top.specs.Text.{entry_bytes, entry_line, name_at, name_in}
+use Rattle.ba_top.specs.Told.{told_after, told_of}
+
+-- the name in the script's line at the next place
+pub named_at : (input : Input) (earlier : List Entry) (it : ScriptEntry) → slice_get input.script.entries (length earlier) ≡ Some it → name_at input.script (length earlier) ≡ name_in it
+named_at input earlier it said = ap (λ z. unwrap_or (option_map name_in z) []) said
 
 -- the line of an entry was sent, for the script's line at its place
-pub told_one : {X : Type 0} (told : Told) (input : Input) (earlier : List Entry) (entry : Entry) (line : ℕ) (it : ScriptEntry) (bytes : List ℕ) (s t : SinkSeen) (r : Result X WriteFail) → told ≡ Lines → slice_get input.script.entries (length earlier) ≡ Some it → line ≡ length earlier + 1
-    → bytes ≡ line_bytes (entry_line (name_in it) line entry) → SentLines (bytes ∷ []) s t r → SentLines (told_of told input earlier entry) s t r
+pub entry_sent : {X : Type 0} (input : Input) (earlier : List Entry) (entry : Entry) (line : ℕ) (it : ScriptEntry) (bytes : List ℕ) (s t : SinkSeen) (r : Result X WriteFail) → slice_get input.script.entries (length earlier) ≡ Some it → line ≡ length earlier + 1
+    → bytes ≡ line_bytes (entry_line (name_in it) line entry) → SentLines (bytes ∷ []) s t r → SentLines (entry_bytes input earlier entry ∷ []) s t r
 unfolding entry_bytes
-told_one told input earlier entry line it bytes s t r lines said is same sent =
-    let at : name_at input.script (length earlier) ≡ name_in it = ap (λ z. unwrap_or (option_map name_in z) []) said in
+entry_sent input earlier entry line it bytes s t r said is same sent =
+    let at = named_at input earlier it said in
     let whole : bytes ≡ entry_bytes input earlier entry = same ∙ ap₂ (λ y z. line_bytes (entry_line y z entry)) (sym at) is in
-    subst (λ z. SentLines (told_of z input earlier entry) s t r) (sym lines) (subst (λ z. SentLines (z ∷ []) s t r) whole sent)
+    subst (λ z. SentLines (z ∷ []) s t r) whole sent
 
 -- what is told of the next entry, and then of those behind it
 told_step : (told : Told) (input : Input) (entries : List Entry) (i : ℕ) (entry : Entry) → slice_get entries i ≡ Some entry
@@ -67,6 +72,21 @@ pub told_last : {X : Type 0} (told : Told) (input : Input) (entries : List Entry
     → SentLines tail s t r → SentLines (told_after told input (take i entries) (drop i entries) ++ tail) s t r
 told_last told input entries i tail s t r past sent =
     subst (λ z. SentLines (told_after told input (take i entries) z ++ tail) s t r) (sym (drop_all i entries past)) sent
+
+-- a summary tells nothing of entries, and neither do templates
+summary_quiet : (input : Input) (earlier entries : List Entry) → told_after Summary input earlier entries ≡ []
+summary_quiet input earlier [] = refl
+summary_quiet input earlier (entry ∷ entries) = summary_quiet input (earlier ++ entry ∷ []) entries
+
+templates_quiet : (input : Input) (earlier entries : List Entry) → told_after Templates input earlier entries ≡ []
+templates_quiet input earlier [] = refl
+templates_quiet input earlier (entry ∷ entries) = templates_quiet input (earlier ++ entry ∷ []) entries
+
+pub summary_told : {X : Type 0} (input : Input) (entries : List Entry) (tail : List (List ℕ)) (s t : SinkSeen) (r : Result X WriteFail) → SentLines tail s t r → SentLines (told_after Summary input [] entries ++ tail) s t r
+summary_told input entries tail s t r sent = subst (λ z. SentLines (z ++ tail) s t r) (sym (summary_quiet input [] entries)) sent
+
+pub templates_told : {X : Type 0} (input : Input) (entries : List Entry) (tail : List (List ℕ)) (s t : SinkSeen) (r : Result X WriteFail) → SentLines tail s t r → SentLines (told_after Templates input [] entries ++ tail) s t r
+templates_told input entries tail s t r sent = subst (λ z. SentLines (z ++ tail) s t r) (sym (templates_quiet input [] entries)) sent
 
 -- ---- lines of things, one after another
 

@@ -1,5 +1,8 @@
 pub mod Text
+pub mod Evidence
+pub mod Told
 pub mod Ends
 pub mod Checking
+pub mod Auditing
 pub mod Ran
 pub mod Causes

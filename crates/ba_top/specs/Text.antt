@@ -2,12 +2,9 @@
 use Rattle.std.specs.Prelude.{ℕ, ◌+◌, ◌==◌, List, [], ◌∷◌, ◌++◌, Bool, true, false, if◌then◌else◌, length, map, option_map, slice_get, unwrap_or, sum_by, count_by}
 use Rattle.std.specs.List.{flat_map, onto_first}
 use Rattle.ba_input.specs.declared.input.Input.{Input}
-use Rattle.ba_input.specs.declared.task.Told.{Told}
-use Rattle.ba_input.specs.declared.task.Told.TheVariants as told
-use Rattle.ba_lanes.specs.Legal.{is_memory, left_templates}
+use Rattle.ba_lanes.specs.Legal.{is_memory}
 use Rattle.ba_lanes.specs.declared.journal.Entry.{Entry}
 use Rattle.ba_lanes.specs.declared.journal.Entry.TheVariants.{Begin, Ask, End, Publish, Memory}
-use Rattle.ba_lanes.specs.declared.journal.Journal.{Journal}
 use Rattle.ba_lanes.specs.declared.journal.LineKind.TheVariants as kind
 use Rattle.ba_script.specs.declared.entry.Script.{Script}
 use Rattle.ba_script.specs.declared.entry.ScriptEntry.{ScriptEntry}
@@ -18,7 +15,6 @@ use Rattle.ba_session.specs.declared.reply.Reply.{Reply}
 use Rattle.ba_session.specs.declared.reply.Reply.TheVariants.{Answer, Blocked, Unread, NoMemory}
 use Rattle.ba_session.specs.declared.reply.Why.{Why}
 use Rattle.ba_session.specs.declared.reply.Why.TheVariants.{Refuted, Spent, Stuck}
-use Rattle.ba_store.specs.Written.{line_of as template_bytes}
 use Rattle.ba_wire.specs.Printed.{Printed, begin, end, publish, answer, block, unread, memory, line_bytes, summary_bytes}
 use Rattle.ba_wire.specs.declared.line.By.{By as PrintedBy}
 use Rattle.ba_wire.specs.declared.line.By.TheVariants as by
@@ -134,32 +130,6 @@ summary_of entries = record {
 -- the bytes of the summary's line
 unfoldable pub total_bytes : List Entry → List ℕ
 total_bytes entries = summary_bytes (summary_of entries)
-
--- ---- the lines of a run
-
--- what is told of an entry behind the earlier ones: its line, or nothing where lines aren't told
-abbrev pub told_of : Told → Input → List Entry → Entry → List (List ℕ)
-told_of told.Lines input earlier entry = entry_bytes input earlier entry ∷ []
-told_of told.Summary input earlier entry = []
-told_of told.Templates input earlier entry = []
-
--- what is told of entries behind the earlier ones, one after another
-abbrev pub told_after : Told → Input → List Entry → List Entry → List (List ℕ)
-told_after told input earlier [] = []
-told_after told input earlier (entry ∷ entries) =
-    told_of told input earlier entry ++ told_after told input (earlier ++ entry ∷ []) entries
-
--- what is told at the end: the summary; or the templates that the shelves' histories leave, each by
--- its line in a template file
-abbrev pub told_end : Told → Journal → List (List ℕ)
-told_end told.Lines journal = total_bytes journal.entries ∷ []
-told_end told.Summary journal = total_bytes journal.entries ∷ []
-told_end told.Templates journal = map template_bytes (left_templates journal)
-
--- what is told of a run: of each entry in turn, and then what is told at the end
-abbrev pub told_lines : Told → Input → Journal → List (List ℕ)
-told_lines told input journal =
-    told_after told input [] journal.entries ++ told_end told journal
 
 -- ---- the lines of a text
 

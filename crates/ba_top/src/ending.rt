@@ -1,5 +1,5 @@
 //! How a command ends that hands lines to its sink.
-ghost use Rattle.std.specs.Prelude.{ℕ, List};
+ghost use Rattle.std.specs.Prelude.{◌≡◌, ℕ, IsOk, List};
 ghost use Rattle.ba_outside.specs.Seen.{SinkSeen};
 ghost use Rattle.ba_plan.specs.Sent.{SentLines};
 ghost use Rattle.ba_top.specs.Ends.{EndsLines};
@@ -9,8 +9,9 @@ use ba_outside::WriteFail;
 
 /// How a command ends whose lines went so, and which ends as a whole where all are written.
 pub(crate) fn ended(sent: Result<(), WriteFail>, whole: Detail) -> Detail
-    ensures { (lines : List (List ℕ)) (s t : SinkSeen) → SentLines lines s t sent
+    ensures ends { (lines : List (List ℕ)) (s t : SinkSeen) → SentLines lines s t sent
         → EndsLines lines whole s t result }
+    ensures done { result ≡ Detail.Done → IsOk sent }
 {
     match sent {
         Ok(()) => whole,

@@ -1,13 +1,18 @@
 //! Writes the lines of a run.
-ghost use Rattle.std.specs.Prelude.{◌≡◌, ◌==◌, ◌<◌, ◌+◌, [], ◌∷◌, List, IfOk, Some, length, map, position, slice_get, string_bytes};
+ghost use Rattle.std.specs.Prelude.{◌≡◌, ◌==◌, ◌<◌, ◌+◌, ◌++◌, [], ◌∷◌, List, IfErr, IfOk, OnOk, Some, length, map, position, slice_get, string_bytes};
+ghost use Rattle.ba_input.specs.Inputs.{IsInput};
 ghost use Rattle.ba_input.specs.declared.input.Input.{Input as Given};
 ghost use Rattle.ba_lanes.specs.declared.journal.Entry.{Entry as EntryOf};
 ghost use Rattle.ba_plan.specs.Sent.{SentLines};
 ghost use Rattle.ba_wire.specs.Printed.{fault_bytes, line_bytes, printed};
 ghost use Rattle.ba_lanes.specs.Legal.{left_templates};
 ghost use Rattle.ba_store.specs.Written.{line_of as template_bytes};
-ghost use Rattle.ba_top.specs.Text.{entry_line, lines_of, name_in, printed_block, printed_by, reply_line, told_end, told_lines, told_of, total_bytes};
+ghost use Rattle.ba_top.specs.Evidence.{AllClose, AreAfter};
+ghost use Rattle.ba_top.specs.Text.{entry_bytes, entry_line, lines_of, name_in, printed_block, printed_by, reply_line, total_bytes};
+ghost use Rattle.ba_top.specs.Told.{TellsClosed, told_lines};
 
+use crate::evident::print_evident;
+use crate::requests::Requests;
 use crate::summary::count_all;
 use ba_input::{Input, Told};
 use ba_lanes::{Entry, Journal};
@@ -31,7 +36,7 @@ fn printed_by(by: &By) -> PrintedBy
     }
 }
 
-fn printed_block(why: &Why) -> Block
+pub(crate) fn printed_block(why: &Why) -> Block
     ensures { result ≡ printed_block why.now }
 {
     match why {
@@ -70,7 +75,7 @@ fn reply_line<'a>(request: &'a Str, line: u64, version: u32, reply: &'a Reply) -
     }
 }
 
-fn entry_line<'a>(name: &'a Str, line: u64, entry: &'a Entry) -> Line<'a>
+pub(crate) fn entry_line<'a>(name: &'a Str, line: u64, entry: &'a Entry) -> Line<'a>
     ensures { printed result ≡ entry_line name.now line entry.now }
 {
     match entry {
@@ -90,7 +95,7 @@ fn entry_line<'a>(name: &'a Str, line: u64, entry: &'a Entry) -> Line<'a>
     }
 }
 
-fn name_in(said: &ScriptEntry) -> &Str
+pub(crate) fn name_in(said: &ScriptEntry) -> &Str
     ensures { result.now ≡ name_in said.now }
 {
     match said {
@@ -113,10 +118,9 @@ fn entry_text(
     line_text(alloc, &entry_line(name_in(said), line, entry))
 }
 
-// Writes what is told of an entry, for a line of the script with its number.
+// Writes the line of an entry, for a line of the script with its number.
 fn print_entry<S: Sink>(
     alloc: Global,
-    told: Told,
     said: &ScriptEntry,
     line: u64,
     entry: &Entry,
@@ -124,18 +128,13 @@ fn print_entry<S: Sink>(
 ) -> Result<(), WriteFail>
     ensures { (input : Given) (earlier : List EntryOf)
         → slice_get input.script.entries (length earlier) ≡ Some said.now → line ≡ length earlier + 1
-        → SentLines (told_of told input earlier entry.now)
+        → SentLines (entry_bytes input earlier entry.now ∷ [])
         (S.seen sink.old) (S.seen sink.new) result }
 {
-    match told {
-        Told::Lines => {
-            let Ok(text) = entry_text(alloc, said, line, entry) else {
-                return Err(WriteFail::NoMemory);
-            };
-            send(sink, text.as_bytes())
-        }
-        Told::Summary | Told::Templates => Ok(()),
-    }
+    let Ok(text) = entry_text(alloc, said, line, entry) else {
+        return Err(WriteFail::NoMemory);
+    };
+    send(sink, text.as_bytes())
 }
 
 // The summary's line, if there is memory for it and each of its numbers is one of 64 bits.
@@ -203,23 +202,70 @@ fn print_templates<S: Sink>(alloc: Global, journal: &Journal, sink: &mut S) -> R
     print_each(alloc, templates.as_slice(), sink)
 }
 
-// Writes what is told at the end of a run.
-fn print_last<S: Sink>(
+// Writes the line of each entry, in order, and then the summary.
+fn print_lines<S: Sink>(
     alloc: Global,
+    input: &Input,
     journal: &Journal,
-    told: Told,
     sink: &mut S,
 ) -> Result<(), WriteFail>
-    ensures { SentLines (told_end told journal.now) (S.seen sink.old) (S.seen sink.new) result }
+    requires { length journal.now.entries ≡ length input.now.script.entries }
+    ensures { SentLines (told_lines Told.Lines input.now journal.now)
+        (S.seen sink.old) (S.seen sink.new) result }
 {
-    match told {
-        Told::Lines | Told::Summary => print_summary(alloc, journal, sink),
-        Told::Templates => print_templates(alloc, journal, sink),
+    for place in 0..journal.entries.len() {
+        let said = input.script.entries.get(place);
+        let entry = journal.entries.get(place);
+        print_entry(alloc, said, place as u64 + 1, entry, sink)?;
+    }
+    print_summary(alloc, journal, sink)
+}
+
+// Takes a line of the script in, with its entry.
+fn follow(
+    alloc: Global,
+    requests: &mut Requests,
+    said: &ScriptEntry,
+    entry: &Entry,
+) -> Result<(), WriteFail>
+    ensures ok { OnOk result ((input : Given) (earlier : List EntryOf)
+        → slice_get input.script.entries (length earlier) ≡ Some said.now
+        → AreAfter input earlier requests.old
+        → AreAfter input (earlier ++ entry.now ∷ []) requests.new) }
+    ensures err { IfErr result (λ e. e ≡ WriteFail.NoMemory) }
+{
+    match requests.follow(alloc, said, entry) {
+        Ok(()) => Ok(()),
+        Err(_) => Err(WriteFail::NoMemory),
     }
 }
 
+// Writes the line of each entry with its evidence, in order, and then the summary.
+fn print_proofs<S: Sink>(
+    alloc: Global,
+    input: &Input,
+    journal: &Journal,
+    sink: &mut S,
+) -> Result<(), WriteFail>
+    requires input { IsInput input.now }
+    requires many { length journal.now.entries ≡ length input.now.script.entries }
+    ensures sent { SentLines (told_lines Told.Proofs input.now journal.now)
+        (S.seen sink.old) (S.seen sink.new) result }
+    ensures closed { IfOk result (λ _. AllClose input.now [] journal.now.entries) }
+{
+    let mut requests = Requests::new(alloc);
+    for place in 0..journal.entries.len() {
+        let said = input.script.entries.get(place);
+        let entry = journal.entries.get(place);
+        print_evident(alloc, input, &requests, said, place as u64 + 1, entry, sink)?;
+        follow(alloc, &mut requests, said, entry)?;
+    }
+    print_summary(alloc, journal, sink)
+}
+
 /// Writes what is told of a run: of each line of the script, by its entry, in order, and then the
-/// summary; or the templates that the run leaves.
+/// summary; or the summary alone, or the templates that the run leaves. Where proofs are told and all
+/// is written, the steps that are told of answers by templates close their questions' problems.
 pub(crate) fn print_told<S: Sink>(
     alloc: Global,
     input: &Input,
@@ -227,16 +273,18 @@ pub(crate) fn print_told<S: Sink>(
     told: Told,
     sink: &mut S,
 ) -> Result<(), WriteFail>
-    requires { length journal.now.entries ≡ length input.now.script.entries }
-    ensures { SentLines (told_lines told input.now journal.now)
+    requires input { IsInput input.now }
+    requires many { length journal.now.entries ≡ length input.now.script.entries }
+    ensures sent { SentLines (told_lines told input.now journal.now)
         (S.seen sink.old) (S.seen sink.new) result }
+    ensures closed { IfOk result (λ _. TellsClosed told input.now journal.now) }
 {
-    for place in 0..journal.entries.len() {
-        let said = input.script.entries.get(place);
-        let entry = journal.entries.get(place);
-        print_entry(alloc, told, said, place as u64 + 1, entry, sink)?;
+    match told {
+        Told::Lines => print_lines(alloc, input, journal, sink),
+        Told::Proofs => print_proofs(alloc, input, journal, sink),
+        Told::Summary => print_summary(alloc, journal, sink),
+        Told::Templates => print_templates(alloc, journal, sink),
     }
-    print_last(alloc, journal, told, sink)
 }
 
 fn line_end(bytes: &[u8]) -> Option<usize>

@@ -1,5 +1,5 @@
 //! The top call.
-ghost use Rattle.std.specs.Prelude.{◌≡◌, ◌⊎◌, List, ℕ, length, map, string_bytes, IfSome};
+ghost use Rattle.std.specs.Prelude.{◌≡◌, ◌⊎◌, List, ℕ, length, map, string_bytes, IfOk, IfSome};
 ghost use Rattle.ba_model.specs.declared.limits.Counted.{Counted};
 ghost use Rattle.ba_outside.specs.Causes.{Rose};
 ghost use Rattle.ba_plan.specs.Ends.{AsksFront, FailedAt};
@@ -10,9 +10,14 @@ ghost use Rattle.ba_input.specs.Inputs.{IsInput};
 ghost use Rattle.ba_input.specs.Reading.{plan_of};
 ghost use Rattle.ba_input.specs.Reads.{Outcome as MayRead};
 ghost use Rattle.ba_input.specs.Tasks.{IsTask};
+ghost use Rattle.ba_lanes.specs.Headline.{Headline};
+ghost use Rattle.ba_lanes.specs.Legal.{Legal};
+ghost use Rattle.ba_wire.specs.declared.audit.AuditFault.{AuditFault};
 ghost use Rattle.ba_top.specs.Causes.{SomeComesTo, Tells};
-ghost use Rattle.ba_top.specs.Ran.{Accepts, EndsFault, EndsPrint, EndsRun, EndsStop, Ran, RanInput, RanTask, Rejects, Served, fault_status, status_of, whole_run};
+ghost use Rattle.ba_top.specs.Ran.{Accepts, EndsFault, EndsPrint, EndsRun, EndsStop, Fails, Ran, RanInput, RanTask, Rejects, Served, fault_status, status_of, whole_run};
+ghost use Rattle.ba_top.specs.Told.{TellsClosed};
 
+use crate::auditing::end_audit;
 use crate::checking::end_check;
 use crate::ending::ended;
 use crate::outcome::Outcome;
@@ -24,8 +29,9 @@ use ba_lanes::{Journal, serve};
 use ba_model::Str;
 use ba_outside::{Files, Gate, Sink};
 use ba_plan::Stop;
+use ba_portfolio::Both;
 use ba_wire::Fault;
-use std::alloc::Global;
+use std::alloc::{AllocError, Global};
 use std::sync::Wait;
 use std::thread::Threads;
 
@@ -46,6 +52,7 @@ fn status(detail: &Detail) -> u8
     match detail {
         Detail::Done => 0,
         Detail::NotAccepted(_) => 1,
+        Detail::NotAudited(_) => 1,
         Detail::Fault(fault) => fault_status(fault),
         Detail::Write => 5,
         Detail::Memory => 6,
@@ -70,8 +77,10 @@ fn end_run<S: Sink>(
     journal: &Journal,
     sink: &mut S,
 ) -> Detail
-    requires { length journal.now.entries ≡ length input.now.script.entries }
-    ensures { EndsRun input.now told journal.now (S.seen sink.old) (S.seen sink.new) result }
+    requires input { IsInput input.now }
+    requires many { length journal.now.entries ≡ length input.now.script.entries }
+    ensures ends { EndsRun input.now told journal.now (S.seen sink.old) (S.seen sink.new) result }
+    ensures closed { result ≡ Detail.Done → TellsClosed told input.now journal.now }
 {
     let sent = print_told(alloc, input, journal, told, sink);
     ended(sent, whole_run(journal))
@@ -100,6 +109,26 @@ fn end_print<S: Sink>(text: &Str, sink: &mut S) -> Detail
     ended(sent, Detail::Done)
 }
 
+// Serves the script. A proof is searched for in one order or in both, as the input says.
+fn serve_input<R: Threads + Wait + Sync, G: Gate + Sync>(
+    rt: &R,
+    alloc: Global,
+    input: &Input,
+    gate: &G,
+) -> Result<Journal, AllocError>
+    requires { IsInput input.now }
+    ensures legal { IfOk result (λ journal. Legal input.now journal) }
+    ensures headline { IfOk result (λ journal. Headline input.now journal) }
+    ensures many { IfOk result (λ journal.
+        length journal.entries ≡ length input.now.script.entries) }
+{
+    if input.orders == 2 {
+        serve(rt, alloc, input, &Both { rt }, gate)
+    } else {
+        serve(rt, alloc, input, &InOrder, gate)
+    }
+}
+
 // Serves the script, and writes what is told of it.
 fn run_input<R: Threads + Wait + Sync, S: Sink, G: Gate + Sync>(
     rt: &R,
@@ -112,7 +141,7 @@ fn run_input<R: Threads + Wait + Sync, S: Sink, G: Gate + Sync>(
     requires { IsInput input.now }
     ensures { RanInput input.now told (S.seen sink.old) (S.seen sink.new) result.0 result.1 }
 {
-    match serve(rt, alloc, input, &InOrder, gate) {
+    match serve_input(rt, alloc, input, gate) {
         Ok(journal) => (end_run(alloc, input, told, &journal, sink), Some(journal)),
         Err(_) => (Detail::Memory, None),
     }
@@ -133,6 +162,7 @@ fn end_task<R: Threads + Wait + Sync, S: Sink, G: Gate + Sync>(
         Task::Run(input, told) => run_input(rt, alloc, &input, told, sink, gate),
         Task::Print(text) => (end_print(&text, sink), None),
         Task::Check(proof) => (end_check(alloc, proof, sink), None),
+        Task::Audit(input, bytes) => (end_audit(alloc, &input, &bytes, sink), None),
     }
 }
 
@@ -155,19 +185,27 @@ fn run<R: Threads + Wait + Sync, F: Files, S: Sink, G: Gate + Sync>(
 
 /// Does what the words say.
 ///
-/// `run --schema S --policy P --tables D --script F [--load L] [--workers N] [--budget B]` reads the
-/// schema S, the policy P, the file D/T.csv of each table T in the schema's order, the script F and,
-/// last, the templates L, each once; then answers or blocks each question of the script; then writes a line for each line of the
-/// script, in order, and the summary. A question is answered where single views of the policy cover
-/// it under its request's context, where a template, which is an earlier proof made general, matches
-/// it after what its request was told, or where at most B due steps prove that it is strongly
-/// compliant after that (Blockaid, OSDI 2022); else it is blocked, with a reason.
+/// `run --schema S --policy P --tables D --script F [--load L] [--proofs] [--workers N] [--budget B]
+/// [--orders K]` reads the schema S, the policy P, the file D/T.csv of each table T in the schema's
+/// order, the script F and, last, the templates L, each once; then answers or blocks each question of
+/// the script; then writes a line for each line of the script, in order, and the summary. A question
+/// is answered where single views of the policy cover it under its request's context, where a
+/// template, which is an earlier proof made general, matches it after what its request was told, or
+/// where at most B due steps, taken in one order or, with K 2, in either of two, prove that it is
+/// strongly compliant after that (Blockaid, OSDI 2022); else it is blocked, with a reason. With
+/// `--proofs` the lines of answers have their proofs, and those of refuted questions their pairs.
 ///
 /// `check --schema S --policy P --proof F` reads the schema S, the policy P and the proof F, each
 /// once; then takes the proof's steps, one after another; then writes one line. The proof is accepted
 /// where each step is and no branch is left open (status 0); then its question is strongly compliant
 /// under its context and after its rows. Else the line tells the first step that isn't accepted and
 /// why, or how many branches are open (status 1).
+///
+/// `audit --schema S --policy P --tables D --script F --output O` reads what `run` does and, last, the
+/// output O; then writes one line. The output is accepted where each of its lines passes every test
+/// (status 0): then each answer is that of its line's text and strongly compliant after what its
+/// request was told before, each pair refutes its question, and no blocked question is covered. Else
+/// the line tells the first line that fails one, and which (status 1).
 ///
 /// `gen --seed N --requests R [--workers N] [--print]` makes the schema, the policy, the tables and
 /// the script of a workload (`ba_workload`), and reads no file. With `--print` it writes the script,
@@ -204,13 +242,18 @@ pub fn blockaid<R: Threads + Wait + Sync, F: Files, S: Sink, G: Gate + Sync>(
         (S.seen sink.old) (S.seen sink.new) result.detail result.journal }
 
     // A check that is done has read a proof whose steps are all accepted and leave no branch open; and
-    // so its question is strongly compliant under its context and after its rows. Without a journal,
-    // to be done is that, or that a script was printed.
+    // so its question is strongly compliant under its context and after its rows. An audit that is done
+    // has read an output that passes every test. Without a journal, to be done is one of these, or that
+    // a script was printed.
     ensures accepted { Accepts (map string_bytes words.now) (F.seen files.old) (F.seen files.new)
         result.detail result.journal }
     // One that isn't accepted has read a proof that has the fault, and so is none.
     ensures rejected { (fault : CheckFault) → result.detail ≡ Detail.NotAccepted fault
         → Rejects (map string_bytes words.now) (F.seen files.old) (F.seen files.new) fault }
+    // An audit of an output that isn't accepted has read one whose first failing line, and the first
+    // test that it fails, are those of the fault.
+    ensures failed { (fault : AuditFault) → result.detail ≡ Detail.NotAudited fault
+        → Fails (map string_bytes words.now) (F.seen files.old) (F.seen files.new) fault }
 
     // A read fault names the last name asked for, and the files' count rose.
     ensures read { (file : List ℕ) → result.detail ≡ Detail.Fault (Fault.Read file)

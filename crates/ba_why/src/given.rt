@@ -1,4 +1,4 @@
-//! What the run read: its policy and its script.
+//! What the run read, its policy and its script, and in how many orders it searched.
 ghost use Rattle.std.specs.Prelude.{◌≡◌, IfOk};
 ghost use Rattle.ba_kernel.specs.Drafts.{IsChecked};
 ghost use Rattle.ba_model.specs.RuleFaults.{AreRules};
@@ -19,6 +19,7 @@ use std::marker::Model;
 pub struct Given {
     policy: Shared<Policy>,
     script: Script,
+    orders: u32,
 }
 
 impl Model for Given {
@@ -53,16 +54,17 @@ impl Given {
             return Ok(None);
         };
         let script = script_in(rest, names);
-        let given = Given::read(alloc, &schema.bytes, &policy.bytes, script)?;
+        let given = Given::read(alloc, &schema.bytes, &policy.bytes, script, names.orders)?;
         Ok(Some(given))
     }
 
-    /// What these bytes are, as the run read them. They have readings, so that an error is want of memory.
+    /// What these bytes are, as the run read them, which searched in so many orders. They have readings, so that an error is want of memory.
     pub fn read(
         alloc: Global,
         schema: &[u8],
         policy: &[u8],
         script: &[u8],
+        orders: u32,
     ) -> Result<Given, AllocError> {
         checked_links_fit();
         let schema = schema_of(alloc, schema)?;
@@ -73,7 +75,11 @@ impl Given {
         let Ok(script) = read_script(alloc, &policy.params, script) else {
             return Err(AllocError);
         };
-        Ok(Given { policy, script })
+        Ok(Given {
+            policy,
+            script,
+            orders,
+        })
     }
 
     /// The policy.
@@ -82,6 +88,11 @@ impl Given {
         ensures checked { IsChecked result.now }
     {
         &self.policy
+    }
+
+    /// Whether each proof was searched for in two orders side by side.
+    pub fn has_two_orders(&self) -> bool {
+        self.orders == 2
     }
 
     /// The script.

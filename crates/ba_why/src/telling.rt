@@ -116,7 +116,7 @@ fn tell_reply(
         Reply::Blocked { query, why } => match why {
             Why::Refuted(pair) => tell_refuted(page, given, scene, pair),
             Why::Spent(steps) => tell_spent(page, given, scene, query, steps),
-            Why::Stuck(leaf, clause) => tell_stuck(page, leaf, *clause),
+            Why::Stuck(leaf, clause) => tell_stuck(page, given, leaf, *clause),
         },
         Reply::Unread(fault) => tell_unread(page, given, question, fault),
         Reply::NoMemory => page.say(2, "There was no memory for it."),

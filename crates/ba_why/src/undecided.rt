@@ -24,9 +24,15 @@ pub fn tell_spent(
     let alloc = page.alloc;
     let count = steps.len();
     let kinds = kinds_text(alloc, steps.as_slice())?;
-    let text = format!(in alloc;
-        "The search took all {count} steps of its budget, and could have gone on: {kinds}. The last ones are (x1, x2, .. stand for values):"
-    )?;
+    let text = if given.has_two_orders() {
+        format!(in alloc;
+            "Two searches, one that takes the first of its possible steps each time and one that takes the last, took all {count} steps of the budget, and could have gone on. The first one's are: {kinds}. Its last ones are (x1, x2, .. stand for values):"
+        )?
+    } else {
+        format!(in alloc;
+            "The search took all {count} steps of its budget, and could have gone on: {kinds}. The last ones are (x1, x2, .. stand for values):"
+        )?
+    };
     page.say(2, text.as_str())?;
     tell_last_steps(page, given, scene, query, steps.as_slice(), LAST_STEPS)?;
     tell_budget(page, count as u64)
@@ -92,13 +98,24 @@ fn count_of(steps: &[Step], kind: &str) -> usize {
     count
 }
 
-/// Says at what a search is stuck.
-pub fn tell_stuck(page: &mut Page, leaf: &Leaf, clause: Clause) -> Result<(), AllocError> {
+/// Says at what a search is stuck. With two of them it is the one whose branch is told, and neither
+/// found a proof.
+pub fn tell_stuck(
+    page: &mut Page,
+    given: &Given,
+    leaf: &Leaf,
+    clause: Clause,
+) -> Result<(), AllocError> {
     let steps = leaf.steps.len();
     let facts = leaf.branch.facts.len();
     let why = clause_text(clause);
+    let search = if given.has_two_orders() {
+        "Two searches, in two orders of their steps, found no proof. One"
+    } else {
+        "The search"
+    };
     let text = format!(in page.alloc;
-        "The search ended after {steps} steps, at a branch with {facts} facts where no step is new. The two databases that were made of it don't refute the question: {why}."
+        "{search} ended after {steps} steps, at a branch with {facts} facts where no step is new. The two databases that were made of it don't refute the question: {why}."
     )?;
     page.say(2, text.as_str())?;
     page.say(

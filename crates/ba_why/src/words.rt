@@ -12,12 +12,13 @@ pub enum Wanted {
     Line(u64),
 }
 
-/// The names of the files that are read again to explain a run.
+/// The names of the files that are read again to explain a run, and in how many orders it searches.
 #[derive(Drop)]
 pub struct Names {
     pub schema: Str,
     pub policy: Str,
     pub script: Str,
+    pub orders: u32,
 }
 
 impl Names {
@@ -29,17 +30,19 @@ impl Names {
                 schema,
                 policy,
                 script,
+                orders,
                 ..
             } => Ok(Names {
                 schema,
                 policy,
                 script,
+                orders,
             }),
             _ => Err(Failure::Fault(WordsFault::NoForm)),
         }
     }
 
-    /// All of them.
+    /// All names.
     pub fn all(&self) -> [&str; 3] {
         [
             self.schema.as_str(),

@@ -3,3 +3,4 @@ pub mod Names
 pub mod Object
 pub mod Printed
 pub mod Verdicts
+pub mod Audits

@@ -2,6 +2,7 @@
 #![tactic(auto)]
 
 mod answer;
+mod audit;
 mod fault;
 pub mod laws;
 mod line;
@@ -11,6 +12,7 @@ mod rows;
 mod summary;
 mod verdict;
 
+pub use audit::{AuditFault, AuditReason, Audited, finding_text};
 pub use fault::{Fault, Reason, TemplateFault, fault_text};
 pub use line::{Block, By, Line, line_text};
 pub use summary::{Summary, summary_text};

@@ -77,7 +77,7 @@ where
 
 fn tell_usage(rt: &impl Eprint) -> u8 {
     let _ = eprintln!(rt;
-        "usage: blockaid why run --schema S --policy P --tables D --script F [--load T] [--workers N] [--budget B] [--line L]"
+        "usage: blockaid why run --schema S --policy P --tables D --script F [--load T] [--proofs] [--workers N] [--budget B] [--orders K] [--line L]"
     );
     WORDS
 }

@@ -1,6 +1,7 @@
 //! Questions that are answered by proof.
 ghost use Rattle.std.specs.Prelude.{◌≡◌, [], All, IfOk, OnOk};
 ghost use Rattle.ba_kernel.specs.Asked.{QuestionFits, RecordFits};
+ghost use Rattle.ba_kernel.specs.Courses.{ProblemFits};
 ghost use Rattle.ba_model.specs.Fit.{ContextFits, IsQuery, PolicyFits, kinds_of};
 ghost use Rattle.ba_model.specs.RuleFaults.{AreRules};
 ghost use Rattle.ba_model.specs.SchemaFaults.{AreTables};
@@ -12,8 +13,8 @@ use ba_core::{Asked, Core, Ground};
 use ba_direct::cover;
 use ba_eval::answer;
 use ba_instant::settle;
-use ba_kernel::Problem;
 use ba_kernel::laws::{answers_are_records, question_is_problem};
+use ba_kernel::{Problem, Proved};
 use ba_model::{Context, Duplicate, Failure, Policy, Query, Shared};
 use ba_settle::Settled;
 use ba_tables::Tables;
@@ -80,20 +81,21 @@ fn proof(
     context: &Context,
     trace: &Trace,
     query: &Shared<Query>,
-) -> Ground
+) -> Proved
     requires policy { PolicyFits policy.now }
     requires tables { AreTables policy.now.schema.tables }
     requires rules { AreRules policy.now.schema }
     requires context { ContextFits (kinds_of policy.now.params) context.now }
     requires trace { All (RecordFits policy.now) trace.now }
     requires query { IsQuery policy.now.schema (kinds_of policy.now.params) [] query.now }
+    ensures { ProblemFits result.problem }
 {
     question_fits(policy, context, trace, query);
     question_is_problem();
     let problem = Problem::of(rt.alloc(), policy, context, trace, query).expect(rt, "memory");
     let settled = settle(rt.alloc(), problem, 100).expect(rt, "memory");
     match settled {
-        Settled::Proved(proved) => Ground::Proof(proved),
+        Settled::Proved(proved) => proved,
         Settled::Saturated(_) | Settled::Spent(_) => panic!(rt; "no proof"),
     }
 }
@@ -176,12 +178,13 @@ pub fn first_title(
     policy: &Shared<Policy>,
     own: &Shared<Query>,
     title: &Shared<Query>,
-) -> Ground
+) -> Proved
     requires policy { PolicyFits policy.now }
     requires tables { AreTables policy.now.schema.tables }
     requires rules { AreRules policy.now.schema }
     requires own { IsQuery policy.now.schema (kinds_of policy.now.params) [] own.now }
     requires title { IsQuery policy.now.schema (kinds_of policy.now.params) [] title.now }
+    ensures { ProblemFits result.problem }
 {
     let tables = tables(rt, policy, USERS);
     let context = user(rt, policy, 2);
@@ -195,7 +198,7 @@ fn second_title(
     policy: &Shared<Policy>,
     own: &Shared<Query>,
     title: &Shared<Query>,
-) -> Ground
+) -> Proved
     requires policy { PolicyFits policy.now }
     requires tables { AreTables policy.now.schema.tables }
     requires rules { AreRules policy.now.schema }
@@ -214,8 +217,8 @@ fn asked_once_more(rt: HostRuntime) {
     let policy = policy(&rt);
     let own = query(&rt, &policy, OWN);
     let title = query(&rt, &policy, TITLE);
-    let first = first_title(&rt, &policy, &own, &title);
-    let second = second_title(&rt, &policy, &own, &title);
+    let first = Ground::Proof(first_title(&rt, &policy, &own, &title));
+    let second = Ground::Proof(second_title(&rt, &policy, &own, &title));
     let mut core = machine(&rt, &policy);
     open(&rt, &mut core, &own);
     assert!(rt;

@@ -24,9 +24,7 @@ fn title_template(
     requires own { IsQuery policy.now.schema (kinds_of policy.now.params) [] own.now }
     requires title { IsQuery policy.now.schema (kinds_of policy.now.params) [] title.now }
 {
-    let Ground::Proof(proved) = first_title(rt, policy, own, title) else {
-        panic!(rt; "a proof");
-    };
+    let proved = first_title(rt, policy, own, title);
     assert!(rt; each_var_stands(proved.problem()), "no variable");
     let template = Template::of(rt.alloc(), proved).expect(rt, "memory");
     Shared::new(rt.alloc(), template).expect(rt, "memory")

@@ -170,6 +170,7 @@ fn step(alloc: Global) -> Result<List<Step>, AllocError> {
 
 fn proof_of(alloc: Global, problem: Problem, steps: List<Step>) -> Result<Proved, AllocError>
     requires { ProblemFits problem }
+    ensures { IfOk result (λ it. ProblemFits it.problem) }
 {
     if steps.len() as u64 > MAX_STEPS {
         return Err(AllocError);
@@ -180,7 +181,9 @@ fn proof_of(alloc: Global, problem: Problem, steps: List<Step>) -> Result<Proved
     }
 }
 
-fn template_of(alloc: Global, proved: Proved) -> Result<Template, AllocError> {
+fn template_of(alloc: Global, proved: Proved) -> Result<Template, AllocError>
+    requires { ProblemFits proved.problem }
+{
     if each_var_stands(proved.problem()) {
         Template::of(alloc, proved)
     } else {

@@ -3,6 +3,8 @@
 //! A proof is the text of a problem, `by`, and steps with commas between them. In the start of a
 //! problem of one table `u.0` and `u.1` are the row of the goal on side One. The view's step makes an
 //! equal row on side Two, fact 1, which the goal's step names.
+ghost use Rattle.std.specs.Prelude.{IfOk};
+ghost use Rattle.ba_kernel.specs.Courses.{ProblemFits};
 
 use super::given::problem;
 use super::steps::steps;
@@ -12,7 +14,9 @@ use ba_model::{Failure, MAX_STEPS};
 use ba_template::{Template, each_var_stands};
 
 /// What the steps come to.
-pub fn replayed(rt: &impl Handle, text: &str) -> Result<Proved, ReplayFault> {
+pub fn replayed(rt: &impl Handle, text: &str) -> Result<Proved, ReplayFault>
+    ensures { IfOk result (λ it. ProblemFits it.problem) }
+{
     let (given, lines) = text.split_once("by ").unwrap_or((text, ""));
     let steps = steps(rt, lines);
     assert!(rt; steps.len() as u64 <= MAX_STEPS, "few steps");

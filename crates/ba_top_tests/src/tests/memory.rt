@@ -51,7 +51,9 @@ fn served<R: Threads + Wait + Sync>(rt: &R, alloc: Global) -> Result<Journal, Al
     let words = words(alloc)?;
     let mut files = SureFiles::new(alloc, files_of_run(alloc)?);
     match read_task(alloc, &words, &mut files) {
-        Ok(Task::Run(input, _)) => serve(rt, alloc, &input, &Forgetful, &FreeGate),
+        Ok(Task::Run(input, _)) if input.orders == 1 => {
+            serve(rt, alloc, &input, &Forgetful, &FreeGate)
+        }
         _ => Err(AllocError),
     }
 }

@@ -5,9 +5,6 @@ use Rattle.ba_command.proofs.served.served_form.Goals as goal
 
 pub returns : goal.returns
 returns c =
-    let schema = c.in_ok-arg.ensures.shape c.needed.ensures.local ∙ ap₂ with_rule c.bare.ensures c.needed.ensures.rule in
-    let policy = c.in_ok-arg-2.ensures.shape c.needed-2.ensures.local ∙ ap₂ with_rule schema c.needed-2.ensures.rule in
-    let tables = c.in_ok-arg-3.ensures.shape c.needed-3.ensures.local ∙ ap₂ with_rule policy c.needed-3.ensures.rule in
-    let script = c.in_ok-arg-4.ensures.shape c.needed-4.ensures.local ∙ ap₂ with_rule tables c.needed-4.ensures.rule in
-    let workers = c.in_ok-arg-5.ensures.shape c.number.ensures.local ∙ ap₂ with_rule script c.number.ensures.rule in
-    IfOk-weaker c.arg-6.result _ _ (λ form h. h.shape c.number-2.ensures.local ∙ ap₂ with_rule workers c.number-2.ensures.rule) c.arg-6.ensures
+    let workers = c.in_ok-arg.ensures.shape c.number.ensures.local ∙ ap₂ with_rule c.in_ok-given_form.ensures c.number.ensures.rule in
+    let budget = c.in_ok-arg-2.ensures.shape c.number-2.ensures.local ∙ ap₂ with_rule workers c.number-2.ensures.rule in
+    IfOk-weaker c.arg-3.result _ _ (λ form h. h.shape c.number-3.ensures.local ∙ ap₂ with_rule budget c.number-3.ensures.rule) c.arg-3.ensures

@@ -1,15 +1,21 @@
 use Rattle.std.proofs.Common.{◌≡◌, ap, subst, sym}
 use Rattle.std.proofs.lemmas.Result.{IfOk-weaker}
+use Rattle.ba_kernel.specs.Courses.{ProblemFits}
 use Rattle.ba_kernel.specs.SearchStates.{Proof}
 use Rattle.ba_template.specs.Templates.{EachVarStands}
-use Rattle.ba_general.proofs.GeneralLemmas.{assuming_stands}
+use Rattle.ba_general.proofs.GeneralLemmas.{assuming_stands, condition_fits}
 use Rattle.ba_general.specs.Conditions.{IsCondition}
 use Rattle.ba_general.specs.Generals.{IsToldBy}
 use Rattle.ba_general.specs.Patterns.{assuming}
 use Rattle.ba_general.proofs.general.made_general.Goals as goal
 
-pub of-requires : goal.of-requires
-of-requires c =
+pub of-requires-clause-fits : goal.of-requires-clause-fits
+of-requires-clause-fits c =
+    subst ProblemFits (sym (ap (λ (it : Proof). it.problem) c.in_ok-proof.ensures.is))
+    (condition_fits c.args.pattern.now c.in_ok-proof.proof.problem.assumed c.requires.fits c.in_ok-proof.ensures.condition)
+
+pub of-requires-clause-stands : goal.of-requires-clause-stands
+of-requires-clause-stands c =
     subst EachVarStands (sym (ap (λ (it : Proof). it.problem) c.in_ok-proof.ensures.is))
     (assuming_stands c.args.pattern.now.problem c.in_ok-proof.proof.problem.assumed c.requires.stands)
 

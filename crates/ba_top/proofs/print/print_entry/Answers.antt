@@ -1,6 +1,6 @@
 use Rattle.std.proofs.Common.{◌∙◌}
 use Rattle.ba_plan.proofs.SendingLines.{lines_no_memory}
-use Rattle.ba_top.proofs.PrintLemmas.{told_one}
+use Rattle.ba_top.proofs.PrintLemmas.{entry_sent}
 use Rattle.ba_top.proofs.print.print_entry.Goals as goal
 
 pub returns-in_default : goal.returns-in_default
@@ -8,5 +8,5 @@ returns-in_default g c = λ input earlier said line. lines_no_memory (Unit {0}) 
 
 pub returns-in-Ok : goal.returns-in-Ok
 returns-in-Ok g c = λ input earlier said line.
-    told_one c.args.told input earlier c.args.entry.now c.args.line c.args.said.now c.as_bytes.result.now (g.S.Sink.seen c.args.sink.now) (g.S.Sink.seen c.send.new.sink) c.send.result
-    c.in-Lines.is said line (c.as_bytes.ensures.value ∙ c.in-Ok.ensures) c.send.ensures
+    entry_sent input earlier c.args.entry.now c.args.line c.args.said.now c.as_bytes.result.now (g.S.Sink.seen c.args.sink.now) (g.S.Sink.seen c.send.new.sink) c.send.result
+    said line (c.as_bytes.ensures.value ∙ c.in-Ok.ensures) c.send.ensures

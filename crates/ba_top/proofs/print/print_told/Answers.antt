@@ -1,29 +1,22 @@
-use Rattle.std.proofs.Common.{Err, take}
-use Rattle.std.proofs.lemmas.Result.{err_from_is_err_and}
-use Rattle.ba_top.specs.Text.{told_end}
-use Rattle.ba_top.proofs.PrintLemmas.{line_at, said_at, told_err, told_then}
+use Rattle.ba_input.specs.declared.task.Told.TheVariants.{Summary, Templates}
+use Rattle.ba_top.proofs.PrintLemmas.{summary_told, templates_told}
+use Rattle.ba_top.proofs.ProofsLemmas.{lines_tell, summary_tells, templates_tell}
+use Rattle.ba_top.specs.Told.{told_end}
 use Rattle.ba_top.proofs.print.print_told.Goals as goal
 
-pub returns-in_err-print_entry : goal.returns-in_err-print_entry
-returns-in_err-print_entry g c =
-    let p = err_from_is_err_and c.from_residual.result c.from_residual.ensures.1 in
-    let s = g.S.Sink.seen c.loop-place.sink in
-    let t = g.S.Sink.seen c.print_entry.new.sink in
-    let e = c.in_err-print_entry.field-0.0 in
-    let entries = c.args.journal.now.entries in
-    let i = c.loop-place.place in
-    let entry = c.get-entry.result.now in
-    rw (p.1, p.2) (c.loop-place.invariant t (Err e)
-    (told_err (Unit {0}) (Unit {0}) c.args.told c.args.input.now entries i entry (told_end c.args.told c.args.journal.now) s t e c.get-entry.ensures
-    (c.in_err-print_entry.ensures c.args.input.now (take i entries) (said_at c.args.input.now.script.entries c.get-said.result.now entries i entry c.get-entry.ensures c.get-said.ensures) (line_at entries i entry c.get-entry.ensures))))
+pub returns-in-Summary-clause-sent : goal.returns-in-Summary-clause-sent
+returns-in-Summary-clause-sent g c =
+    summary_told c.args.input.now c.args.journal.now.entries (told_end Summary c.args.journal.now) (g.S.Sink.seen c.args.sink.now) (g.S.Sink.seen c.print_summary.new.sink) c.print_summary.result c.print_summary.ensures
 
-pub loop-place-preserved : goal.loop-place-preserved
-loop-place-preserved g c = λ t r h.
-    let s = g.S.Sink.seen c.loop-place.sink in
-    let m = g.S.Sink.seen c.print_entry.new.sink in
-    let entries = c.args.journal.now.entries in
-    let i = c.loop-place.place in
-    let entry = c.get-entry.result.now in
-    c.loop-place.invariant t r
-    (told_then c.args.told c.args.input.now entries i entry (told_end c.args.told c.args.journal.now) s m t r c.get-entry.ensures
-    (c.in_ok-print_entry.ensures c.args.input.now (take i entries) (said_at c.args.input.now.script.entries c.get-said.result.now entries i entry c.get-entry.ensures c.get-said.ensures) (line_at entries i entry c.get-entry.ensures)) h)
+pub returns-in-Templates-clause-sent : goal.returns-in-Templates-clause-sent
+returns-in-Templates-clause-sent g c =
+    templates_told c.args.input.now c.args.journal.now.entries (told_end Templates c.args.journal.now) (g.S.Sink.seen c.args.sink.now) (g.S.Sink.seen c.print_templates.new.sink) c.print_templates.result c.print_templates.ensures
+
+pub returns-in-Lines-clause-closed : goal.returns-in-Lines-clause-closed
+returns-in-Lines-clause-closed g c = lines_tell c.args.input.now c.args.journal.now c.print_lines.result
+
+pub returns-in-Summary-clause-closed : goal.returns-in-Summary-clause-closed
+returns-in-Summary-clause-closed g c = summary_tells c.args.input.now c.args.journal.now c.print_summary.result
+
+pub returns-in-Templates-clause-closed : goal.returns-in-Templates-clause-closed
+returns-in-Templates-clause-closed g c = templates_tell c.args.input.now c.args.journal.now c.print_templates.result

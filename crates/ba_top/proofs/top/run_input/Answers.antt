@@ -1,7 +1,7 @@
 use Rattle.ba_top.proofs.top.run_input.Goals as goal
 
-pub end_run-requires : goal.end_run-requires
-end_run-requires g c = c.in-Ok.ensures.many
+pub end_run-requires-clause-many : goal.end_run-requires-clause-many
+end_run-requires-clause-many g c = c.in-Ok.ensures.many
 
 pub returns-in-Ok : goal.returns-in-Ok
-returns-in-Ok g c = (c.in-Ok.ensures.legal, c.in-Ok.ensures.headline, c.end_run.ensures)
+returns-in-Ok g c = (c.in-Ok.ensures.legal, c.in-Ok.ensures.headline, c.end_run.ensures.ends, c.end_run.ensures.closed)

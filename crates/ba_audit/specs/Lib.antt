@@ -1,0 +1,4 @@
+pub mod Lines
+pub mod Tests
+pub mod Audits
+pub mod Keeping

@@ -1,0 +1,16 @@
+//! Laws of the definitions.
+ghost use Rattle.ba_audit.specs.Audits.{EvidenceIsStrong};
+
+use ba_direct::laws::covered_is_strong;
+use ba_kernel::laws::{closed_is_strong, problem_is_question, question_is_problem};
+
+/// An answer's query is strongly compliant after what its request was told before: by a cover, or by
+/// steps that close its problem.
+pub fn evidence_is_strong()
+    ensures { EvidenceIsStrong }
+{
+    covered_is_strong();
+    closed_is_strong();
+    problem_is_question();
+    question_is_problem();
+}

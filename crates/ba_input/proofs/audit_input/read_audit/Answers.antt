@@ -1,0 +1,15 @@
+use Rattle.std.proofs.lemmas.Result.{err_from_is_err_and}
+use Rattle.ba_input.proofs.InputLemmas.{audit_err, audit_ok}
+use Rattle.ba_input.proofs.audit_input.read_audit.Goals as goal
+
+pub returns-in_err-input-clause-follows : goal.returns-in_err-input-clause-follows
+returns-in_err-input-clause-follows g c =
+    let seen = g.F.Files.seen in
+    let p = err_from_is_err_and c.from_residual.result c.from_residual.ensures.1 in
+    let e = c.in_err-input.field-0.0 in
+    rw (p.1, p.2) (audit_err _ (seen c.args.files.now) (seen c.read_given.new.files) e c.in_err-input.ensures.follows)
+
+pub returns-clause-follows : goal.returns-clause-follows
+returns-clause-follows g c =
+    let seen = g.F.Files.seen in
+    audit_ok _ c.in_ok-input.input (seen c.args.files.now) (seen c.read_given.new.files) (seen c.read_output.new.files) c.read_output.result c.in_ok-input.ensures.follows c.read_output.ensures.follows

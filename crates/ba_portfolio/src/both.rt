@@ -1,0 +1,102 @@
+//! The search in both orders.
+ghost use Rattle.std.specs.Prelude.{ℕ, ◌≤◌, IfOk};
+ghost use Rattle.ba_model.specs.Limits.{most_budget};
+ghost use Rattle.ba_kernel.specs.Courses.{ProblemFits};
+ghost use Rattle.ba_settle.specs.Dues.{Ends};
+ghost use Rattle.ba_settle.specs.Settling.{EndsInBoth};
+ghost use Rattle.ba_settle.specs.declared.order.Pick.TheVariants.{First, Last};
+
+use crate::copies::copy_problem;
+use ba_instant::settle_in;
+use ba_kernel::Problem;
+use ba_outside::{FreeGate, Gate};
+use ba_settle::{Pick, Settle, Settled};
+use std::alloc::{AllocError, Global};
+use std::thread::{Threads, join};
+
+/// The search in both orders of due steps, each on a thread of its own.
+#[derive(Clone, Copy, Drop)]
+pub struct Both<'a, R> {
+    pub rt: &'a R,
+}
+
+impl<'a, R: Threads> Settle for Both<'a, R> {
+    ghost orders = { λ _. 2 };
+
+    fn settle(&self, alloc: Global, problem: Problem, budget: u32) -> Result<Settled, AllocError> {
+        settle_both(self.rt, alloc, problem, budget, &FreeGate)
+    }
+}
+
+/// Searches for a proof of the problem in two orders at once, each by at most `budget` due steps: the
+/// one takes the first due step, the other the last. Each passes the gate first, at point 0, as job 0
+/// and job 1.
+///
+/// Whichever ends earlier, it tells the proof of the one that takes the first, or else the proof of
+/// the other; where there is none, the saturated branch of the one, or else that of the other; or
+/// else the steps of the one. `AllocError` comes where memory runs out before that is known, and
+/// leaves nothing behind.
+pub fn settle_both<R: Threads, G: Gate + Sync>(
+    rt: &R,
+    alloc: Global,
+    problem: Problem,
+    budget: u32,
+    gate: &G,
+) -> Result<Settled, AllocError>
+    requires fits { ProblemFits problem }
+    requires limit { budget ≤ most_budget }
+    ensures { IfOk result (EndsInBoth problem budget) }
+{
+    let same = copy_problem(alloc, &problem)?;
+    let (first, last) = join(
+        rt,
+        move || -> Result<Settled, AllocError>
+            requires { ProblemFits problem × (budget ≤ most_budget) }
+            ensures { IfOk result (Ends First problem budget) }
+        { search(alloc, problem, budget, Pick::First, 0, gate) },
+        move || -> Result<Settled, AllocError>
+            requires { ProblemFits same × (budget ≤ most_budget) }
+            ensures { IfOk result (Ends Last same budget) }
+        { search(alloc, same, budget, Pick::Last, 1, gate) },
+    );
+    told(first, last)
+}
+
+/// The search in one order, behind the gate.
+fn search<G: Gate>(
+    alloc: Global,
+    problem: Problem,
+    budget: u32,
+    pick: Pick,
+    job: u32,
+    gate: &G,
+) -> Result<Settled, AllocError>
+    requires fits { ProblemFits problem }
+    requires limit { budget ≤ most_budget }
+    ensures { IfOk result (Ends pick problem budget) }
+{
+    gate.pass(job, 0);
+    settle_in(alloc, problem, budget, pick)
+}
+
+/// The end that is told, if memory ran out in no search that it rests on.
+fn told(
+    first: Result<Settled, AllocError>,
+    last: Result<Settled, AllocError>,
+) -> Result<Settled, AllocError>
+    ensures { (problem : Problem) (budget : ℕ) → IfOk first (Ends First problem budget)
+        → IfOk last (Ends Last problem budget) → IfOk result (EndsInBoth problem budget) }
+{
+    match first? {
+        Settled::Proved(proof) => Ok(Settled::Proved(proof)),
+        Settled::Saturated(leaf) => match last? {
+            Settled::Proved(other) => Ok(Settled::Proved(other)),
+            _ => Ok(Settled::Saturated(leaf)),
+        },
+        Settled::Spent(steps) => match last? {
+            Settled::Proved(other) => Ok(Settled::Proved(other)),
+            Settled::Saturated(leaf) => Ok(Settled::Saturated(leaf)),
+            Settled::Spent(_) => Ok(Settled::Spent(steps)),
+        },
+    }
+}

@@ -1,0 +1,7 @@
+use Rattle.serde_json.specs.View.{view}
+use Rattle.ba_proof.proofs.EachLemmas.{EachAt}
+use Rattle.ba_printed.specs.Reading.{part_of}
+use Rattle.ba_printed.proofs.evidence.parts_of.Given as goal
+
+abbrev pub invariant-loop-item : goal.invariant-loop-item
+invariant-loop-item l = EachAt view part_of l.items l.item-index l.parts

@@ -1,0 +1,70 @@
+-- Lines with evidence, one by one.
+use Rattle.std.proofs.Common.{◌≡◌, ◌∙◌, refl, sym, subst, ap, ap₂, ℕ, ◌+◌, ◌≤◌, List, [], ◌∷◌, ◌++◌, length, take, drop, Some, slice_get, Result, Ok, Err, arith}
+use Rattle.std.proofs.lemmas.List.{drop_all}
+use Rattle.std.specs.Prelude.{IfOk, IsOk}
+use Rattle.ba_input.specs.declared.input.Input.{Input}
+use Rattle.ba_input.specs.declared.task.Told.{Told}
+use Rattle.ba_input.specs.declared.task.Told.TheVariants as told
+use Rattle.ba_kernel.specs.Courses.{LinksFit}
+use Rattle.ba_kernel.specs.Asked.{CheckedLinksFit}
+use Rattle.ba_kernel.specs.Drafts.{IsChecked}
+use Rattle.ba_input.specs.Inputs.{IsInput}
+use Rattle.ba_lanes.specs.Legal.{contexts_of, trace_in}
+use Rattle.ba_lanes.specs.declared.journal.Entry.{Entry}
+use Rattle.ba_lanes.specs.declared.journal.Journal.{Journal}
+use Rattle.ba_outside.specs.Seen.{SinkSeen}
+use Rattle.ba_outside.specs.declared.sink.WriteFail.{WriteFail}
+use Rattle.ba_plan.specs.Sent.{SentLines}
+use Rattle.ba_script.specs.declared.entry.ScriptEntry.{ScriptEntry}
+use Rattle.ba_tables.proofs.FieldLemmas.{drop_element}
+use Rattle.ba_tables.proofs.IndexLemmas.{take_one}
+use Rattle.ba_top.proofs.EvidenceLemmas.{told_after_lines}
+use Rattle.ba_top.proofs.PrintLemmas.{named_at}
+use Rattle.ba_top.specs.Evidence.{AllClose, AreAfter, EntryCloses, evident_bytes, told_bytes, trace_at}
+use Rattle.ba_top.specs.Text.{name_in}
+use Rattle.ba_top.specs.Told.{TellsClosed}
+use Rattle.ba_top.specs.declared.requests.Requests.{Requests}
+
+-- the policy of an input is checked
+pub policy_checked : (input : Input) → IsInput input → CheckedLinksFit → IsChecked input.policy
+policy_checked input is links = record { links = links input.policy.schema is.tables_are; rules = is.rules; policy_fits = is.policy }
+
+-- the line of an entry with its evidence was sent, for the script's line at its place
+pub evident_sent : {X : Type 0} (input : Input) (earlier : List Entry) (entry : Entry) (it : Requests) (line : ℕ) (said : ScriptEntry) (bytes : List ℕ) (s t : SinkSeen) (r : Result X WriteFail) → slice_get input.script.entries (length earlier) ≡ Some said → line ≡ length earlier + 1
+    → AreAfter input earlier it → bytes ≡ told_bytes input.policy (trace_at it.traces.items) (name_in said) line entry → SentLines (bytes ∷ []) s t r → SentLines (evident_bytes input earlier entry ∷ []) s t r
+unfolding evident_bytes
+evident_sent input earlier entry it line said bytes s t r at is h same sent =
+    let whole : bytes ≡ evident_bytes input earlier entry =
+    same ∙ told_after_lines input earlier it (name_in said) line entry h
+    ∙ ap₂ (λ y z. told_bytes input.policy (λ request. trace_in request earlier) y z entry) (sym (named_at input earlier said at)) is in
+    subst (λ z. SentLines (z ∷ []) s t r) whole sent
+
+-- the next entry, and those behind it
+pub close_next : (input : Input) (entries : List Entry) (i : ℕ) (entry : Entry) → slice_get entries i ≡ Some entry
+    → EntryCloses input.policy (contexts_of input.script.entries) (λ request. trace_in request (take i entries)) entry
+    → AllClose input (take (i + 1) entries) (drop (i + 1) entries) → AllClose input (take i entries) (drop i entries)
+close_next input entries i entry is one rest =
+    subst (AllClose input (take i entries)) (sym (drop_element entries i entry is))
+    (one, subst (λ z. AllClose input z (drop (i + 1) entries)) (take_one entries i entry is) rest)
+
+-- none is left
+pub close_last : (input : Input) (entries : List Entry) (i : ℕ) → length entries ≤ i → AllClose input (take i entries) (drop i entries)
+close_last input entries i past = subst (AllClose input (take i entries)) (sym (drop_all i entries past)) tt
+
+-- what is known of any of them
+pub if_ok_all : {X E : Type 0} (P : Type 0) (r : Result X E) → P → IfOk r (λ _. P)
+if_ok_all P (Ok x) h = h
+if_ok_all P (Err e) h = tt
+
+pub when_ok : {X E : Type 0} (P : Type 0) (r : Result X E) → IfOk r (λ _. P) → IsOk r → P
+when_ok P (Ok x) h is = h
+when_ok P (Err e) h is = absurd is
+
+pub lines_tell : {X E : Type 0} (input : Input) (journal : Journal) (r : Result X E) → IfOk r (λ _. TellsClosed told.Lines input journal)
+lines_tell input journal r = if_ok_all (TellsClosed told.Lines input journal) r tt
+
+pub summary_tells : {X E : Type 0} (input : Input) (journal : Journal) (r : Result X E) → IfOk r (λ _. TellsClosed told.Summary input journal)
+summary_tells input journal r = if_ok_all (TellsClosed told.Summary input journal) r tt
+
+pub templates_tell : {X E : Type 0} (input : Input) (journal : Journal) (r : Result X E) → IfOk r (λ _. TellsClosed told.Templates input journal)
+templates_tell input journal r = if_ok_all (TellsClosed told.Templates input journal) r tt
