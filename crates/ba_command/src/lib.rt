@@ -1,7 +1,6 @@
 //! The words of a command line.
 #![tactic(auto)]
 
-mod audit;
 mod check;
 mod command;
 mod form;

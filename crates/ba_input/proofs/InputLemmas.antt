@@ -12,7 +12,7 @@ use Rattle.ba_model.specs.SchemaFaults.{AreTables}
 use Rattle.ba_kernel.specs.SearchStates as kernel
 use Rattle.ba_command.specs.Words.{command_of}
 use Rattle.ba_command.specs.declared.command.Command.{Command}
-use Rattle.ba_command.specs.declared.command.Command.TheVariants.{Audit, Check}
+use Rattle.ba_command.specs.declared.command.Command.TheVariants.{Check}
 use Rattle.ba_command.specs.declared.command.WordsFault.{WordsFault}
 use Rattle.ba_command.specs.declared.command.WordsFault.TheVariants.{NoForm}
 use Rattle.ba_model.specs.Conform.{RowFits}
@@ -43,7 +43,7 @@ use Rattle.ba_tables.specs.Checked.{checked}
 use Rattle.ba_tables.specs.TableSet.{TableSet}
 use Rattle.ba_input.specs.Inputs.{IsInput, RowsOfTables}
 use Rattle.ba_input.specs.Published.{IsSetOf}
-use Rattle.ba_input.specs.Reading.{AuditNames, Gathered, Names, ProofNames, audit_plan, check_plan, command_plan, gathered, given_names, load_plan, loading, output_plan, plan_at, policy_and_proof_plan, policy_plan, proof_plan, proof_reading_of, published_plan, reading_of, ready, rest_plan, rows_plan, script_plan, served_plan, set_plan, sets_plan, table_plan, tables_plan, workload_plan, workload_reading}
+use Rattle.ba_input.specs.Reading.{Gathered, Names, ProofNames, check_plan, command_plan, gathered, load_plan, loading, plan_at, policy_and_proof_plan, policy_plan, proof_plan, proof_reading_of, published_plan, reading_of, ready, rest_plan, rows_plan, script_plan, served_plan, set_plan, sets_plan, table_plan, tables_plan, workload_plan, workload_reading}
 use Rattle.ba_input.specs.Reads.{Comes, Finds, Reads, run_with}
 use Rattle.ba_input.specs.Refusals.{broken_refusal, ddl_refusal, policy_refusal}
 use Rattle.ba_input.specs.declared.input.Input.{Input}
@@ -295,21 +295,6 @@ check_ok names proof s t follows = then_ok (proof_reading_of names) (λ z. done 
 
 pub check_err : (names : ProofNames) (s t : FilesSeen) (e : Stop Fault) → Follows (proof_reading_of names) s t (Err e) → Follows (check_plan names) s t (Err e)
 check_err names s t e follows = then_err (proof_reading_of names) (λ z. done (task.Check z)) s t e follows
-
--- what the run was given, and then the output
-pub audit_ok : (names : AuditNames) (input : Input) (s m t : FilesSeen) (r : Result Task (Stop Fault)) → Follows (reading_of (given_names names)) s m (Ok input) → Follows (output_plan names.output input) m t r → Follows (audit_plan names) s t r
-audit_ok names input s m t r follows rest = then_ok (reading_of (given_names names)) (output_plan names.output) s m t input r follows rest
-
-pub audit_err : (names : AuditNames) (s t : FilesSeen) (e : Stop Fault) → Follows (reading_of (given_names names)) s t (Err e) → Follows (audit_plan names) s t (Err e)
-audit_err names s t e follows = then_err (reading_of (given_names names)) (output_plan names.output) s t e follows
-
--- an audit, with the names of its files
-pub comes_audit : (command : Command) (schema policy tables script output a b d e o : List ℕ) (s t : FilesSeen) (r : Result Task (Stop Fault)) → command ≡ Audit schema policy tables script output → a ≡ schema → b ≡ policy → d ≡ tables → e ≡ script → o ≡ output
-    → Follows (audit_plan (record { schema = a; policy = b; tables = d; script = e; output = o })) s t r → Comes (command_plan command) s t r
-comes_audit command schema policy tables script output a b d e o s t r is first second third fourth fifth follows =
-    let names : AuditNames = record { schema = schema; policy = policy; tables = tables; script = script; output = output } in
-    let same : record { schema = a; policy = b; tables = d; script = e; output = o } ≡ names = rw (first, second, third, fourth, fifth) refl in
-    subst (λ z. Comes (command_plan z) s t r) (sym is) (comes_ready (audit_plan names) s t r (subst (λ z. Follows (audit_plan z) s t r) same follows))
 
 -- a policy that was read for a schema that was read
 pub policy_is : (policy : Policy) → PolicyFits policy → AreTables policy.schema.tables → AreRules policy.schema → IsPolicy policy

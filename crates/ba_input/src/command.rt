@@ -7,7 +7,6 @@ ghost use Rattle.ba_input.specs.Reading.{command_plan, served_plan, told_by};
 ghost use Rattle.ba_input.specs.Reads.{Comes, Reads};
 ghost use Rattle.ba_input.specs.Tasks.{IsTask};
 
-use crate::audit_input::{NamedAudit, read_audit};
 use crate::proof_input::{NamedProof, read_check};
 use crate::run_input::{Named, read_named};
 use crate::task::{Task, Told};
@@ -140,29 +139,12 @@ fn read_command<F: Files>(
             };
             read_check(alloc, files, &named)
         }
-        Command::Audit {
-            schema,
-            policy,
-            tables,
-            script,
-            output,
-        } => {
-            let named = NamedAudit {
-                schema: schema.as_str(),
-                policy: policy.as_str(),
-                tables: tables.as_str(),
-                script: script.as_str(),
-                output: output.as_str(),
-            };
-            read_audit(alloc, files, &named)
-        }
     }
 }
 
 /// Reads what the words name, and the table sets that a script publishes: file by file, in order, up
 /// to the first fault. The file of templates, if the words name one, is the last; nothing in it is
-/// believed, and each template's steps are taken anew. So is an output that is audited the last, of
-/// which any bytes will do. What was read belongs together.
+/// believed, and each template's steps are taken anew. What was read belongs together.
 ///
 /// # Errors
 /// `Refused` where the words are no command's form, a file has no reading, rows break a key or a link,

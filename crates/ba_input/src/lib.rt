@@ -1,7 +1,6 @@
 //! What a command is given, and how it is read, file by file, over the readers alone.
 #![tactic(auto)]
 
-mod audit_input;
 mod command;
 mod detail;
 mod input;

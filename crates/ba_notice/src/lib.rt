@@ -5,7 +5,6 @@
 
 mod files;
 mod input;
-mod output;
 mod proof;
 mod telling;
 mod template;

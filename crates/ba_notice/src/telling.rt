@@ -2,7 +2,6 @@
 
 use crate::files::{Found, read_again};
 use crate::input::{Part, Reads};
-use crate::output::audit_text;
 use crate::proof::check_text;
 use crate::usage::words_text;
 use ba_hints::Hint;
@@ -119,11 +118,6 @@ pub fn notice<R: Files + AllocGlobal>(
         Detail::Done => Ok(String::new(alloc)),
         Detail::NotAccepted(fault) => {
             let text = check_text(alloc, *fault)?;
-            let hint = Hint::plain(alloc, text.as_str())?;
-            hint.line(alloc, reads.last(), &[])
-        }
-        Detail::NotAudited(fault) => {
-            let text = audit_text(alloc, *fault)?;
             let hint = Hint::plain(alloc, text.as_str())?;
             hint.line(alloc, reads.last(), &[])
         }

@@ -1,5 +1,5 @@
 -- The image of a branch: values for its unknowns, and the two databases and the row that they give.
-use Rattle.std.specs.Prelude.{◌≡◌, ℕ, ◌<◌, ◌≤◌, ◌^◌, ℤ, pos, ◌+ℤ◌, ◌≤ℤ◌, ◌==◌, List, [], ◌∷◌, ◌++◌, All, Contains, length, map, take, Option, Some, slice_get, slice_index, slice_index_or}
+use Rattle.std.specs.Prelude.{◌≡◌, ℕ, ◌<◌, ◌≤◌, ℤ, pos, ◌+ℤ◌, ◌≤ℤ◌, ◌==◌, List, [], ◌∷◌, ◌++◌, All, Contains, length, map, take, Option, Some, slice_get, slice_index, slice_index_or}
 use Rattle.std.specs.Fmt.{decimal}
 use Rattle.std.specs.List.{flat_map, prefix_len, repeat, zip}
 use Rattle.std.specs.List.Sorted.{IsStrictlySortedBy}
@@ -35,7 +35,6 @@ use Rattle.ba_facts.specs.declared.term.Term.TheVariants.{Unknown, Val, Param, V
 use Rattle.ba_facts.specs.declared.term.TermAtom.{TermAtom}
 use Rattle.ba_kernel.specs.declared.problem.Problem.{Problem}
 use Rattle.ba_kernel.specs.declared.problem.ProblemEntry.{ProblemEntry}
-use Rattle.ba_refute.specs.Counterexamples.{IsNumber}
 use Rattle.ba_refute.specs.declared.clause.Counterexample.{Counterexample}
 
 -- ---- literals
@@ -105,12 +104,6 @@ number_of_value (Text t) = []
 -- the whole numbers among some values
 abbrev pub numbers_of : List Value → List ℤ
 numbers_of values = flat_map number_of_value values
-
--- the literals' numbers are within 64 bits, and they and the unknowns are fewer than 2^32 each
-pub record AreSmall (p : Problem) (b : Branch) : Type 0 where
-  pub stored : All IsNumber (numbers_of (literals p b))
-  pub few : length (numbers_of (literals p b)) < 2 ^ 32
-  pub unknowns : length b.known.unknowns < 2 ^ 32
 
 -- how many signs `~` a text begins with
 abbrev pub signs : Value → ℕ

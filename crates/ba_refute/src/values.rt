@@ -3,7 +3,7 @@ ghost use Rattle.std.specs.Prelude.{◌≡◌, ℕ, ◌<◌, Contains, IfOk, Lis
 ghost use Rattle.std.specs.List.{zip};
 ghost use Rattle.ba_facts.specs.Shown.{Absurd};
 ghost use Rattle.ba_model.specs.declared.value.Value.{Value as Plain};
-ghost use Rattle.ba_refute.specs.Images.{AreNodes, AreSmall, AreValues, HasNoLiteral, IsClassValue, IsLeastUnknown, IsMarks, IsValueOf, literals};
+ghost use Rattle.ba_refute.specs.Images.{AreNodes, AreValues, HasNoLiteral, IsClassValue, IsLeastUnknown, IsMarks, IsValueOf, literals};
 
 use crate::literals::{literals, numbers};
 use crate::numbers::node_numbers;
@@ -109,15 +109,12 @@ pub(crate) fn values(
     branch: &Branch,
 ) -> Result<Vec<WideValue>, AllocError>
     requires { ¬ (Absurd branch.now.known) }
-    ensures image { IfOk result
+    ensures { IfOk result
         (λ it. AreValues branch.now.known (literals problem.now branch.now) it.items) }
-    ensures small { IfOk result (λ _. AreSmall problem.now branch.now) }
 {
     let all = literals(alloc, problem, branch)?;
     let marks = marks(&all)?;
     let used = numbers(alloc, &all)?;
-    let _few = number_of(used.len())?;
-    let _unknowns = number_of(branch.known.unknowns().len())?;
     let nodes = nodes(alloc, &branch.known)?;
     let numbers = node_numbers(alloc, &branch.known, &nodes, &used)?;
     all_values(alloc, &branch.known, marks, &nodes, &numbers)

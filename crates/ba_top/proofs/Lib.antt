@@ -5,4 +5,3 @@ pub mod ProofsLemmas
 pub mod LineLemmas
 pub mod CheckLemmas
 pub mod Runs
-pub mod AuditLemmas

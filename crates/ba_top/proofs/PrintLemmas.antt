@@ -7,6 +7,7 @@ use Rattle.ba_input.specs.declared.input.Input.{Input}
 use Rattle.ba_input.specs.declared.task.Told.{Told}
 use Rattle.ba_input.specs.declared.task.Told.TheVariants.{Summary, Templates}
 use Rattle.ba_lanes.specs.declared.journal.Entry.{Entry}
+use Rattle.ba_lanes.specs.declared.journal.Journal.{Journal}
 use Rattle.ba_outside.specs.Seen.{SinkSeen}
 use Rattle.ba_outside.specs.declared.sink.WriteFail.{WriteFail}
 use Rattle.ba_plan.proofs.SendingLines.{lines_err, lines_none, lines_then}
@@ -16,7 +17,7 @@ use Rattle.ba_tables.proofs.FieldLemmas.{drop_element}
 use Rattle.ba_tables.proofs.IndexLemmas.{take_one}
 use Rattle.ba_wire.specs.Printed.{line_bytes}
 use Rattle.ba_top.specs.Text.{entry_bytes, entry_line, name_at, name_in}
-use Rattle.ba_top.specs.Told.{told_after, told_of}
+use Rattle.ba_top.specs.Told.{told_after, told_end, told_lines, told_of}
 
 -- the name in the script's line at the next place
 pub named_at : (input : Input) (earlier : List Entry) (it : ScriptEntry) → slice_get input.script.entries (length earlier) ≡ Some it → name_at input.script (length earlier) ≡ name_in it
@@ -82,11 +83,13 @@ templates_quiet : (input : Input) (earlier entries : List Entry) → told_after 
 templates_quiet input earlier [] = refl
 templates_quiet input earlier (entry ∷ entries) = templates_quiet input (earlier ++ entry ∷ []) entries
 
-pub summary_told : {X : Type 0} (input : Input) (entries : List Entry) (tail : List (List ℕ)) (s t : SinkSeen) (r : Result X WriteFail) → SentLines tail s t r → SentLines (told_after Summary input [] entries ++ tail) s t r
-summary_told input entries tail s t r sent = subst (λ z. SentLines (z ++ tail) s t r) (sym (summary_quiet input [] entries)) sent
+pub summary_told : {X : Type 0} (told : Told) (input : Input) (journal : Journal) (s t : SinkSeen) (r : Result X WriteFail) → told ≡ Summary → SentLines (told_end Summary journal) s t r → SentLines (told_lines told input journal) s t r
+summary_told told input journal s t r is sent = subst (λ z. SentLines (told_lines z input journal) s t r) (sym is)
+    (subst (λ z. SentLines (z ++ told_end Summary journal) s t r) (sym (summary_quiet input [] journal.entries)) sent)
 
-pub templates_told : {X : Type 0} (input : Input) (entries : List Entry) (tail : List (List ℕ)) (s t : SinkSeen) (r : Result X WriteFail) → SentLines tail s t r → SentLines (told_after Templates input [] entries ++ tail) s t r
-templates_told input entries tail s t r sent = subst (λ z. SentLines (z ++ tail) s t r) (sym (templates_quiet input [] entries)) sent
+pub templates_told : {X : Type 0} (told : Told) (input : Input) (journal : Journal) (s t : SinkSeen) (r : Result X WriteFail) → told ≡ Templates → SentLines (told_end Templates journal) s t r → SentLines (told_lines told input journal) s t r
+templates_told told input journal s t r is sent = subst (λ z. SentLines (told_lines z input journal) s t r) (sym is)
+    (subst (λ z. SentLines (z ++ told_end Templates journal) s t r) (sym (templates_quiet input [] journal.entries)) sent)
 
 -- ---- lines of things, one after another
 

@@ -1,7 +1,7 @@
 -- Lines with evidence, one by one.
-use Rattle.std.proofs.Common.{◌≡◌, ◌∙◌, refl, sym, subst, ap, ap₂, ℕ, ◌+◌, ◌≤◌, List, [], ◌∷◌, ◌++◌, length, take, drop, Some, slice_get, Result, Ok, Err, arith}
+use Rattle.std.proofs.Common.{◌≡◌, ◌∙◌, refl, sym, subst, ap, ap₂, ℕ, ◌+◌, ◌≤◌, List, [], ◌∷◌, ◌++◌, length, take, drop, Some, slice_get, Result, Ok, Err, true, false, arith}
 use Rattle.std.proofs.lemmas.List.{drop_all}
-use Rattle.std.specs.Prelude.{IfOk, IsOk}
+use Rattle.std.specs.Prelude.{IfOk, IsOk, OnOk}
 use Rattle.ba_input.specs.declared.input.Input.{Input}
 use Rattle.ba_input.specs.declared.task.Told.{Told}
 use Rattle.ba_input.specs.declared.task.Told.TheVariants as told
@@ -30,13 +30,13 @@ pub policy_checked : (input : Input) → IsInput input → CheckedLinksFit → I
 policy_checked input is links = record { links = links input.policy.schema is.tables_are; rules = is.rules; policy_fits = is.policy }
 
 -- the line of an entry with its evidence was sent, for the script's line at its place
-pub evident_sent : {X : Type 0} (input : Input) (earlier : List Entry) (entry : Entry) (it : Requests) (line : ℕ) (said : ScriptEntry) (bytes : List ℕ) (s t : SinkSeen) (r : Result X WriteFail) → slice_get input.script.entries (length earlier) ≡ Some said → line ≡ length earlier + 1
-    → AreAfter input earlier it → bytes ≡ told_bytes input.policy (trace_at it.traces.items) (name_in said) line entry → SentLines (bytes ∷ []) s t r → SentLines (evident_bytes input earlier entry ∷ []) s t r
+pub evident_sent : {X : Type 0} (input : Input) (earlier : List Entry) (entry : Entry) (it : Requests) (line : ℕ) (said : ScriptEntry) (name bytes : List ℕ) (s t : SinkSeen) (r : Result X WriteFail) → slice_get input.script.entries (length earlier) ≡ Some said → line ≡ length earlier + 1
+    → AreAfter input earlier it → name ≡ name_in said → bytes ≡ told_bytes input.policy (trace_at it.traces.items) name line entry → SentLines (bytes ∷ []) s t r → SentLines (evident_bytes input earlier entry ∷ []) s t r
 unfolding evident_bytes
-evident_sent input earlier entry it line said bytes s t r at is h same sent =
+evident_sent input earlier entry it line said name bytes s t r at is h named same sent =
     let whole : bytes ≡ evident_bytes input earlier entry =
-    same ∙ told_after_lines input earlier it (name_in said) line entry h
-    ∙ ap₂ (λ y z. told_bytes input.policy (λ request. trace_in request earlier) y z entry) (sym (named_at input earlier said at)) is in
+    same ∙ told_after_lines input earlier it name line entry h
+    ∙ ap₂ (λ y z. told_bytes input.policy (λ request. trace_in request earlier) y z entry) (named ∙ sym (named_at input earlier said at)) is in
     subst (λ z. SentLines (z ∷ []) s t r) whole sent
 
 -- the next entry, and those behind it
@@ -52,19 +52,24 @@ pub close_last : (input : Input) (entries : List Entry) (i : ℕ) → length ent
 close_last input entries i past = subst (AllClose input (take i entries)) (sym (drop_all i entries past)) tt
 
 -- what is known of any of them
+pub on_ok_then : {X E : Type 0} (P Q : Type 0) (r : Result X E) → (P → Q) → OnOk r P → OnOk r Q
+on_ok_then P Q (Ok x) f h = f h
+on_ok_then P Q (Err e) f h = tt
+
 pub if_ok_all : {X E : Type 0} (P : Type 0) (r : Result X E) → P → IfOk r (λ _. P)
 if_ok_all P (Ok x) h = h
 if_ok_all P (Err e) h = tt
 
 pub when_ok : {X E : Type 0} (P : Type 0) (r : Result X E) → IfOk r (λ _. P) → IsOk r → P
 when_ok P (Ok x) h is = h
-when_ok P (Err e) h is = absurd is
+when_ok P (Err e) h is = let no : false ≡ true = is in absurd (cc)
 
-pub lines_tell : {X E : Type 0} (input : Input) (journal : Journal) (r : Result X E) → IfOk r (λ _. TellsClosed told.Lines input journal)
-lines_tell input journal r = if_ok_all (TellsClosed told.Lines input journal) r tt
+-- where no proofs are told nothing has to close
+pub lines_tell : {X E : Type 0} (it : Told) (input : Input) (journal : Journal) (r : Result X E) → it ≡ told.Lines → IfOk r (λ _. TellsClosed it input journal)
+lines_tell it input journal r is = subst (λ z. IfOk r (λ _. TellsClosed z input journal)) (sym is) (if_ok_all (TellsClosed told.Lines input journal) r tt)
 
-pub summary_tells : {X E : Type 0} (input : Input) (journal : Journal) (r : Result X E) → IfOk r (λ _. TellsClosed told.Summary input journal)
-summary_tells input journal r = if_ok_all (TellsClosed told.Summary input journal) r tt
+pub summary_tells : {X E : Type 0} (it : Told) (input : Input) (journal : Journal) (r : Result X E) → it ≡ told.Summary → IfOk r (λ _. TellsClosed it input journal)
+summary_tells it input journal r is = subst (λ z. IfOk r (λ _. TellsClosed z input journal)) (sym is) (if_ok_all (TellsClosed told.Summary input journal) r tt)
 
-pub templates_tell : {X E : Type 0} (input : Input) (journal : Journal) (r : Result X E) → IfOk r (λ _. TellsClosed told.Templates input journal)
-templates_tell input journal r = if_ok_all (TellsClosed told.Templates input journal) r tt
+pub templates_tell : {X E : Type 0} (it : Told) (input : Input) (journal : Journal) (r : Result X E) → it ≡ told.Templates → IfOk r (λ _. TellsClosed it input journal)
+templates_tell it input journal r is = subst (λ z. IfOk r (λ _. TellsClosed z input journal)) (sym is) (if_ok_all (TellsClosed told.Templates input journal) r tt)

@@ -3,4 +3,3 @@ pub mod Names
 pub mod Object
 pub mod Printed
 pub mod Verdicts
-pub mod Audits

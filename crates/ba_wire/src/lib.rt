@@ -2,7 +2,6 @@
 #![tactic(auto)]
 
 mod answer;
-mod audit;
 mod fault;
 pub mod laws;
 mod line;
@@ -12,7 +11,6 @@ mod rows;
 mod summary;
 mod verdict;
 
-pub use audit::{AuditFault, AuditReason, Audited, finding_text};
 pub use fault::{Fault, Reason, TemplateFault, fault_text};
 pub use line::{Block, By, Line, line_text};
 pub use summary::{Summary, summary_text};

@@ -1,7 +1,7 @@
 use Rattle.std.proofs.Common.{sym, subst}
 use Rattle.ba_input.specs.Reading.{command_plan, workload_plan}
 use Rattle.ba_input.specs.Reads.{Comes}
-use Rattle.ba_input.proofs.InputLemmas.{comes_audit, comes_check, comes_ready}
+use Rattle.ba_input.proofs.InputLemmas.{comes_check, comes_ready}
 use Rattle.ba_input.proofs.command.read_command.Goals as goal
 
 pub returns-in-Gen-clause-comes : goal.returns-in-Gen-clause-comes
@@ -17,10 +17,3 @@ returns-in-Check-clause-comes g c =
     let it = c.in-Check in
     comes_check c.args.command.now it.schema it.policy it.proof _ _ _ (seen c.args.files.now) (seen c.read_check.new.files) c.read_check.result it.is
     c.as_str-in-Check.ensures c.as_str-in-Check-2.ensures c.as_str-in-Check-3.ensures c.read_check.ensures.follows
-
-pub returns-in-Audit-clause-comes : goal.returns-in-Audit-clause-comes
-returns-in-Audit-clause-comes g c =
-    let seen = g.F.Files.seen in
-    let it = c.in-Audit in
-    comes_audit c.args.command.now it.schema it.policy it.tables it.script it.output _ _ _ _ _ (seen c.args.files.now) (seen c.read_audit.new.files) c.read_audit.result it.is
-    c.as_str-in-Audit.ensures c.as_str-in-Audit-2.ensures c.as_str-in-Audit-3.ensures c.as_str-in-Audit-4.ensures c.as_str-in-Audit-5.ensures c.read_audit.ensures.follows

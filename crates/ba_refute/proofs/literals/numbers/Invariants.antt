@@ -1,8 +1,7 @@
 use Rattle.std.proofs.Common.{◌≡◌, take}
-use Rattle.std.specs.List.{All, flat_map}
-use Rattle.ba_refute.specs.Counterexamples.{IsNumber}
+use Rattle.std.specs.List.{flat_map}
 use Rattle.ba_refute.specs.Images.{number_of_value}
 use Rattle.ba_refute.proofs.literals.numbers.Given as goal
 
 abbrev pub invariant-loop-value : goal.invariant-loop-value
-invariant-loop-value l = (l.numbers.items ≡ flat_map (λ v. number_of_value v.now) (take l.value-index l.values)) × All IsNumber l.numbers.items
+invariant-loop-value l = l.numbers.items ≡ flat_map (λ v. number_of_value v.now) (take l.value-index l.values)

@@ -8,8 +8,8 @@ use Rattle.ba_refute.proofs.values.values.Goals as goal
 pub node_numbers-requires : goal.node_numbers-requires
 node_numbers-requires c = λ h. c.requires (rising h.above h.chain)
 
-pub returns-clause-image : goal.returns-clause-image
-returns-clause-image c =
+pub returns : goal.returns
+returns c =
     let k = c.args.branch.now.known in
     let all : List Value = literals c.args.problem.now c.args.branch.now in
     let used = c.deref-4.result.now in
@@ -18,7 +18,7 @@ returns-clause-image c =
     let marked : IsMarks all c.in_ok-marks.marks =
     subst (λ (vs : List Value). IsMarks vs c.in_ok-marks.marks) (ap (map (λ v. v.now)) c.deref.ensures.value ∙ c.in_ok-all.ensures) c.in_ok-marks.ensures in
     let used_is : used ≡ numbers_of all =
-    c.deref-4.ensures.value ∙ c.in_ok-used.ensures.value ∙ ap (λ (vs : List Value). numbers_of vs) (ap (map (λ v. v.now)) c.deref-2.ensures.value ∙ c.in_ok-all.ensures) in
+    c.deref-4.ensures.value ∙ c.in_ok-used.ensures ∙ ap (λ (vs : List Value). numbers_of vs) (ap (map (λ v. v.now)) c.deref-2.ensures.value ∙ c.in_ok-all.ensures) in
     let are : AreNodes k nodes = subst (AreNodes k) (sym c.deref-5.ensures.value) c.in_ok-nodes.ensures in
     let numbered : AreNumbers k used nodes numbers =
     subst (λ (zs : List ℤ). AreNumbers k used nodes zs) (sym c.deref-6.ensures.value)

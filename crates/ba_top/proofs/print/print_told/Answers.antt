@@ -1,22 +1,20 @@
-use Rattle.ba_input.specs.declared.task.Told.TheVariants.{Summary, Templates}
 use Rattle.ba_top.proofs.PrintLemmas.{summary_told, templates_told}
 use Rattle.ba_top.proofs.ProofsLemmas.{lines_tell, summary_tells, templates_tell}
-use Rattle.ba_top.specs.Told.{told_end}
 use Rattle.ba_top.proofs.print.print_told.Goals as goal
 
 pub returns-in-Summary-clause-sent : goal.returns-in-Summary-clause-sent
 returns-in-Summary-clause-sent g c =
-    summary_told c.args.input.now c.args.journal.now.entries (told_end Summary c.args.journal.now) (g.S.Sink.seen c.args.sink.now) (g.S.Sink.seen c.print_summary.new.sink) c.print_summary.result c.print_summary.ensures
+    summary_told c.args.told c.args.input.now c.args.journal.now (g.S.Sink.seen c.args.sink.now) (g.S.Sink.seen c.print_summary.new.sink) c.print_summary.result c.in-Summary.is c.print_summary.ensures
 
 pub returns-in-Templates-clause-sent : goal.returns-in-Templates-clause-sent
 returns-in-Templates-clause-sent g c =
-    templates_told c.args.input.now c.args.journal.now.entries (told_end Templates c.args.journal.now) (g.S.Sink.seen c.args.sink.now) (g.S.Sink.seen c.print_templates.new.sink) c.print_templates.result c.print_templates.ensures
+    templates_told c.args.told c.args.input.now c.args.journal.now (g.S.Sink.seen c.args.sink.now) (g.S.Sink.seen c.print_templates.new.sink) c.print_templates.result c.in-Templates.is c.print_templates.ensures
 
 pub returns-in-Lines-clause-closed : goal.returns-in-Lines-clause-closed
-returns-in-Lines-clause-closed g c = lines_tell c.args.input.now c.args.journal.now c.print_lines.result
+returns-in-Lines-clause-closed g c = lines_tell c.args.told c.args.input.now c.args.journal.now c.print_lines.result c.in-Lines.is
 
 pub returns-in-Summary-clause-closed : goal.returns-in-Summary-clause-closed
-returns-in-Summary-clause-closed g c = summary_tells c.args.input.now c.args.journal.now c.print_summary.result
+returns-in-Summary-clause-closed g c = summary_tells c.args.told c.args.input.now c.args.journal.now c.print_summary.result c.in-Summary.is
 
 pub returns-in-Templates-clause-closed : goal.returns-in-Templates-clause-closed
-returns-in-Templates-clause-closed g c = templates_tell c.args.input.now c.args.journal.now c.print_templates.result
+returns-in-Templates-clause-closed g c = templates_tell c.args.told c.args.input.now c.args.journal.now c.print_templates.result c.in-Templates.is

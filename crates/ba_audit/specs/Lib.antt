@@ -1,4 +1,0 @@
-pub mod Lines
-pub mod Tests
-pub mod Audits
-pub mod Keeping

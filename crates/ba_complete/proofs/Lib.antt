@@ -1,0 +1,16 @@
+pub mod ClassLemmas
+pub mod FreeLemmas
+pub mod SeenLemmas
+pub mod RowLemmas
+pub mod DecideLemmas
+pub mod QueryLemmas
+pub mod ClauseLemmas
+pub mod SchemaLemmas
+pub mod ConformLemmas
+pub mod GrowLemmas
+pub mod PlainLemmas
+pub mod CourseLemmas
+pub mod LeafLemmas
+pub mod StoredLemmas
+pub mod RefuteLemmas
+pub mod SplitLemmas
