@@ -1,3 +1,5 @@
 mod JudgeLemmas
 mod KeepLemmas
 pub mod PassLemmas
+pub mod LiteralLemmas
+pub mod ReadingLemmas

@@ -1,3 +1,5 @@
 pub mod Passing
 pub mod Asking
 pub mod Judging
+pub mod KeyReads
+pub mod Literals

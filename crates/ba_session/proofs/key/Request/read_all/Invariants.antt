@@ -1,0 +1,10 @@
+use Rattle.ba_session.specs.Asking.{effort_in}
+use Rattle.ba_session.specs.Passing.{AreOf}
+use Rattle.ba_session.proofs.ReadingLemmas.{ReadingAt}
+use Rattle.ba_session.proofs.key.Request.read_all.Given as goal
+
+-- the first queries have their grounds, and the passes are still the service's
+abbrev pub invariant-loop-i : goal.invariant-loop-i
+invariant-loop-i g l =
+    ReadingAt l.service.policy l.self (effort_in (g.S.Settle.orders l.settle) l.budget) l.queries l.before l.i l.fn.passes l.passes
+    × AreOf l.service l.passes
