@@ -2,3 +2,4 @@ pub mod Keys
 pub mod Rows
 pub mod Reads
 pub mod Passes
+pub mod Plain

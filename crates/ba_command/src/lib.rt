@@ -3,6 +3,7 @@
 
 mod check;
 mod command;
+mod decide;
 mod form;
 mod generate;
 mod given;
@@ -13,4 +14,5 @@ mod store;
 mod words;
 
 pub use command::{Command, ORDERS, WordsFault};
+pub use decide::{Deciding, read_decide};
 pub use words::read_words;

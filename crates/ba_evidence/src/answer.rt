@@ -3,7 +3,7 @@ ghost use Rattle.std.specs.Prelude.{◌≡◌, IfOk, map, string_bytes};
 ghost use Rattle.serde_json.specs.View.{view};
 ghost use Rattle.ba_proof.specs.Written.{count, list_json};
 ghost use Rattle.ba_wire.specs.Printed.{ReadsBack, json_line};
-ghost use Rattle.ba_evidence.specs.Evidence.{answer_json, by_name, evidence, evidence_json, part_json};
+ghost use Rattle.ba_evidence.specs.Evidence.{answer_json, by_name, evidence, evidence_json as evidence_data, part_json};
 
 use crate::line::line_of;
 use crate::rows::rows_json;
@@ -68,12 +68,12 @@ fn cover_json(alloc: Global, parts: &[PartCover]) -> Result<Json, AllocError>
     Ok(Json::Array(items))
 }
 
-pub(crate) fn ground_json(
+pub(crate) fn evidence_json(
     alloc: Global,
     params: &[Parameter],
     ground: &Ground,
 ) -> Result<Json, AllocError>
-    ensures { IfOk result (λ v. view v ≡ evidence_json params.now (evidence ground.now)) }
+    ensures { IfOk result (λ v. view v ≡ evidence_data params.now (evidence ground.now)) }
 {
     match ground {
         Ground::Cover(cover) => cover_json(alloc, cover.parts.as_slice()),
@@ -99,7 +99,7 @@ fn answer_json(
     let by = Json::try_from_str(alloc, ground.name())?;
     put(&mut members, alloc, "by", by)?;
     put(&mut members, alloc, "line", Json::from(line))?;
-    let proof = ground_json(alloc, params, ground)?;
+    let proof = evidence_json(alloc, params, ground)?;
     put(&mut members, alloc, "proof", proof)?;
     let request = Json::try_from_str(alloc, request.as_str())?;
     put(&mut members, alloc, "request", request)?;

@@ -79,29 +79,6 @@ fn named_view_hint(
     })
 }
 
-// A hint on the cache key of a name, one of whose queries is none.
-fn key_hint(
-    alloc: Global,
-    bytes: &[u8],
-    words: &Words<'_>,
-    name: &str,
-    fault: &ReadQueryFault,
-) -> Result<Hint, AllocError> {
-    let place = words.find(Term::CacheKey, None, name, words.taken.len());
-    let text = match fault {
-        ReadQueryFault::UnknownParam => {
-            format!(in alloc;
-                "key {name}: a query names what is neither an argument nor a parameter before the key"
-            )?
-        }
-        ReadQueryFault::Unsupported(word) => {
-            format!(in alloc; "key {name}: {word} isn't supported")?
-        }
-        _ => format!(in alloc; "key {name}: the words of one of its queries are none")?,
-    };
-    Ok(words.hint(bytes.len(), place, text))
-}
-
 // A hint on a fault of words.
 fn fault_hint(
     alloc: Global,
@@ -130,10 +107,6 @@ fn fault_hint(
         PolicyFault::View(name, fault) => {
             named_view_hint(alloc, schema, bytes, &words, name.as_str(), fault)
         }
-        PolicyFault::DuplicateKey(name) => {
-            twice_hint(alloc, bytes, &words, Term::CacheKey, name.as_str())
-        }
-        PolicyFault::Key(name, fault) => key_hint(alloc, bytes, &words, name.as_str(), fault),
         PolicyFault::TooMany { what, limit } => count_hint(alloc, bytes, &words, *what, *limit),
     }
 }

@@ -2,6 +2,7 @@
 #![tactic(auto)]
 
 mod command;
+mod deciding;
 mod detail;
 mod input;
 mod proof_input;
@@ -12,6 +13,7 @@ mod template_input;
 mod workload;
 
 pub use command::read_task;
+pub use deciding::{PolicyInput, read_policy_input};
 pub use detail::Detail;
 pub use input::Input;
 pub use refusal::fault_of;

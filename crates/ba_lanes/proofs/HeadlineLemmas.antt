@@ -13,8 +13,6 @@ use Rattle.ba_script.specs.declared.entry.ScriptEntry.TheVariants as said
 use Rattle.ba_session.specs.Asking.{Replies}
 use Rattle.ba_session.specs.Passing.{ShelfCalls}
 use Rattle.ba_session.specs.declared.reply.By.{By}
-use Rattle.ba_session.specs.declared.reply.KeyReply.{KeyReply}
-use Rattle.ba_session.specs.declared.reply.KeyReply.TheVariants as key_reply
 use Rattle.ba_session.specs.declared.reply.Reply.{Reply}
 use Rattle.ba_session.specs.declared.reply.Reply.TheVariants.{Answer, Blocked, Unread, NoMemory}
 use Rattle.ba_session.specs.declared.reply.Why.{Why}
@@ -165,11 +163,6 @@ same_ask request version r v reply it e = record { request_is = cc; version_is =
 no_memory : (request version : ℕ) (reply : Reply) (kind : LineKind) (r v : Option ℕ) → Ask request version reply ≡ Memory kind r v → ⊥
 no_memory request version reply kind r v e = cc
 
-no_read : (request version : ℕ) (reply : Reply) (r v key : ℕ) (it : KeyReply) → Ask request version reply ≡ read_as r v key it → ⊥
-no_read request version reply r v key (key_reply.Allowed queries by) e = cc
-no_read request version reply r v key (key_reply.Blocked queries before why) e = cc
-no_read request version reply r v key key_reply.NoMemory e = cc
-
 same_asked : (request version r v : ℕ) (reply it : Reply) → Ask request version reply ≡ asked r v it → IsSameAsk request version r v reply it
 same_asked request version r v reply (Answer query rows by) e = same_ask request version r v reply (Answer query rows by) e
 same_asked request version r v reply (Blocked query why) e = same_ask request version r v reply (Blocked query why) e
@@ -229,8 +222,6 @@ module _ (input : Input) (journal : Journal) (legal : Legal input journal) (befo
       let same = (same_asked request version r h.asker.version reply h.reply (sym found.entry_is ∙ ap entry_in h.is)).request_is in
       questioned name text (subst (λ z. slice_get input.script.entries (length found.front) ≡ Some (said.Ask z name text)) same at) (subst (λ z. IsAsk input found.front z text found.it) same h)
   at_line (said.Ask r name text) at (inr h) = absurd (no_memory request version reply kinds.Ask (Some r) None (sym found.entry_is ∙ ap entry_in h.unserved))
-  at_line (said.Read r name key args qs) at (inl h) = absurd (no_read request version reply r h.asker.version key h.reply (sym found.entry_is ∙ ap entry_in h.is))
-  at_line (said.Read r name key args qs) at (inr h) = absurd (no_memory request version reply kinds.Read (Some r) None (sym found.entry_is ∙ ap entry_in h.unserved))
   at_line (said.End r name) at (inl h) = let e : Ask request version reply ≡ End r h.version = sym found.entry_is ∙ ap entry_in h.is in absurd (cc)
   at_line (said.End r name) at (inr h) = absurd (no_memory request version reply kinds.End (Some r) None (sym found.entry_is ∙ ap entry_in h.unserved))
   at_line (said.Publish number set) at (inl h) = let e : Ask request version reply ≡ Publish h.version = sym found.entry_is ∙ ap entry_in h.is in absurd (cc)

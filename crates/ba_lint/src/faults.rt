@@ -90,20 +90,12 @@ impl Named {
         Named::new("VIEW", name, false, wants_param)
     }
 
-    // The cache key that has a fault.
-    fn of_key(name: Str, fault: &ReadQueryFault) -> Option<Named> {
-        let wants_param = matches!(fault, ReadQueryFault::UnknownParam);
-        Named::new("KEY", name, false, wants_param)
-    }
-
     // The statement that a fault names, if it names one.
     fn of_fault(fault: PolicyFault) -> Option<Named> {
         match fault {
             PolicyFault::View(name, fault) => Named::of_view(name, &fault),
             PolicyFault::DuplicateView(name) => Named::new("VIEW", name, true, false),
             PolicyFault::DuplicateParam(name) => Named::new("PARAM", name, true, false),
-            PolicyFault::DuplicateKey(name) => Named::new("KEY", name, true, false),
-            PolicyFault::Key(name, fault) => Named::of_key(name, &fault),
             PolicyFault::Lex(_fault) => None,
             PolicyFault::Syntax => None,
             PolicyFault::TooMany {

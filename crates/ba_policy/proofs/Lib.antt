@@ -1,7 +1,6 @@
 pub mod EndLemmas
+pub mod FitLemmas
+pub mod LoopLemmas
 pub mod StatementLemmas
 pub mod DeclareLemmas
-pub mod FitLemmas
-pub mod KeyLemmas
-pub mod LoopLemmas
 pub mod ReadingLemmas

@@ -1,7 +1,6 @@
 //! Reads a file as a policy.
 #![tactic(auto)]
 
-mod cache_key;
 mod draft;
 mod error;
 pub mod laws;

@@ -18,15 +18,6 @@ pub enum ScriptEntry {
         name: Str,
         query: Str,
     },
-    /// The request reads the cache key with this number among the policy's, from 0, with a value of its kind for each of its arguments.
-    /// The read counts as many questions as the key has queries.
-    Read {
-        request: u32,
-        name: Str,
-        key: usize,
-        arguments: Context,
-        questions: u32,
-    },
     /// The request ends, and its name with it, which may begin another one.
     End {
         request: u32,

@@ -11,13 +11,8 @@ pub enum LineFault {
     Shape,
     /// It begins a request whose name is open.
     Begun,
-    /// It asks, reads or ends a request whose name isn't open.
+    /// It asks or ends a request whose name isn't open.
     Unbegun,
-    /// It reads a cache key that the policy hasn't.
-    Key,
-    /// Its arguments aren't those of its cache key: one is lacking, has another name, or a value that isn't of its kind, as `null`
-    /// never is.
-    Args,
     /// Its context lacks a parameter, has another name, or a value that isn't of its parameter's
     /// kind, as `null` never is.
     Context,

@@ -1,5 +1,3 @@
 pub mod Passing
 pub mod Asking
 pub mod Judging
-pub mod KeyReads
-pub mod Literals

@@ -4,14 +4,11 @@
 
 mod judge;
 mod keep;
-mod key;
-mod literals;
 mod reply;
 mod request;
 mod service;
 mod sharing;
 
-pub use literals::key_queries;
-pub use reply::{By, Judgement, Keeping, KeyReply, Reply, Why};
+pub use reply::{By, Judgement, Keeping, Reply, Why};
 pub use request::Request;
 pub use service::{Closed, Passes, Service};

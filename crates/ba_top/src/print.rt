@@ -1,5 +1,5 @@
 //! Writes the lines of a run.
-ghost use Rattle.std.specs.Prelude.{◌≡◌, ◌==◌, ◌<◌, ◌+◌, ◌++◌, [], ◌∷◌, All, List as Sequence, IfErr, IfOk, OnOk, Some, length, map, position, slice_get, string_bytes};
+ghost use Rattle.std.specs.Prelude.{◌≡◌, ◌==◌, ◌<◌, ◌+◌, ◌++◌, [], ◌∷◌, List, IfErr, IfOk, OnOk, Some, length, map, position, slice_get, string_bytes};
 ghost use Rattle.ba_input.specs.Inputs.{IsInput};
 ghost use Rattle.ba_input.specs.declared.input.Input.{Input as Given};
 ghost use Rattle.ba_lanes.specs.declared.journal.Entry.{Entry as EntryOf};
@@ -8,7 +8,7 @@ ghost use Rattle.ba_wire.specs.Printed.{fault_bytes, line_bytes, printed};
 ghost use Rattle.ba_lanes.specs.Legal.{left_templates};
 ghost use Rattle.ba_store.specs.Written.{line_of as template_bytes};
 ghost use Rattle.ba_top.specs.Evidence.{AllClose, AreAfter};
-ghost use Rattle.ba_top.specs.Text.{ReadsKey, entry_bytes, entry_line, lines_of, name_in, printed_block, printed_by, read_line, reply_line, total_bytes};
+ghost use Rattle.ba_top.specs.Text.{entry_bytes, entry_line, lines_of, name_in, printed_block, printed_by, reply_line, total_bytes};
 ghost use Rattle.ba_top.specs.Told.{TellsClosed, told_lines};
 
 use crate::evident::print_evident;
@@ -16,11 +16,11 @@ use crate::requests::Requests;
 use crate::summary::count_all;
 use ba_input::{Input, Told};
 use ba_lanes::{Entry, Journal};
-use ba_model::{List, Policy, Shared, Str};
+use ba_model::{Shared, Str};
 use ba_outside::{Sink, WriteFail};
 use ba_plan::send;
 use ba_script::ScriptEntry;
-use ba_session::{By, KeyReply, Reply, Why};
+use ba_session::{By, Reply, Why};
 use ba_store::template_line;
 use ba_template::Template;
 use ba_wire::{Block, By as PrintedBy, Fault, Line, fault_text, line_text, summary_text};
@@ -75,107 +75,23 @@ fn reply_line<'a>(request: &'a Str, line: u64, version: u32, reply: &'a Reply) -
     }
 }
 
-// What each of the queries rests on.
-fn names(alloc: Global, by: &[By]) -> Result<List<PrintedBy>, AllocError>
-    ensures { IfOk result (λ names. names ≡ map printed_by by.now) }
-{
-    let mut names = Vec::with_capacity(alloc, by.len())?;
-    for it in by {
-        names.push(printed_by(it))?;
-    }
-    Ok(List::from_vec(names))
-}
-
-fn read_text(
-    alloc: Global,
-    name: &Str,
-    line: u64,
-    version: u32,
-    key: &Str,
-    reply: &KeyReply,
-) -> Result<String, AllocError>
-    ensures { IfOk result (λ text. string_bytes text
-        ≡ line_bytes (read_line name.now line version key.now reply.now)) }
-{
-    let read = name;
-    match reply {
-        KeyReply::Allowed { by, .. } => {
-            let by = &names(alloc, by.as_slice())?;
-            let told = Line::Read {
-                by,
-                key,
-                line,
-                read,
-                version,
-            };
-            line_text(alloc, &told)
-        }
-        KeyReply::Blocked { before, why, .. } => {
-            let told = Line::ReadBlock {
-                blocked: printed_block(why),
-                key,
-                line,
-                query: before.len() as u64,
-                read,
-                version,
-            };
-            line_text(alloc, &told)
-        }
-        KeyReply::NoMemory => line_text(alloc, &Line::Memory { line }),
-    }
-}
-
-/// The line of an entry, for a request or a table set of this name.
-pub(crate) fn entry_text(
-    alloc: Global,
-    policy: &Policy,
-    name: &Str,
-    line: u64,
-    entry: &Entry,
-) -> Result<String, AllocError>
-    requires { ReadsKey policy.now entry.now }
-    ensures { IfOk result (λ text. string_bytes text
-        ≡ line_bytes (entry_line policy.now name.now line entry.now)) }
+pub(crate) fn entry_line<'a>(name: &'a Str, line: u64, entry: &'a Entry) -> Line<'a>
+    ensures { printed result ≡ entry_line name.now line entry.now }
 {
     match entry {
-        Entry::Begin { version, .. } => {
-            let version = *version;
-            let begin = name;
-            line_text(
-                alloc,
-                &Line::Begin {
-                    begin,
-                    line,
-                    version,
-                },
-            )
-        }
-        Entry::Ask { version, reply, .. } => {
-            line_text(alloc, &reply_line(name, line, *version, reply))
-        }
-        Entry::Read {
-            version,
-            key,
-            reply,
-            ..
-        } => {
-            let key = &policy.keys.get(*key).name;
-            read_text(alloc, name, line, *version, key, reply)
-        }
-        Entry::End { .. } => line_text(alloc, &Line::End { end: name, line }),
-        Entry::Publish { version } => {
-            let version = *version;
-            let publish = name;
-            line_text(
-                alloc,
-                &Line::Publish {
-                    line,
-                    publish,
-                    version,
-                },
-            )
-        }
-        Entry::Memory { .. } => line_text(alloc, &Line::Memory { line }),
+        Entry::Begin { version, .. } => Line::Begin {
+            begin: name,
+            line,
+            version: *version,
+        },
+        Entry::Ask { version, reply, .. } => reply_line(name, line, *version, reply),
+        Entry::End { .. } => Line::End { end: name, line },
+        Entry::Publish { version } => Line::Publish {
+            line,
+            publish: name,
+            version: *version,
+        },
+        Entry::Memory { .. } => Line::Memory { line },
     }
 }
 
@@ -185,28 +101,37 @@ pub(crate) fn name_in(said: &ScriptEntry) -> &Str
     match said {
         ScriptEntry::Begin { name, .. } => name,
         ScriptEntry::Ask { name, .. } => name,
-        ScriptEntry::Read { name, .. } => name,
         ScriptEntry::End { name, .. } => name,
         ScriptEntry::Publish { set, .. } => set,
     }
 }
 
+fn entry_text(
+    alloc: Global,
+    said: &ScriptEntry,
+    line: u64,
+    entry: &Entry,
+) -> Result<String, AllocError>
+    ensures { IfOk result (λ text. string_bytes text
+        ≡ line_bytes (entry_line (name_in said.now) line entry.now)) }
+{
+    line_text(alloc, &entry_line(name_in(said), line, entry))
+}
+
 // Writes the line of an entry, for a line of the script with its number.
 fn print_entry<S: Sink>(
     alloc: Global,
-    policy: &Policy,
     said: &ScriptEntry,
     line: u64,
     entry: &Entry,
     sink: &mut S,
 ) -> Result<(), WriteFail>
-    requires { ReadsKey policy.now entry.now }
-    ensures { (input : Given) (earlier : Sequence EntryOf) → input.policy ≡ policy.now
+    ensures { (input : Given) (earlier : List EntryOf)
         → slice_get input.script.entries (length earlier) ≡ Some said.now → line ≡ length earlier + 1
         → SentLines (entry_bytes input earlier entry.now ∷ [])
         (S.seen sink.old) (S.seen sink.new) result }
 {
-    let Ok(text) = entry_text(alloc, policy, name_in(said), line, entry) else {
+    let Ok(text) = entry_text(alloc, said, line, entry) else {
         return Err(WriteFail::NoMemory);
     };
     send(sink, text.as_bytes())
@@ -284,15 +209,14 @@ fn print_lines<S: Sink>(
     journal: &Journal,
     sink: &mut S,
 ) -> Result<(), WriteFail>
-    requires many { length journal.now.entries ≡ length input.now.script.entries }
-    requires keys { All (ReadsKey input.now.policy) journal.now.entries }
+    requires { length journal.now.entries ≡ length input.now.script.entries }
     ensures { SentLines (told_lines Told.Lines input.now journal.now)
         (S.seen sink.old) (S.seen sink.new) result }
 {
     for place in 0..journal.entries.len() {
         let said = input.script.entries.get(place);
         let entry = journal.entries.get(place);
-        print_entry(alloc, &input.policy, said, place as u64 + 1, entry, sink)?;
+        print_entry(alloc, said, place as u64 + 1, entry, sink)?;
     }
     print_summary(alloc, journal, sink)
 }
@@ -304,7 +228,7 @@ fn follow(
     said: &ScriptEntry,
     entry: &Entry,
 ) -> Result<(), WriteFail>
-    ensures ok { OnOk result ((input : Given) (earlier : Sequence EntryOf)
+    ensures ok { OnOk result ((input : Given) (earlier : List EntryOf)
         → slice_get input.script.entries (length earlier) ≡ Some said.now
         → AreAfter input earlier requests.old
         → AreAfter input (earlier ++ entry.now ∷ []) requests.new) }
@@ -325,7 +249,6 @@ fn print_proofs<S: Sink>(
 ) -> Result<(), WriteFail>
     requires input { IsInput input.now }
     requires many { length journal.now.entries ≡ length input.now.script.entries }
-    requires keys { All (ReadsKey input.now.policy) journal.now.entries }
     ensures sent { SentLines (told_lines Told.Proofs input.now journal.now)
         (S.seen sink.old) (S.seen sink.new) result }
     ensures closed { IfOk result (λ _. AllClose input.now [] journal.now.entries) }
@@ -352,7 +275,6 @@ pub(crate) fn print_told<S: Sink>(
 ) -> Result<(), WriteFail>
     requires input { IsInput input.now }
     requires many { length journal.now.entries ≡ length input.now.script.entries }
-    requires keys { All (ReadsKey input.now.policy) journal.now.entries }
     ensures sent { SentLines (told_lines told input.now journal.now)
         (S.seen sink.old) (S.seen sink.new) result }
     ensures closed { IfOk result (λ _. TellsClosed told input.now journal.now) }

@@ -92,14 +92,6 @@ pub fn view_name(policy: &Policy, number: usize) -> &str {
     }
 }
 
-/// The name of the cache key of a number.
-pub fn key_name(policy: &Policy, number: usize) -> &str {
-    match policy.keys.find(number) {
-        Some(key) => key.name.as_str(),
-        None => "?",
-    }
-}
-
 /// The query of the view of a number, in SQL.
 pub fn view_sql(alloc: Global, policy: &Policy, number: usize) -> Result<String, AllocError>
     requires { PolicyFits policy.now }

@@ -1,4 +1,3 @@
 pub mod AnswerLemmas
 pub mod RowLemmas
 pub mod ToldLemmas
-pub mod ReadLemmas

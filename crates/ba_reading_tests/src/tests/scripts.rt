@@ -121,16 +121,6 @@ fn write_entry(told: &mut String, entry: &ScriptEntry) -> Told {
             name,
             query,
         } => write!(told, "ask {request} {name} {query};"),
-        ScriptEntry::Read {
-            request,
-            name,
-            key,
-            arguments,
-            questions,
-        } => {
-            write!(told, "read {request} {name} {key} {questions}")?;
-            write_context(told, arguments)
-        }
         ScriptEntry::End { request, name } => write!(told, "end {request} {name};"),
         ScriptEntry::Publish { number, set } => write!(told, "publish {number} {set};"),
     }
@@ -178,7 +168,7 @@ impl Reading for Scripts {
         let text = with_lines(alloc, text)?;
         let bytes = bytes_of(alloc, text.as_str())?;
         let policy = policy_of(alloc, "", "PARAM Name TEXT; PARAM MyUId INT;")?;
-        match read_script(alloc, &policy.params, &policy.keys, bytes.as_slice()) {
+        match read_script(alloc, &policy.params, bytes.as_slice()) {
             Ok(script) => write_entries(told, script.entries.as_slice()),
             Err(Failure::NoMemory) => Err(AllocError),
             Err(Failure::Fault(fault)) => write_script_fault(alloc, fault, told),

@@ -1,0 +1,4 @@
+pub mod Journal
+pub mod Told
+pub mod Ran
+pub mod Text

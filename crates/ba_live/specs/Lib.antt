@@ -1,0 +1,4 @@
+pub mod Books
+pub mod Steps
+pub mod Wellformed
+pub mod Laws

@@ -1,0 +1,79 @@
+//! What an event is answered.
+
+use ba_event::Event;
+use ba_judge::{Allowed, Reason};
+use ba_model::{Duplicate, Str};
+use ba_sql_query::ReadQueryFault;
+use std::alloc::{AllocError, Global};
+
+/// Why a line changes nothing. Of several reasons the first of this order is told.
+#[derive(Clone, Copy, Debug, PartialEq, Eq)]
+pub enum Refusal {
+    /// It has more bytes than a line may have.
+    Long,
+    /// It isn't UTF-8, or no JSON value.
+    Json,
+    /// It isn't an object with exactly the keys of one form, each with its type and length.
+    Shape,
+    /// It begins a request whose name is open.
+    Begun,
+    /// It asks or ends a request whose name isn't open.
+    Unbegun,
+    /// Its context lacks a parameter, has another name, or a value that isn't of its parameter's
+    /// kind.
+    Context,
+    /// It begins a request where as many as may be are open.
+    Requests,
+    /// It asks of a request that has asked as often as it may.
+    Asks,
+    /// It tells rows of a line that is no allowed question of an open request, or was told.
+    Unasked,
+    /// It tells more rows of a question than may be.
+    Rows,
+    /// It tells a row that can be of no part of its question.
+    Misfit,
+}
+
+/// What an event is answered.
+#[derive(Drop)]
+pub enum Decision {
+    /// The request is open.
+    Begun,
+    /// The question may be put to the database. Its rows may be told.
+    Allowed(Allowed),
+    /// The question may not be put to the database.
+    Blocked(Reason),
+    /// The text reads as no query: its first fault.
+    Unread(ReadQueryFault),
+    /// The rows are recorded.
+    Told,
+    /// The request is gone, with all that it was told.
+    Ended,
+    /// There was no memory.
+    Memory,
+    /// The line changes nothing.
+    Refused(Refusal),
+}
+
+/// Whom an event is about.
+#[derive(Debug, Drop)]
+pub enum Subject {
+    /// The request of this name.
+    Request(Str),
+    /// The question of this line.
+    Line(u64),
+    /// Nobody: the line says nothing.
+    Nobody,
+}
+
+impl Subject {
+    /// Whom the event is about.
+    pub fn of(alloc: Global, event: &Event) -> Result<Subject, AllocError> {
+        match event {
+            Event::Begin { name, .. } | Event::Ask { name, .. } | Event::End { name } => {
+                Ok(Subject::Request(name.copy(alloc)?))
+            }
+            Event::Told { line, .. } => Ok(Subject::Line(*line)),
+        }
+    }
+}
