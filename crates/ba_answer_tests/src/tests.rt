@@ -1,4 +1,5 @@
 mod answers;
+mod equations;
 mod events;
 mod given;
 mod plain;

@@ -2,4 +2,3 @@ pub mod Keys
 pub mod Rows
 pub mod Reads
 pub mod Passes
-pub mod Plain

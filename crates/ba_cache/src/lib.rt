@@ -8,9 +8,7 @@ mod key;
 mod passes;
 mod rows;
 mod shelf;
-mod shelves;
 
 pub use cache::{Cache, CachePass};
 pub use call::{Admit, Found, Kept, ShelfCall};
 pub use shelf::Shelf;
-pub use shelves::Shelves;

@@ -10,7 +10,7 @@ use Rattle.clap.specs.declared.ArgMatches.{ArgMatches}
 use Rattle.clap.specs.declared.Error.{Error}
 use Rattle.clap.specs.declared.error.ErrorKind.TheVariants.{OutOfMemory}
 use Rattle.clap.proofs.WalkLemmas.{first_value-rows}
-use Rattle.ba_command.specs.Words.{check_app, check_from, check_of, gen_app, gen_from, gen_of, run_app, run_from, run_of, store_app, store_from, store_of, unless_fault}
+use Rattle.ba_command.specs.Words.{audit_app, audit_from, audit_of, check_app, check_from, check_of, gen_app, gen_from, gen_of, run_app, run_from, run_of, store_app, store_from, store_of, unless_fault}
 use Rattle.ba_command.specs.declared.command.Command.{Command}
 use Rattle.ba_command.specs.declared.command.WordsFault.{WordsFault}
 use Rattle.ba_command.specs.declared.command.WordsFault.TheVariants.{NoForm}
@@ -151,3 +151,25 @@ pub gen_refused : (app : App) (words : List Text) (e : Error) (x : Failure Words
     → Gives (Err x) (gen_of words)
 unfolding gen_of
 gen_refused app words e x is has other = form_refuses gen_app app words e x _ is has other
+
+-- ---- audit
+
+audit_plain : is_simple audit_app ≡ true
+audit_plain = refl
+
+pub audit_free : is_simple_and_free audit_app ≡ true
+audit_free = refl
+
+audit_values : AreValues audit_from
+audit_values f g same = rw (same (codes "schema"), same (codes "policy"), same (codes "tables"), same (codes "script"), same (codes "output")) refl
+
+pub audit_ok : (app : App) (words : List Text) (m : ArgMatches) → app ≡ audit_app → HasMatchesOf app words m → fault_of app words ≡ []
+    → audit_from (first_value (found_of m)) ≡ audit_of words
+unfolding audit_of
+audit_ok app words m is has none = form_reads audit_app app audit_from words m audit_plain audit_values is has none
+
+pub audit_refused : (app : App) (words : List Text) (e : Error) (x : Failure WordsFault) → app ≡ audit_app → HasKind (fault_of app words) e
+    → (x ≡ Fault NoForm → kind_of e ≢ OutOfMemory)
+    → Gives (Err x) (audit_of words)
+unfolding audit_of
+audit_refused app words e x is has other = form_refuses audit_app app words e x _ is has other

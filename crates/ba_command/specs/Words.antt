@@ -10,7 +10,7 @@ use Rattle.clap.specs.Walk.{Rule, Text, first_of}
 use Rattle.clap.specs.declared.builder.action.ArgAction.TheVariants.{Set, SetTrue}
 use Rattle.clap.specs.declared.builder.value_parser.ValueParser.TheVariants as parser
 use Rattle.ba_command.specs.declared.command.Command.{Command}
-use Rattle.ba_command.specs.declared.command.Command.TheVariants.{Run, Check, Gen, Store}
+use Rattle.ba_command.specs.declared.command.Command.TheVariants.{Run, Check, Gen, Store, Audit}
 use Rattle.ba_command.specs.declared.command.WordsFault.{WordsFault}
 use Rattle.ba_command.specs.declared.command.WordsFault.TheVariants.{NoForm}
 use Rattle.ba_command.specs.declared.given.Given.{Given}
@@ -69,6 +69,10 @@ run_app = with_rule (with_rule (served_app (codes "run")) (option_rule (codes "l
 -- store, which loads none and prints no proofs
 abbrev pub store_app : App
 store_app = served_app (codes "store")
+
+-- audit, with --output O
+abbrev pub audit_app : App
+audit_app = with_rule (given_app (codes "audit")) (needed (option_rule (codes "output")))
 
 -- check --schema S --policy P --proof F
 abbrev pub check_app : App
@@ -157,31 +161,43 @@ abbrev pub gen_from : (Text → Option Text) → Result Command WordsFault
 gen_from given = with_numbers (number_in 0 most_seed (given (codes "seed"))) (number_in 0 most_requests (given (codes "requests")))
     (number_or least_workers most_workers usual_workers (given (codes "workers"))) (is_set (given (codes "print")))
 
+abbrev pub as_audit : Result Given WordsFault → Option Text → Result Command WordsFault
+as_audit (Ok it) (Some output) = Ok (Audit it.schema it.policy it.tables it.script output)
+as_audit (Ok it) None = Err NoForm
+as_audit (Err e) output = Err e
+
+-- the audit that the values of the options are
+abbrev pub audit_from : (Text → Option Text) → Result Command WordsFault
+audit_from given = as_audit (given_from given) (given (codes "output"))
+
 -- where `clap` finds no fault
 abbrev pub unless_fault : Kinds → Result Command WordsFault → Result Command WordsFault
 unless_fault [] found = found
 unless_fault (kind ∷ kinds) found = Err NoForm
 
--- how many steps a search may take; a check searches for none
+-- how many steps a search may take; a check and an audit search for none
 abbrev pub budget_of : Command → ℕ
 budget_of (Run schema policy tables script load proofs workers budget orders) = budget
 budget_of (Store schema policy tables script workers budget orders) = budget
 budget_of (Check schema policy proof) = 0
 budget_of (Gen seed requests workers print) = usual_budget
+budget_of (Audit schema policy tables script output) = 0
 
--- how many workers serve a script; a check has none
+-- how many workers serve a script; a check and an audit have none
 abbrev pub workers_of : Command → Option ℕ
 workers_of (Run schema policy tables script load proofs workers budget orders) = Some workers
 workers_of (Store schema policy tables script workers budget orders) = Some workers
 workers_of (Check schema policy proof) = None
 workers_of (Gen seed requests workers print) = Some workers
+workers_of (Audit schema policy tables script output) = None
 
--- in how many orders of its due steps a proof is searched for; a check searches for none
+-- in how many orders of its due steps a proof is searched for; a check and an audit search for none
 abbrev pub orders_of : Command → Option ℕ
 orders_of (Run schema policy tables script load proofs workers budget orders) = Some orders
 orders_of (Store schema policy tables script workers budget orders) = Some orders
 orders_of (Check schema policy proof) = None
 orders_of (Gen seed requests workers print) = Some usual_orders
+orders_of (Audit schema policy tables script output) = None
 
 -- at least one, and at most as many as may be
 abbrev pub AreWorkers : ℕ → Type 0
@@ -197,6 +213,7 @@ WorkloadFits (Run schema policy tables script load proofs workers budget orders)
 WorkloadFits (Store schema policy tables script workers budget orders) = Unit {0}
 WorkloadFits (Check schema policy proof) = Unit {0}
 WorkloadFits (Gen seed requests workers print) = (seed ≤ most_seed) × (requests ≤ most_requests)
+WorkloadFits (Audit schema policy tables script output) = Unit {0}
 
 -- what the words behind `run` ask for
 unfoldable pub run_of : List Text → Result Command WordsFault
@@ -214,6 +231,10 @@ check_of words = unless_fault (fault_of check_app words) (check_from (λ id. fir
 unfoldable pub gen_of : List Text → Result Command WordsFault
 gen_of words = unless_fault (fault_of gen_app words) (gen_from (λ id. first_of id (matches_of gen_app words)))
 
+-- what the words behind `audit` ask for
+unfoldable pub audit_of : List Text → Result Command WordsFault
+audit_of words = unless_fault (fault_of audit_app words) (audit_from (λ id. first_of id (matches_of audit_app words)))
+
 -- the command that the words ask for, or that they are no command's form
 abbrev pub command_of : List Text → Result Command WordsFault
 command_of [] = Err NoForm
@@ -222,4 +243,5 @@ command_of (name ∷ words) =
     else (if bytes_eq name (codes "check") then check_of words
     else (if bytes_eq name (codes "gen") then gen_of words
     else (if bytes_eq name (codes "store") then store_of words
-    else Err NoForm)))
+    else (if bytes_eq name (codes "audit") then audit_of words
+    else Err NoForm))))

@@ -69,6 +69,19 @@ pub enum Command {
         /// Whether the script is to be printed, and not to be run.
         print: bool,
     },
+    /// `audit --schema S --policy P --tables D --script F --output O`
+    Audit {
+        /// The name of the schema's file.
+        schema: Str,
+        /// The name of the policy's file.
+        policy: Str,
+        /// The name of the table set.
+        tables: Str,
+        /// The name of the script's file.
+        script: Str,
+        /// The name of the file of the output to be audited.
+        output: Str,
+    },
 }
 
 /// Why words are refused.

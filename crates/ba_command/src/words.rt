@@ -4,6 +4,7 @@ ghost use Rattle.ba_model.specs.Readings.{Gives};
 ghost use Rattle.ba_model.specs.Limits.{most_budget};
 ghost use Rattle.ba_command.specs.Words.{AreOrders, AreWorkers, WorkloadFits, budget_of, command_of, orders_of, workers_of};
 
+use crate::audit::read_audit;
 use crate::check::read_check;
 use crate::command::{Command, WordsFault};
 use crate::generate::read_gen;
@@ -12,8 +13,8 @@ use crate::store::read_store;
 use ba_model::Failure;
 use std::alloc::Global;
 
-/// The command that the words ask for, without the program's name: `run`, `check`, `gen` or `store`
-/// and its options, in any order, each once and with one value, as `--option VALUE` or
+/// The command that the words ask for, without the program's name: `run`, `check`, `gen`, `store` or
+/// `audit` and its options, in any order, each once and with one value, as `--option VALUE` or
 /// `--option=VALUE`; `--print` and `--proofs` have none. Numbers are in decimal, and within their
 /// ranges.
 ///
@@ -37,6 +38,8 @@ pub fn read_words(alloc: Global, words: &[String]) -> Result<Command, Failure<Wo
         read_gen(alloc, rest)
     } else if name.as_str() == "store" {
         read_store(alloc, rest)
+    } else if name.as_str() == "audit" {
+        read_audit(alloc, rest)
     } else {
         Err(Failure::Fault(WordsFault::NoForm))
     }

@@ -14,9 +14,16 @@ use Rattle.ba_model.specs.declared.value.Value.{Value}
 use Rattle.ba_model.specs.declared.value.Value.TheVariants as value
 use Rattle.ba_direct.specs.declared.covers.PartCover.{PartCover}
 use Rattle.ba_proof.proofs.JsonLemmas.{steps_flat, steps_whole}
+use Rattle.ba_proof.specs.Written.{value_json as proof_value}
 use Rattle.ba_refute.specs.declared.clause.Counterexample.{Counterexample}
 use Rattle.ba_wire.specs.Printed.{count, row_json, rows_json, value_json}
 use Rattle.ba_evidence.specs.Evidence.{Evidence, covered, matched, proved, answer_json, database_json, evidence_json, pair_json, part_json, refuted_json, with_tables}
+
+-- a value is written as in a proof file
+pub same_value : (v : Value) → proof_value v ≡ value_json v
+same_value value.Null = refl
+same_value (value.Int n) = refl
+same_value (value.Text s) = refl
 
 -- ---- no floats
 

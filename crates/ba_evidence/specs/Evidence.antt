@@ -1,5 +1,5 @@
 -- What lines with evidence say: compact JSON, its keys in byte order.
-use Rattle.std.specs.Prelude.{ℕ, List, [], ◌∷◌, codes, map}
+use Rattle.std.specs.Prelude.{ℕ, List, [], ◌∷◌, All, codes, map}
 use Rattle.serde_json.specs.Data.{Data, Members, string, object, no_members, member, put}
 use Rattle.ba_model.specs.declared.policy.Parameter.{Parameter}
 use Rattle.ba_model.specs.declared.schema.Schema.{Schema}
@@ -9,6 +9,7 @@ use Rattle.ba_model.specs.declared.value.Value.{Value}
 use Rattle.ba_direct.specs.declared.covers.Cover.{Cover}
 use Rattle.ba_direct.specs.declared.covers.PartCover.{PartCover}
 use Rattle.ba_kernel.specs.declared.step.Step.{Step}
+use Rattle.ba_proof.specs.ReadBack.{StepHasBits, ValueSpells}
 use Rattle.ba_proof.specs.Written.{list_json, step_json}
 use Rattle.ba_refute.specs.declared.clause.Counterexample.{Counterexample}
 use Rattle.ba_wire.specs.Printed.{count, row_json, rows_json}
@@ -57,6 +58,17 @@ answer_json params it line request rows version =
     (member (codes "request") (string request)
     (member (codes "rows") (rows_json rows)
     (member (codes "version") (count version) no_members))))))
+
+-- the numbers of its steps have their bits
+abbrev pub EvidenceHasBits : Evidence → Type 0
+EvidenceHasBits (covered cover) = Unit {0}
+EvidenceHasBits (matched steps) = All StepHasBits steps
+EvidenceHasBits (proved steps) = All StepHasBits steps
+
+-- the numbers of an answer's rows, and of the steps that it rests on, have their bits
+pub record AnswerHasBits (it : Evidence) (rows : List (List Value)) : Type 0 where
+  pub rows_have : All (All ValueSpells) rows
+  pub evidence_has : EvidenceHasBits it
 
 -- ---- refuted questions
 

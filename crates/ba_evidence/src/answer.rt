@@ -3,7 +3,7 @@ ghost use Rattle.std.specs.Prelude.{◌≡◌, IfOk, map, string_bytes};
 ghost use Rattle.serde_json.specs.View.{view};
 ghost use Rattle.ba_proof.specs.Written.{count, list_json};
 ghost use Rattle.ba_wire.specs.Printed.{ReadsBack, json_line};
-ghost use Rattle.ba_evidence.specs.Evidence.{answer_json, by_name, evidence, evidence_json as evidence_data, part_json};
+ghost use Rattle.ba_evidence.specs.Evidence.{AnswerHasBits, EvidenceHasBits, answer_json, by_name, evidence, evidence_json, part_json};
 
 use crate::line::line_of;
 use crate::rows::rows_json;
@@ -26,7 +26,7 @@ pub enum Ground<'a> {
 }
 
 impl<'a> Ground<'a> {
-    pub(crate) fn name(&self) -> &'static str
+    fn name(&self) -> &'static str
         ensures { result.now ≡ by_name (evidence self.now) }
     {
         match self {
@@ -68,12 +68,9 @@ fn cover_json(alloc: Global, parts: &[PartCover]) -> Result<Json, AllocError>
     Ok(Json::Array(items))
 }
 
-pub(crate) fn evidence_json(
-    alloc: Global,
-    params: &[Parameter],
-    ground: &Ground,
-) -> Result<Json, AllocError>
-    ensures { IfOk result (λ v. view v ≡ evidence_data params.now (evidence ground.now)) }
+fn ground_json(alloc: Global, params: &[Parameter], ground: &Ground) -> Result<Json, AllocError>
+    ensures json { IfOk result (λ v. view v ≡ evidence_json params.now (evidence ground.now)) }
+    ensures bits { IfOk result (λ _. EvidenceHasBits (evidence ground.now)) }
 {
     match ground {
         Ground::Cover(cover) => cover_json(alloc, cover.parts.as_slice()),
@@ -92,14 +89,15 @@ fn answer_json(
     rows: &List<Row>,
     version: u32,
 ) -> Result<Json, AllocError>
-    ensures { IfOk result (λ v. view v
+    ensures json { IfOk result (λ v. view v
         ≡ answer_json params.now (evidence ground.now) line request.now rows.now version) }
+    ensures bits { IfOk result (λ _. AnswerHasBits (evidence ground.now) rows.now) }
 {
     let mut members = Map::new(alloc);
     let by = Json::try_from_str(alloc, ground.name())?;
     put(&mut members, alloc, "by", by)?;
     put(&mut members, alloc, "line", Json::from(line))?;
-    let proof = evidence_json(alloc, params, ground)?;
+    let proof = ground_json(alloc, params, ground)?;
     put(&mut members, alloc, "proof", proof)?;
     let request = Json::try_from_str(alloc, request.as_str())?;
     put(&mut members, alloc, "request", request)?;
@@ -111,8 +109,9 @@ fn answer_json(
 
 /// The line of an answer with what it rests on, and a line feed. `params` are the policy's
 /// parameters, by whose names steps have them; `line` is the script's line, from 1, and `version`
-/// that of the request's tables, from 0. Steps are written as a proof file has them. The only error
-/// is want of memory, which leaves nothing behind.
+/// that of the request's tables, from 0. Steps are written as a proof file has them. The numbers of
+/// the rows and of the steps have the bits of their types. The only error is want of memory, which
+/// leaves nothing behind.
 pub fn answer_line(
     alloc: Global,
     params: &[Parameter],
@@ -126,6 +125,7 @@ pub fn answer_line(
         (answer_json params.now (evidence ground.now) line request.now rows.now version)) }
     ensures reads_back { IfOk result (λ s. ReadsBack (string_bytes s)
         (answer_json params.now (evidence ground.now) line request.now rows.now version)) }
+    ensures bits { IfOk result (λ _. AnswerHasBits (evidence ground.now) rows.now) }
 {
     let value = answer_json(alloc, params, ground, line, request, rows, version)?;
     line_of(alloc, &value)

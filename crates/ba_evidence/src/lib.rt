@@ -9,8 +9,6 @@ mod answer;
 mod line;
 mod refuted;
 mod rows;
-mod said;
 
 pub use answer::{Ground, answer_line};
 pub use refuted::refuted_line;
-pub use said::{Grounds, allowed_line, pair_line};

@@ -1,5 +1,5 @@
 -- How the input is read, stage by stage.
-use Rattle.std.proofs.Common.{false, ◌≡◌, ◌∙◌, ◌<◌, ◌≤◌, ◌+◌, [], ◌∷◌, ◌++◌, inl, inr, refl, sym, ap, subst, ℕ, suc, List, Result, Ok, Err, length, drop, take, get_or, add-one, drop-cons, Option, Some, None, length-append, arith}
+use Rattle.std.proofs.Common.{Bool, false, ◌≡◌, ◌∙◌, ◌<◌, ◌≤◌, ◌+◌, [], ◌∷◌, ◌++◌, inl, inr, refl, sym, ap, subst, ℕ, suc, List, Result, Ok, Err, length, drop, take, get_or, add-one, drop-cons, Option, Some, None, length-append, arith}
 use Rattle.std.proofs.lemmas.List.{take_more}
 use Rattle.std.proofs.lemmas.List.Elements.{All-append, All-cons, All-nil}
 use Rattle.std.specs.List.{All, AllZip}
@@ -12,7 +12,7 @@ use Rattle.ba_model.specs.SchemaFaults.{AreTables}
 use Rattle.ba_kernel.specs.SearchStates as kernel
 use Rattle.ba_command.specs.Words.{command_of}
 use Rattle.ba_command.specs.declared.command.Command.{Command}
-use Rattle.ba_command.specs.declared.command.Command.TheVariants.{Check}
+use Rattle.ba_command.specs.declared.command.Command.TheVariants.{Audit, Check, Run, Store}
 use Rattle.ba_command.specs.declared.command.WordsFault.{WordsFault}
 use Rattle.ba_command.specs.declared.command.WordsFault.TheVariants.{NoForm}
 use Rattle.ba_model.specs.Conform.{RowFits}
@@ -43,7 +43,7 @@ use Rattle.ba_tables.specs.Checked.{checked}
 use Rattle.ba_tables.specs.TableSet.{TableSet}
 use Rattle.ba_input.specs.Inputs.{IsInput, RowsOfTables}
 use Rattle.ba_input.specs.Published.{IsSetOf}
-use Rattle.ba_input.specs.Reading.{Gathered, Names, ProofNames, check_plan, command_plan, gathered, load_plan, loading, plan_at, policy_and_proof_plan, policy_plan, proof_plan, proof_reading_of, published_plan, reading_of, ready, rest_plan, rows_plan, script_plan, served_plan, set_plan, sets_plan, table_plan, tables_plan, workload_plan, workload_reading}
+use Rattle.ba_input.specs.Reading.{Gathered, Names, ProofNames, audit_plan, check_plan, command_plan, gathered, given_names, load_plan, loading, output_plan, plan_at, policy_and_proof_plan, policy_plan, proof_plan, proof_reading_of, published_plan, reading_of, ready, rest_plan, rows_plan, script_plan, served_plan, set_plan, sets_plan, table_plan, tables_plan, told_by, workload_plan, workload_reading}
 use Rattle.ba_input.specs.Reads.{Comes, Finds, Reads, run_with}
 use Rattle.ba_input.specs.Refusals.{broken_refusal, ddl_refusal, policy_refusal}
 use Rattle.ba_input.specs.declared.input.Input.{Input}
@@ -52,7 +52,7 @@ use Rattle.ba_wire.specs.declared.fault.Fault.TheVariants.{Words}
 use Rattle.ba_input.specs.declared.task.Task.{Task}
 use Rattle.ba_input.specs.declared.task.Task.TheVariants as task
 use Rattle.ba_input.specs.declared.task.Told.{Told}
-use Rattle.ba_input.specs.declared.task.Told.TheVariants.{Summary}
+use Rattle.ba_input.specs.declared.task.Told.TheVariants.{Summary, Templates}
 
 zip_end : {A B : Type 0} (R : A → B → Type 0) (xs : List A) (ys : List B) (x : A) (y : B) → AllZip R xs ys → R x y → AllZip R (xs ++ x ∷ []) (ys ++ y ∷ [])
 zip_end R [] [] x y h last = (last, tt)
@@ -265,13 +265,33 @@ comes_ready plan s t (Err e) follows = record {
   becomes = refl;
 }
 
+-- a run, by what it is named
+pub comes_run : (command : Command) (schema policy tables script : List ℕ) (load : Option (List ℕ)) (proofs : Bool) (workers budget orders : ℕ) (told : Told) (file : Option (List ℕ)) (names : Names) (s t : FilesSeen) (r : Result Task (Stop Fault)) → command ≡ Run schema policy tables script load proofs workers budget orders → told ≡ told_by proofs → file ≡ load
+    → names ≡ record { schema = schema; policy = policy; tables = tables; script = script; workers = workers; budget = budget; orders = orders } → Comes (served_plan told file names) s t r → Comes (command_plan command) s t r
+comes_run command schema policy tables script load proofs workers budget orders told file names s t r is so first same comes =
+    let lent = subst (λ z. Comes (served_plan z file names) s t r) so comes in
+    let loaded = subst (λ z. Comes (served_plan (told_by proofs) z names) s t r) first lent in
+    subst (λ z. Comes (command_plan z) s t r) (sym is) (subst (λ z. Comes (served_plan (told_by proofs) load z) s t r) same loaded)
+
+-- one whose templates are printed
+pub comes_store : (command : Command) (schema policy tables script : List ℕ) (workers budget orders : ℕ) (names : Names) (s t : FilesSeen) (r : Result Task (Stop Fault)) → command ≡ Store schema policy tables script workers budget orders
+    → names ≡ record { schema = schema; policy = policy; tables = tables; script = script; workers = workers; budget = budget; orders = orders } → Comes (served_plan Templates None names) s t r → Comes (command_plan command) s t r
+comes_store command schema policy tables script workers budget orders names s t r is same comes =
+    subst (λ z. Comes (command_plan z) s t r) (sym is) (subst (λ z. Comes (served_plan Templates None z) s t r) same comes)
+
 -- a check, with the names of its files
-pub comes_check : (command : Command) (schema policy proof a b d : List ℕ) (s t : FilesSeen) (r : Result Task (Stop Fault)) → command ≡ Check schema policy proof → a ≡ schema → b ≡ policy → d ≡ proof → Follows (check_plan (record { schema = a; policy = b; proof = d })) s t r → Comes (command_plan command) s t r
-comes_check command schema policy proof a b d s t r is first second third follows =
+pub comes_check : (schema policy proof a b d : List ℕ) (s t : FilesSeen) (r : Result Task (Stop Fault)) → a ≡ schema → b ≡ policy → d ≡ proof → Follows (check_plan (record { schema = a; policy = b; proof = d })) s t r → Comes (command_plan (Check schema policy proof)) s t r
+comes_check schema policy proof a b d s t r first second third follows =
     let third_is = subst (λ z. Follows (check_plan (record { schema = a; policy = b; proof = z })) s t r) third follows in
     let second_is = subst (λ z. Follows (check_plan (record { schema = a; policy = z; proof = proof })) s t r) second third_is in
     let whole = subst (λ z. Follows (check_plan (record { schema = z; policy = policy; proof = proof })) s t r) first second_is in
-    subst (λ z. Comes (command_plan z) s t r) (sym is) (comes_ready (check_plan (record { schema = schema; policy = policy; proof = proof })) s t r whole)
+    comes_ready (check_plan (record { schema = schema; policy = policy; proof = proof })) s t r whole
+
+-- an audit, by what the run was given, and the name of the output
+pub comes_audit : (schema policy tables script output : List ℕ) (names : Names) (name : List ℕ) (s t : FilesSeen) (r : Result Task (Stop Fault)) → names ≡ given_names schema policy tables script → name ≡ output → Follows (audit_plan names name) s t r → Comes (command_plan (Audit schema policy tables script output)) s t r
+comes_audit schema policy tables script output names name s t r same is follows =
+    let given = subst (λ z. Follows (audit_plan z name) s t r) same follows in
+    comes_ready (audit_plan (given_names schema policy tables script) output) s t r (subst (λ z. Follows (audit_plan (given_names schema policy tables script) z) s t r) is given)
 
 -- the words are a command's form
 pub reads_command : (words : List (List ℕ)) (command : Command) (s t : FilesSeen) (r : Result Task (Stop Fault)) → command_of words ≡ Ok command → Comes (command_plan command) s t r → Reads words s t r
@@ -295,6 +315,13 @@ check_ok names proof s t follows = then_ok (proof_reading_of names) (λ z. done 
 
 pub check_err : (names : ProofNames) (s t : FilesSeen) (e : Stop Fault) → Follows (proof_reading_of names) s t (Err e) → Follows (check_plan names) s t (Err e)
 check_err names s t e follows = then_err (proof_reading_of names) (λ z. done (task.Check z)) s t e follows
+
+-- what the run was given, and then the output
+pub audit_ok : (names : Names) (output : List ℕ) (input : Input) (s m t : FilesSeen) (r : Result Task (Stop Fault)) → Follows (reading_of names) s m (Ok input) → Follows (output_plan output input) m t r → Follows (audit_plan names output) s t r
+audit_ok names output input s m t r follows rest = then_ok (reading_of names) (output_plan output) s m t input r follows rest
+
+pub audit_err : (names : Names) (output : List ℕ) (s t : FilesSeen) (e : Stop Fault) → Follows (reading_of names) s t (Err e) → Follows (audit_plan names output) s t (Err e)
+audit_err names output s t e follows = then_err (reading_of names) (output_plan output) s t e follows
 
 -- a policy that was read for a schema that was read
 pub policy_is : (policy : Policy) → PolicyFits policy → AreTables policy.schema.tables → AreRules policy.schema → IsPolicy policy

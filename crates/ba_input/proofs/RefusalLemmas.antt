@@ -4,7 +4,7 @@ use Rattle.std.specs.Prelude.{⊤, unwrap_or}
 use Rattle.std.specs.Option.{option_to_list}
 use Rattle.ba_command.specs.Words.{command_of}
 use Rattle.ba_command.specs.declared.command.Command.{Command}
-use Rattle.ba_command.specs.declared.command.Command.TheVariants.{Run, Check, Gen, Store}
+use Rattle.ba_command.specs.declared.command.Command.TheVariants.{Run, Check, Gen, Store, Audit}
 use Rattle.ba_command.specs.declared.command.WordsFault.{WordsFault}
 use Rattle.ba_command.specs.declared.command.WordsFault.TheVariants.{NoForm}
 use Rattle.ba_lex.specs.declared.token.LexFault.{LexFault}
@@ -47,7 +47,7 @@ use Rattle.ba_tables.specs.declared.fault.TableFault.{TableFault}
 use Rattle.ba_tables.specs.declared.fault.TableFault.TheVariants as table_fault
 use Rattle.ba_input.proofs.ReadsLemmas.{OfTemplates, stopped}
 use Rattle.ba_input.specs.Path.{path_of}
-use Rattle.ba_input.specs.Reading.{Names, ProofNames, check_plan, command_plan, file_of, gathered, load_plan, over, plan_at, plan_of, policy_and_proof_plan, policy_plan, proof_plan, proof_reading_of, published_plan, reading_of, ready, rest_plan, rows_plan, script_plan, served_plan, set_plan, sets_plan, table_plan, tables_plan, told_by, workload_names, workload_plan, workload_reading}
+use Rattle.ba_input.specs.Reading.{Names, ProofNames, audit_plan, check_plan, command_plan, file_of, gathered, given_names, load_plan, output_plan, over, plan_at, plan_of, policy_and_proof_plan, policy_plan, proof_plan, proof_reading_of, published_plan, reading_of, ready, rest_plan, rows_plan, script_plan, served_plan, set_plan, sets_plan, table_plan, tables_plan, told_by, workload_names, workload_plan, workload_reading}
 use Rattle.ba_input.specs.Reads.{Reads}
 use Rattle.ba_input.specs.Refusals.{broken_refusal, ddl_refusal, lex_fault, policy_refusal, proof_refusal, schema_fault, script_refusal, table_refusal, template_refusal}
 use Rattle.ba_input.specs.Stops.{IsRefusal}
@@ -244,6 +244,9 @@ gathered_refuses plan h = then_refuses plan (λ it. done (ready it)) h (λ it. t
 check_refuses : (names : ProofNames) → Refuses (check_plan names)
 check_refuses names = then_refuses (proof_reading_of names) (λ it. done (task.Check it)) (proof_refuses names) (λ it. tt)
 
+audit_refuses : (names : Names) (output : List ℕ) → Refuses (audit_plan names output)
+audit_refuses names output = then_refuses (reading_of names) (output_plan output) (reading_refuses names) (λ input bytes. tt)
+
 command_refuses : (command : Command) → Refuses (command_plan command)
 command_refuses (Run schema policy tables script load proofs workers budget orders) = served_refuses (told_by proofs) load (record { schema = schema; policy = policy; tables = tables; script = script; workers = workers; budget = budget; orders = orders })
 command_refuses (Store schema policy tables script workers budget orders) = served_refuses Templates None (record { schema = schema; policy = policy; tables = tables; script = script; workers = workers; budget = budget; orders = orders })
@@ -251,6 +254,9 @@ command_refuses (Gen seed requests workers print) = gathered_refuses (workload_p
 command_refuses (Check schema policy proof) =
     let names : ProofNames = record { schema = schema; policy = policy; proof = proof } in
     gathered_refuses (check_plan names) (check_refuses names)
+command_refuses (Audit schema policy tables script output) =
+    let names : Names = given_names schema policy tables script in
+    gathered_refuses (audit_plan names output) (audit_refuses names output)
 
 plan_refuses : (command : Result Command WordsFault) → Refuses (plan_at command)
 plan_refuses (Err NoForm) = tt

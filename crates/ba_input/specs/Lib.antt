@@ -7,4 +7,3 @@ pub mod Stops
 pub mod Reading
 pub mod Reads
 pub mod Causes
-pub mod Deciding

@@ -3,7 +3,7 @@ use Rattle.std.specs.Prelude.{ℕ, List, [], ◌∷◌, ◌++◌, Bool, true, fa
 use Rattle.std.specs.Option.{option_to_list}
 use Rattle.ba_command.specs.Words.{command_of, usual_orders}
 use Rattle.ba_command.specs.declared.command.Command.{Command}
-use Rattle.ba_command.specs.declared.command.Command.TheVariants.{Run, Check, Gen, Store}
+use Rattle.ba_command.specs.declared.command.Command.TheVariants.{Run, Check, Gen, Store, Audit}
 use Rattle.ba_command.specs.declared.command.WordsFault.{WordsFault}
 use Rattle.ba_command.specs.declared.command.WordsFault.TheVariants.{NoForm}
 use Rattle.ba_model.specs.Readings.{widened}
@@ -12,7 +12,7 @@ use Rattle.ba_model.specs.declared.schema.Schema.{Schema}
 use Rattle.ba_model.specs.declared.schema.Table.{Table}
 use Rattle.ba_model.specs.declared.value.Value.{Value}
 use Rattle.ba_model.specs.declared.limits.Counted.TheVariants.{FileBytes}
-use Rattle.ba_model.specs.Limits.{most_file_bytes, usual_budget}
+use Rattle.ba_model.specs.Limits.{most_file_bytes, usual_budget, usual_workers}
 use Rattle.ba_plan.specs.Plan.{Plan, done, refuse, ask, found, ◌>>=◌}
 use Rattle.ba_policy.specs.Reading.{policy_of}
 use Rattle.ba_proof.specs.Reading.{proof_of}
@@ -28,6 +28,7 @@ use Rattle.ba_tables.specs.TableSet.{TableSet}
 use Rattle.ba_input.specs.Path.{path_of}
 use Rattle.ba_input.specs.Refusals.{broken_refusal, ddl_refusal, policy_refusal, proof_refusal, script_refusal, table_refusal}
 use Rattle.ba_input.specs.declared.input.Input.{Input}
+use Rattle.ba_input.specs.declared.run_input.Named.{Named}
 use Rattle.ba_wire.specs.declared.fault.Fault.{Fault}
 use Rattle.ba_wire.specs.declared.fault.Fault.TheVariants.{Limit, Words}
 use Rattle.ba_input.specs.declared.task.Task.{Task}
@@ -49,6 +50,10 @@ pub record Names : Type 0 where
   pub workers : ℕ
   pub budget : ℕ
   pub orders : ℕ
+
+-- those that are lent
+abbrev pub names_of : Named → Names
+names_of it = record { schema = it.schema.now; policy = it.policy.now; tables = it.tables.now; script = it.script.now; workers = it.workers; budget = it.budget; orders = it.orders }
 
 abbrev pub file_of : List ℕ → Plan Fault (List ℕ)
 file_of name = ask name most_file_bytes done
@@ -158,6 +163,24 @@ proof_reading_of names = do
   schema ← found (widened (ddl_refusal names.schema) (schema_of bytes))
   policy_and_proof_plan names schema
 
+-- ---- an audit
+
+-- what the run was given whose output is audited, which isn't run anew
+abbrev pub given_names : (schema policy tables script : List ℕ) → Names
+given_names schema policy tables script = record { schema = schema; policy = policy; tables = tables; script = script; workers = usual_workers; budget = usual_budget; orders = usual_orders }
+
+-- the output, whatever its bytes are
+abbrev pub output_plan : List ℕ → Input → Plan Fault Task
+output_plan name input = do
+  bytes ← file_of name
+  done (task.Audit input bytes)
+
+-- first all that the run was given, and last the output
+abbrev pub audit_plan : Names → List ℕ → Plan Fault Task
+audit_plan names output = do
+  input ← reading_of names
+  output_plan output input
+
 -- ---- the commands
 
 -- What the files give: a task; or one that is whole once the input has its templates, those that the
@@ -207,6 +230,7 @@ command_plan (Run schema policy tables script load proofs workers budget orders)
 command_plan (Store schema policy tables script workers budget orders) = served_plan Templates None (record { schema = schema; policy = policy; tables = tables; script = script; workers = workers; budget = budget; orders = orders })
 command_plan (Gen seed requests workers print) = gathered (workload_plan seed requests workers print)
 command_plan (Check schema policy proof) = gathered (check_plan (record { schema = schema; policy = policy; proof = proof }))
+command_plan (Audit schema policy tables script output) = gathered (audit_plan (given_names schema policy tables script) output)
 
 abbrev pub plan_at : Result Command WordsFault → Plan Fault Gathered
 plan_at (Err NoForm) = refuse Words

@@ -3,17 +3,18 @@ ghost use Rattle.std.specs.Prelude.{◌≡◌, ◌<◌, ◌≤◌, IfOk, IfSome,
 ghost use Rattle.std.specs.Option.{option_copied};
 ghost use Rattle.ba_command.specs.Words.{AreOrders, budget_of, orders_of, workers_of};
 ghost use Rattle.ba_model.specs.Limits.{most_budget, most_workers};
-ghost use Rattle.ba_input.specs.Reading.{command_plan, served_plan, told_by};
+ghost use Rattle.ba_input.specs.Reading.{command_plan, names_of, served_plan, told_by};
 ghost use Rattle.ba_input.specs.Reads.{Comes, Reads};
 ghost use Rattle.ba_input.specs.Tasks.{IsTask};
 
+use crate::audit_input::read_audit;
 use crate::proof_input::{NamedProof, read_check};
 use crate::run_input::{Named, read_named};
 use crate::task::{Task, Told};
 use crate::template_input::read_loading;
 use crate::workload::read_workload;
-use ba_command::{Command, WordsFault, read_words};
-use ba_model::{Failure, Str};
+use ba_command::{Command, ORDERS, WordsFault, read_words};
+use ba_model::{BUDGET, Failure, Str, WORKERS};
 use ba_outside::Files;
 use ba_plan::Stop;
 use ba_wire::Fault;
@@ -66,6 +67,76 @@ fn read_served<F: Files>(
     }
 }
 
+// The names of what a run is given, and how it is made.
+fn named_run<'a>(
+    schema: &'a Str,
+    policy: &'a Str,
+    tables: &'a Str,
+    script: &'a Str,
+    workers: u32,
+    budget: u32,
+    orders: u32,
+) -> Named<'a>
+    ensures { names_of result ≡ (record {
+      schema = schema.now;
+      policy = policy.now;
+      tables = tables.now;
+      script = script.now;
+      workers = workers;
+      budget = budget;
+      orders = orders;
+    }) }
+{
+    Named {
+        schema: schema.as_str(),
+        policy: policy.as_str(),
+        tables: tables.as_str(),
+        script: script.as_str(),
+        workers,
+        budget,
+        orders,
+    }
+}
+
+// What a check is of.
+fn read_checked<F: Files>(
+    alloc: Global,
+    files: &mut F,
+    schema: &Str,
+    policy: &Str,
+    proof: &Str,
+) -> Result<Task, Stop<Fault>>
+    ensures comes { Comes (command_plan (Command.Check schema.now policy.now proof.now))
+        (F.seen files.old) (F.seen files.new) result }
+    ensures task { IfOk result IsTask }
+{
+    let named = NamedProof {
+        schema: schema.as_str(),
+        policy: policy.as_str(),
+        proof: proof.as_str(),
+    };
+    read_check(alloc, files, &named)
+}
+
+// What an audit is of.
+fn read_audited<F: Files>(
+    alloc: Global,
+    files: &mut F,
+    schema: &Str,
+    policy: &Str,
+    tables: &Str,
+    script: &Str,
+    output: &Str,
+) -> Result<Task, Stop<Fault>>
+    ensures comes { Comes (command_plan
+        (Command.Audit schema.now policy.now tables.now script.now output.now))
+        (F.seen files.old) (F.seen files.new) result }
+    ensures task { IfOk result IsTask }
+{
+    let given = named_run(schema, policy, tables, script, WORKERS, BUDGET, ORDERS);
+    read_audit(alloc, files, &given, output.as_str())
+}
+
 fn read_command<F: Files>(
     alloc: Global,
     command: &Command,
@@ -90,15 +161,7 @@ fn read_command<F: Files>(
             budget,
             orders,
         } => {
-            let named = Named {
-                schema: schema.as_str(),
-                policy: policy.as_str(),
-                tables: tables.as_str(),
-                script: script.as_str(),
-                workers: *workers,
-                budget: *budget,
-                orders: *orders,
-            };
+            let named = named_run(schema, policy, tables, script, *workers, *budget, *orders);
             read_served(alloc, files, &named, name_of(load), told_by(*proofs))
         }
         Command::Store {
@@ -110,15 +173,7 @@ fn read_command<F: Files>(
             budget,
             orders,
         } => {
-            let named = Named {
-                schema: schema.as_str(),
-                policy: policy.as_str(),
-                tables: tables.as_str(),
-                script: script.as_str(),
-                workers: *workers,
-                budget: *budget,
-                orders: *orders,
-            };
+            let named = named_run(schema, policy, tables, script, *workers, *budget, *orders);
             read_served(alloc, files, &named, None, Told::Templates)
         }
         Command::Gen {
@@ -131,25 +186,26 @@ fn read_command<F: Files>(
             schema,
             policy,
             proof,
-        } => {
-            let named = NamedProof {
-                schema: schema.as_str(),
-                policy: policy.as_str(),
-                proof: proof.as_str(),
-            };
-            read_check(alloc, files, &named)
-        }
+        } => read_checked(alloc, files, schema, policy, proof),
+        Command::Audit {
+            schema,
+            policy,
+            tables,
+            script,
+            output,
+        } => read_audited(alloc, files, schema, policy, tables, script, output),
     }
 }
 
 /// Reads what the words name, and the table sets that a script publishes: file by file, in order, up
 /// to the first fault. The file of templates, if the words name one, is the last; nothing in it is
-/// believed, and each template's steps are taken anew. What was read belongs together.
+/// believed, and each template's steps are taken anew. So is an output that is audited the last, of
+/// which any bytes will do. What was read belongs together.
 ///
 /// # Errors
 /// `Refused` where the words are no command's form, a file has no reading, rows break a key or a link,
-/// a template isn't proved, or a count is above its limit: never with [`Fault::Read`]. `Read` and `TooLong` name the file that
-/// was asked for last. `NoMemory` may come at any point.
+/// a template isn't proved, or a count is above its limit: never with [`Fault::Read`]. `Read` and
+/// `TooLong` name the file that was asked for last. `NoMemory` may come at any point.
 pub fn read_task<F: Files>(
     alloc: Global,
     words: &[String],

@@ -1,7 +1,7 @@
 //! What is done, with what was read for it.
 
 use crate::input::Input;
-use ba_model::Str;
+use ba_model::{List, Str};
 use ba_proof::Proof;
 
 /// What is told of a run. How it is told is no part of what the run is given.
@@ -26,4 +26,7 @@ pub enum Task {
     Print(Str),
     /// A proof is checked.
     Check(Proof),
+    /// These bytes are audited, as what a run of the input wrote. How many workers that run had, and how
+    /// it searched, is not known, and the input has what is usual there.
+    Audit(Input, List<u8>),
 }

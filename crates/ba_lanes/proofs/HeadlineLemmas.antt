@@ -48,7 +48,7 @@ stays opening (call.Pin m told) old new step n tables there = subst (λ z. slice
 stays opening call.Refused old new step n tables there = subst (λ z. slice_get z n ≡ Some tables) (sym step) there
 
 -- what was pinned is a version
-pinned_there : (opening : TableSet) {calls : List VersionCall} {list : List TableSet} → versions.Legal opening calls list → (n : ℕ) (tables : TableSet) → Contains calls (pin_of n tables) → slice_get list n ≡ Some tables
+pub pinned_there : (opening : TableSet) {calls : List VersionCall} {list : List TableSet} → versions.Legal opening calls list → (n : ℕ) (tables : TableSet) → Contains calls (pin_of n tables) → slice_get list n ≡ Some tables
 pinned_there opening (versions.start v) n tables h = let low = h.1 in absurd (omega (arith, low))
 pinned_there opening (versions.next {calls = calls} {old = old} {new = new} made before step) n tables h = by (pinned_there opening before n tables) (Contains-push_cases calls made (pin_of n tables) h)
   where
@@ -81,7 +81,7 @@ none_is : {A : Type 0} (before after : List A) (x : A) → before ++ x ∷ after
 none_is [] after x e = cc
 none_is (b ∷ bs) after x e = cc
 
-abbrev entry_in : LineDone → Entry
+abbrev pub entry_in : LineDone → Entry
 entry_in it = it.entry
 
 -- the line of an entry among the others
@@ -169,13 +169,26 @@ same_asked request version r v reply (Blocked query why) e = same_ask request ve
 same_asked request version r v reply (Unread fault) e = same_ask request version r v reply (Unread fault) e
 same_asked request version r v reply NoMemory e = absurd (no_memory request version reply kinds.Ask (Some r) (Some v) e)
 
-trace_same : (number : ℕ) (its : List LineDone) → trace_of number its ≡ trace_in number (map entry_in its)
+pub trace_same : (number : ℕ) (its : List LineDone) → trace_of number its ≡ trace_in number (map entry_in its)
 trace_same number [] = refl
 trace_same number (x ∷ xs) = ap (λ z. answer_of number x.entry ++ z) (trace_same number xs)
 
 map_length : {X Y : Type 0} (f : X → Y) (xs : List X) → length (map f xs) ≡ length xs
 map_length f [] = refl
 map_length f (x ∷ xs) = ap suc (map_length f xs)
+
+-- what a line pinned stands in the history of the versions
+pub pin_made : (input : Input) (journal : Journal) (legal : Legal input journal) (request version : ℕ) (tables : TableSet) → Contains legal.served (begins request version tables) →
+    Contains (calls_of journal.histories.versions) (pin_of version tables)
+pin_made input journal legal request version tables all =
+    let there = in_its_lane (lane_of input.workers) input.workers input.script.entries legal.served (begins request version tables) (same_length input [] input.script.entries legal.served legal.lines)
+    (lane_low input legal.input_fits.workers.0) all in
+    let one : Contains (pin_of version tables ∷ []) (pin_of version tables) = (0, omega arith, refl) in
+    let of_its_lane : Contains (versions_made (done_in input legal.served there.0)) (pin_of version tables) =
+    flat_contains (λ (it : LineDone). it.made.versions) (done_in input legal.served there.0) (begins request version tables) (pin_of version tables) there.2 one in
+    let log = legal.versions.calls.log in
+    subst (λ z. Contains z (pin_of version tables)) (sym legal.versions.calls.calls_are)
+    (told_by (there.0 + 1) log (pin_of version tables) (subst (λ z. Contains z (pin_of version tables)) (sym (legal.versions.calls.each there.0 there.1)) of_its_lane))
 
 module _ (input : Input) (journal : Journal) (legal : Legal input journal) (before : List Entry) (request version : ℕ) (reply : Reply)
     (found : IsAmong legal.served before (Ask request version reply)) where
@@ -184,16 +197,7 @@ module _ (input : Input) (journal : Journal) (legal : Legal input journal) (befo
   pinned tables h =
       let all : Contains legal.served (begins request version tables) =
       subst (λ z. Contains z (begins request version tables)) (sym found.its_are) (Contains-append_left found.front (found.it ∷ found.rest) (begins request version tables) h) in
-      let there = in_its_lane (lane_of input.workers) input.workers input.script.entries legal.served (begins request version tables) (same_length input [] input.script.entries legal.served legal.lines)
-      (lane_low input legal.input_fits.workers.0) all in
-      let one : Contains (pin_of version tables ∷ []) (pin_of version tables) = (0, omega arith, refl) in
-      let of_its_lane : Contains (versions_made (done_in input legal.served there.0)) (pin_of version tables) =
-      flat_contains (λ (it : LineDone). it.made.versions) (done_in input legal.served there.0) (begins request version tables) (pin_of version tables) there.2 one in
-      let log = legal.versions.calls.log in
-      let made : Contains (calls_of journal.histories.versions) (pin_of version tables) =
-      subst (λ z. Contains z (pin_of version tables)) (sym legal.versions.calls.calls_are)
-      (told_by (there.0 + 1) log (pin_of version tables) (subst (λ z. Contains z (pin_of version tables)) (sym (legal.versions.calls.each there.0 there.1)) of_its_lane)) in
-      ∥∥₁_map legal.versions.legal (λ it. pinned_there input.tables it version tables made)
+      ∥∥₁_map legal.versions.legal (λ it. pinned_there input.tables it version tables (pin_made input journal legal request version tables all))
 
   questioned : (name text : List ℕ) → slice_get input.script.entries (length found.front) ≡ Some (said.Ask request name text) → IsAsk input found.front request text found.it → HasReply input journal request version before reply
   questioned name text at h =

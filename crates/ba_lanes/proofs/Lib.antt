@@ -11,3 +11,4 @@ pub mod WorkLemmas
 pub mod LegalLemmas
 pub mod HeadlineLemmas
 pub mod Crossing
+pub mod IdealLemmas

@@ -3,3 +3,4 @@ pub mod Legal
 pub mod Headline
 pub mod Serving
 pub mod Working
+pub mod Ideal

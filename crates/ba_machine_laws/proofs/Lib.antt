@@ -19,3 +19,4 @@ pub mod PlaceLemmas
 pub mod LoadedLemmas
 pub mod OneWorkerLemmas
 pub mod StandingLemmas
+pub mod IdealLemmas

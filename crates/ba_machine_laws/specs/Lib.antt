@@ -3,3 +3,4 @@ pub mod Shelves
 pub mod Whole
 pub mod Journals
 pub mod OneWorker
+pub mod Ideals

@@ -1,5 +1,7 @@
-//! What requests and whole runs tell is what the machine replies, stated as functions that do nothing.
+//! What requests and whole runs tell is what the machine replies, and what runs of equations come to,
+//! stated as functions that do nothing.
 ghost use Rattle.ba_machine_laws.specs.Agreeing.{AskAgrees, BeginAgrees, EndAgrees, OthersAgree};
+ghost use Rattle.ba_machine_laws.specs.Ideals.{IdealsAgree, LegalIsIdeal, RunsAgree};
 ghost use Rattle.ba_machine_laws.specs.Journals.{AskersAreStanding, RequestsAreARun};
 ghost use Rattle.ba_machine_laws.specs.OneWorker.{JournalIsARun};
 ghost use Rattle.ba_machine_laws.specs.Shelves.{FoundIsAdmitted};
@@ -138,4 +140,25 @@ pub fn journal_is_a_run()
     problem_is_question();
     question_is_problem();
     strong_complies();
+}
+
+// ---- where equations alone are used
+
+/// A legal journal is ideal where no column may be NULL, each atom of rules, views and questions is
+/// an `=`, no line publishes a table set, each line found memory, and none is blocked since the
+/// budget is spent: each question is unread with its text's first fault; or answered by its query's
+/// answer in the input's tables, where the query is strongly compliant after what its request was
+/// answered before; or blocked by a counterexample, where it isn't.
+pub fn legal_journals_are_ideal()
+    ensures { LegalIsIdeal }
+{}
+
+/// Two ideal journals of inputs with the same policy, tables and script have line by line the same
+/// verdict: answered by the same rows, blocked, or unread with the same fault. So have two runs
+/// there, whatever their workers, budgets, orders and loaded templates.
+pub fn ideal_journals_agree()
+    ensures ideals { IdealsAgree }
+    ensures runs { RunsAgree }
+{
+    answer_is_unique();
 }

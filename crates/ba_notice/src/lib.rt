@@ -5,6 +5,7 @@
 
 mod files;
 mod input;
+mod output;
 mod proof;
 mod telling;
 mod template;

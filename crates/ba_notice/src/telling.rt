@@ -2,6 +2,7 @@
 
 use crate::files::{Found, read_again};
 use crate::input::{Part, Reads};
+use crate::output::audit_text;
 use crate::proof::check_text;
 use crate::usage::words_text;
 use ba_hints::Hint;
@@ -118,6 +119,11 @@ pub fn notice<R: Files + AllocGlobal>(
         Detail::Done => Ok(String::new(alloc)),
         Detail::NotAccepted(fault) => {
             let text = check_text(alloc, *fault)?;
+            let hint = Hint::plain(alloc, text.as_str())?;
+            hint.line(alloc, reads.last(), &[])
+        }
+        Detail::NotAudited(fault) => {
+            let text = audit_text(alloc, *fault)?;
             let hint = Hint::plain(alloc, text.as_str())?;
             hint.line(alloc, reads.last(), &[])
         }

@@ -10,6 +10,7 @@ enum Form {
     Check,
     Gen,
     Store,
+    Audit,
 }
 
 static RUN_NEEDS: [&str; 4] = ["--schema", "--policy", "--tables", "--script"];
@@ -24,9 +25,11 @@ static GEN_NEEDS: [&str; 2] = ["--seed", "--requests"];
 
 static GEN_TAKES: [&str; 2] = ["--workers", "--print"];
 
+static AUDIT_NEEDS: [&str; 5] = ["--schema", "--policy", "--tables", "--script", "--output"];
+
 // How all commands are written.
 const USAGE: &str =
-    "usage: blockaid run --schema S --policy P --tables D --script F [--load T] [--proofs] [--workers N] [--budget B] [--orders K], blockaid store with the options of run but --load and --proofs, blockaid check --schema S --policy P --proof F, or blockaid gen --seed N --requests R [--workers N] [--print]";
+    "usage: blockaid run --schema S --policy P --tables D --script F [--load T] [--proofs] [--workers N] [--budget B] [--orders K], blockaid store with the options of run but --load and --proofs, blockaid check --schema S --policy P --proof F, blockaid gen --seed N --requests R [--workers N] [--print], or blockaid audit --schema S --policy P --tables D --script F --output O";
 
 // The option of a word: what stands before its `=`.
 fn option_of(word: &str) -> &str {
@@ -52,6 +55,7 @@ impl Form {
             "check" => Some(Form::Check),
             "gen" => Some(Form::Gen),
             "store" => Some(Form::Store),
+            "audit" => Some(Form::Audit),
             _ => None,
         }
     }
@@ -62,6 +66,7 @@ impl Form {
             Form::Check => "check",
             Form::Gen => "gen",
             Form::Store => "store",
+            Form::Audit => "audit",
         }
     }
 
@@ -77,6 +82,9 @@ impl Form {
             Form::Store => {
                 "usage: blockaid store --schema S --policy P --tables D --script F [--workers N] [--budget B] [--orders K], N from 1 to 16, B from 16 to 100000, K 1 or 2"
             }
+            Form::Audit => {
+                "usage: blockaid audit --schema S --policy P --tables D --script F --output O"
+            }
         }
     }
 
@@ -86,6 +94,7 @@ impl Form {
             Form::Run | Form::Store => &RUN_NEEDS,
             Form::Check => &CHECK_NEEDS,
             Form::Gen => &GEN_NEEDS,
+            Form::Audit => &AUDIT_NEEDS,
         }
     }
 
@@ -93,7 +102,7 @@ impl Form {
     fn takes(self) -> &'static [&'static str] {
         match self {
             Form::Run => &RUN_TAKES,
-            Form::Check => &[],
+            Form::Check | Form::Audit => &[],
             Form::Gen => &GEN_TAKES,
             Form::Store => &STORE_TAKES,
         }

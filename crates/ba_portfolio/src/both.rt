@@ -2,7 +2,8 @@
 ghost use Rattle.std.specs.Prelude.{ℕ, ◌≤◌, IfOk};
 ghost use Rattle.ba_model.specs.Limits.{most_budget};
 ghost use Rattle.ba_kernel.specs.Courses.{ProblemFits};
-ghost use Rattle.ba_settle.specs.Dues.{Ends};
+ghost use Rattle.ba_portfolio.specs.Early.{EndsEarly};
+ghost use Rattle.ba_settle.specs.Dues.{Ends, EndsSaturated};
 ghost use Rattle.ba_settle.specs.Settling.{EndsInBoth};
 ghost use Rattle.ba_settle.specs.declared.order.Pick.TheVariants.{First, Last};
 
@@ -10,22 +11,60 @@ use crate::copies::copy_problem;
 use ba_instant::settle_in;
 use ba_kernel::Problem;
 use ba_outside::{FreeGate, Gate};
-use ba_settle::{Pick, Settle, Settled};
+use ba_settle::{Leaf, Pick, Settle, Settled};
 use std::alloc::{AllocError, Global};
 use std::thread::{Threads, join};
 
-/// The search in both orders of due steps, each on a thread of its own.
+/// The search in both orders of due steps. It ends as [`settle_both`] does; but the search that takes
+/// the first due step is made alone at first, for [`ALONE`] steps, and where it ends with these no
+/// thread is made: the other search is left out behind a proof, and follows it behind a saturated
+/// branch. Else each is made on a thread of its own.
 #[derive(Clone, Copy, Drop)]
 pub struct Both<'a, R> {
     pub rt: &'a R,
 }
 
+/// How many steps the search that takes the first due step is made alone for.
+const ALONE: u32 = 64;
+
 impl<'a, R: Threads> Settle for Both<'a, R> {
     ghost orders = { λ _. 2 };
 
     fn settle(&self, alloc: Global, problem: Problem, budget: u32) -> Result<Settled, AllocError> {
-        settle_both(self.rt, alloc, problem, budget, &FreeGate)
+        let first = first_alone(alloc, &problem, budget)?;
+        match first {
+            Settled::Proved(found) => Ok(Settled::Proved(found)),
+            Settled::Saturated(leaf) => behind_leaf(alloc, problem, budget, leaf),
+            Settled::Spent(_) => settle_both(self.rt, alloc, problem, budget, &FreeGate),
+        }
     }
+}
+
+/// The search that takes the first due step, for a few steps of the budget. Where it doesn't spend
+/// them it ends as with the whole budget.
+fn first_alone(alloc: Global, problem: &Problem, budget: u32) -> Result<Settled, AllocError>
+    requires fits { ProblemFits problem.now }
+    requires limit { budget ≤ most_budget }
+    ensures { IfOk result (EndsEarly First problem.now budget) }
+{
+    let same = copy_problem(alloc, problem)?;
+    settle_in(alloc, same, budget.min(ALONE), Pick::First)
+}
+
+/// How both searches end, where the one that takes the first due step ends at the leaf.
+fn behind_leaf(
+    alloc: Global,
+    problem: Problem,
+    budget: u32,
+    leaf: Leaf,
+) -> Result<Settled, AllocError>
+    requires fits { ProblemFits problem }
+    requires limit { budget ≤ most_budget }
+    requires leaf { EndsSaturated First problem budget leaf }
+    ensures { IfOk result (EndsInBoth problem budget) }
+{
+    let last = settle_in(alloc, problem, budget, Pick::Last);
+    told(Ok(Settled::Saturated(leaf)), last)
 }
 
 /// Searches for a proof of the problem in two orders at once, each by at most `budget` due steps: the

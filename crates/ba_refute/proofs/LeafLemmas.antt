@@ -11,7 +11,9 @@ use Rattle.ba_kernel.specs.SearchStates.{IsTidy, RunsAreTidy}
 use Rattle.ba_kernel.specs.declared.problem.Problem.{Problem}
 use Rattle.ba_kernel.specs.declared.step.Step.TheVariants as steps
 use Rattle.ba_refute.proofs.GivenLemmas.{IsFixedOn, all_given, facts_given, open_fixed}
+use Rattle.ba_refute.proofs.EquationsRefute.{images_refute}
 use Rattle.ba_refute.specs.Images.{AreValued, IsValued}
+use Rattle.ba_refute.specs.OfEquations.{IsDueLeafOf}
 use Rattle.ba_refute.specs.Refutals.{AskedFits, TellsRefutal, TellsTried, problem_asked}
 use Rattle.ba_refute.specs.declared.clause.Clause.{Clause}
 use Rattle.ba_refute.specs.declared.clause.Counterexample.{Counterexample}
@@ -62,7 +64,15 @@ module _ (asked : Question) (leaf : Leaf) (p : Problem) (b : Branch) (problem_is
       let h = subst (TellsTried asked leaf.problem leaf.branch) e leaf_tells in
       record { image_is = h.0; refutes = h.1 }
 
-  pub stuck : (clause : Clause) → it ≡ Stuck clause → TellsRefutal asked leaf (refutal.Stuck leaf clause)
-  stuck clause e =
+  pub stuck : AskedFits asked → leaf.problem ≡ problem_asked asked → IsLeaf leaf → (clause : Clause) → it ≡ Stuck clause → TellsRefutal asked leaf (refutal.Stuck leaf clause)
+  stuck fits same is clause e =
       let h = subst (TellsTried asked leaf.problem leaf.branch) e leaf_tells in
-      record { same = refl; image = h.0; image_is = h.1; unmet = h.2 }
+      record {
+        same = refl;
+        image = h.0;
+        image_is = h.1;
+        unmet = h.2;
+        beyond_equations = λ pick slots due of.
+            let leaf_is : IsDueLeafOf asked.policy.now asked.context.now asked.trace.now asked.query.now leaf = record { problem = same; leaf_is = is; pick = pick; slots = slots; due = due } in
+            (h.2).unmet ((images_refute asked.policy.now asked.context.now asked.trace.now asked.query.now leaf h.0 fits of leaf_is h.3 h.1).meets clause);
+      }

@@ -1,10 +1,10 @@
 -- A branch that isn't absurd has one image at most.
-use Rattle.std.proofs.Common.{◌≡◌, ◌∙◌, ℕ, ℤ, pos, zero, suc, ◌+◌, ◌<◌, ◌≤◌, [], ◌∷◌, ◌++◌, List, Contains, Option, Some, None, ap, arith, get_or, inl, inr, length, refl, subst, sym, take, ⊎_elim}
+use Rattle.std.proofs.Common.{◌≡◌, ◌∙◌, ℕ, ℤ, pos, zero, suc, ◌+◌, ◌<◌, ◌≤◌, [], ◌∷◌, ◌++◌, List, AllPairs, Contains, Option, Some, None, ap, arith, get_or, inl, inr, length, refl, subst, sym, take, ⊎_elim}
 use Rattle.std.proofs.lemmas.Bool.{cases_lt}
 use Rattle.std.proofs.lemmas.Cmp.{nat_cmp_total}
 use Rattle.std.proofs.lemmas.Int.{by_lt_z, ints}
 use Rattle.std.proofs.lemmas.List.{take_all, take_more}
-use Rattle.std.proofs.lemmas.List.Elements.{All-contains}
+use Rattle.std.proofs.lemmas.List.Elements.{All-contains, Contains-get_or}
 use Rattle.std.proofs.lemmas.Map.Views.{All-after_first}
 use Rattle.std.proofs.lemmas.Option.{slice_get-get_or}
 use Rattle.std.specs.Fmt.{decimal}
@@ -28,13 +28,14 @@ use Rattle.ba_facts.specs.declared.term.Term.{Term}
 use Rattle.ba_facts.specs.declared.term.Term.TheVariants.{Unknown, Val}
 use Rattle.ba_model.proofs.ElementLemmas.{Contains-cases, Contains-head, Contains-later, Contains-nil}
 use Rattle.ba_model.proofs.UniqueLemmas.{same_sorted, sorted_tail}
-use Rattle.ba_model.specs.OrderLaws.{row_equal, row_total}
 use Rattle.ba_model.specs.declared.policy.Context.{Context}
 use Rattle.ba_model.specs.declared.schema.Kind.TheVariants.{Int as IntKind, Text as TextKind}
 use Rattle.ba_model.specs.declared.value.Value.{Value}
 use Rattle.ba_model.specs.declared.value.Value.TheVariants.{Null, Int, Text}
+use Rattle.ba_refute.proofs.OrderedLemmas.{same_ordered}
+use Rattle.ba_refute.proofs.RowLemmas.{rows_apart}
 use Rattle.ba_refute.specs.Images as images
-use Rattle.ba_refute.specs.Images.{AreNodes, AreNumbers, AreSideRows, AreValues, IsClassValue, IsFreeUnknown, ImagesAreOne, IsMarks, IsNumberOf, IsRowAt, IsValueOf, literal, null, number, numbers_of, text, with_zero}
+use Rattle.ba_refute.specs.Images.{AreFactRows, AreNodes, AreNumbers, AreSideRows, AreValues, ComesBefore, IsClassValue, IsFactRow, IsFreeUnknown, ImagesAreOne, IsMarks, IsNumberOf, IsRowAt, IsValueOf, literal, null, number, numbers_of, text, with_zero}
 
 -- ---- lists that agree at each place
 
@@ -234,16 +235,26 @@ values_one k sound all xs ys h g =
 
 -- ---- databases
 
+module _ (c : Context) (values : List Value) (facts : List Fact) (side : Side) (table : ℕ) where
+  -- the one comes before the other, and is a fact's row
+  abbrev Precedes : List Value → List Value → Type 0
+  Precedes r s = IsFactRow c values facts side table r × ComesBefore c values facts side table r s
+
+  precede : (rows : List (List Value)) → AreFactRows c values facts side table rows → AllPairs Precedes rows
+  precede rows h i j d less within = (h.sound (get_or rows i d) (Contains-get_or rows i d (omega (arith, less, within))), h.in_order i j d less within)
+
+  rows_one : (xs ys : List (List Value)) → AreFactRows c values facts side table xs → AreFactRows c values facts side table ys → xs ≡ ys
+  rows_one xs ys h g =
+      same_ordered Precedes (λ r s first other. rows_apart c values facts side table r s first.0 first.1 other.1) xs ys (precede xs h) (precede ys g)
+      (λ r k. g.complete r (h.sound r k)) (λ r k. h.complete r (g.sound r k))
+
 sides_one : (c : Context) (values : List Value) (facts : List Fact) (tables : ℕ) (side : Side) (xs ys : List (List (List Value))) →
     AreSideRows c values facts tables side xs → AreSideRows c values facts tables side ys → xs ≡ ys
 sides_one c values facts tables side xs ys h g =
     lists_one xs ys (h.len ∙ sym g.len) []
     (λ i less.
     let there : i < length ys = omega (arith, less, h.len, g.len) in
-    let one = h.each i (get_or xs i []) (slice_get-get_or xs i [] less) in
-    let other = g.each i (get_or ys i []) (slice_get-get_or ys i [] there) in
-    same_sorted row_total row_equal (get_or xs i []) (get_or ys i []) one.rising other.rising
-    (λ r k. other.complete r (one.sound r k)) (λ r k. one.complete r (other.sound r k)))
+    rows_one c values facts side i (get_or xs i []) (get_or ys i []) (h.each i (get_or xs i []) (slice_get-get_or xs i [] less)) (g.each i (get_or ys i []) (slice_get-get_or ys i [] there)))
 
 pub images_are_one : ImagesAreOne
 images_are_one p c b it other sound h g =

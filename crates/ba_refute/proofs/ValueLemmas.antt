@@ -1,5 +1,5 @@
 -- The values of unknowns, one after another.
-use Rattle.std.proofs.Common.{◌≡◌, ℕ, zero, suc, ◌+◌, ◌<◌, ℤ, pos, List, [], ◌∷◌, ◌++◌, Contains, get_or, length, ◌⊎◌, inl, inr, refl, sym, subst, ⊎_elim, arith, Some, Result, Ok, Err}
+use Rattle.std.proofs.Common.{◌≡◌, ◌∙◌, ℕ, zero, suc, ◌+◌, ◌<◌, ◌^◌, ℤ, pos, List, [], ◌∷◌, ◌++◌, All, Contains, ap, get_or, length, ◌⊎◌, inl, inr, refl, sym, subst, ⊎_elim, arith, Some, Result, Ok, Err}
 use Rattle.std.specs.Fmt.{decimal}
 use Rattle.std.specs.List.{repeat, zip}
 use Rattle.std.specs.Result.{IfOk}
@@ -9,14 +9,18 @@ use Rattle.std.proofs.lemmas.Option.{none-some}
 use Rattle.ba_facts.proofs.Elements.{get_push_cases}
 use Rattle.ba_facts.specs.Knowing.{IsLeastOf}
 use Rattle.ba_facts.specs.Known.{Known, OneClass, ShownNotNull}
+use Rattle.ba_facts.specs.declared.branch.Branch.{Branch}
 use Rattle.ba_facts.specs.declared.term.Term.TheVariants.{Unknown, Val}
 use Rattle.ba_facts.specs.declared.term.Sort.{Sort}
+use Rattle.ba_kernel.specs.declared.problem.Problem.{Problem}
 use Rattle.ba_model.proofs.ElementLemmas.{Contains-head, Contains-later}
 use Rattle.ba_model.specs.declared.schema.Kind.{Kind}
 use Rattle.ba_model.specs.declared.schema.Kind.TheVariants.{Int as IntKind, Text as TextKind}
 use Rattle.ba_model.specs.declared.value.Value.{Value}
 use Rattle.ba_model.specs.declared.value.Value.TheVariants.{Int, Null, Text}
-use Rattle.ba_refute.specs.Images.{AreNodes, AreNumbers, AreValues, HasKind, HasNoLiteral, IsClassValue, IsFreeUnknown, IsLeastUnknown, IsMarks, IsValueOf, literal, null, text, number, numbers_of}
+use Rattle.ba_refute.specs.Counterexamples.{IsNumber}
+use Rattle.ba_refute.specs.Images.{AreNodes, AreNumbers, AreValues, HasKind, HasNoLiteral, IsClassValue, IsFreeUnknown, IsLeastUnknown, IsMarks, IsValueOf, literal, literals, null, text, number, numbers_of}
+use Rattle.ba_refute.specs.OfEquations.{AreSmall}
 
 -- the value is that of the class, whatever literals have so many marks
 abbrev pub IsAnyClassValue : Known → ℕ → List ℕ → List ℤ → ℕ → Value → Type 0
@@ -104,3 +108,15 @@ values_found items k all marks used nodes numbers (Ok it) marked used_is are num
   len = len;
   each = each all marked;
 }
+
+-- ---- what is so whatever they are
+
+pub always : {V E : Type 0} (P : V → Type 0) (found : Result V E) → ((it : V) → P it) → IfOk found P
+always P (Err e) h = tt
+always P (Ok it) h = h it
+
+pub small : (p : Problem) (b : Branch) (used seen : List ℤ) → used ≡ numbers_of (literals p b) → All IsNumber used → seen ≡ used → length seen < 2 ^ 60 → length b.known.unknowns < 2 ^ 32 → AreSmall p b
+small p b used seen is stored same few unknowns =
+    let all : All IsNumber (numbers_of (literals p b)) = subst (All IsNumber) is stored in
+    let long : length seen ≡ length (numbers_of (literals p b)) = ap length (same ∙ is) in
+    record { stored = all; unknowns = omega (arith, unknowns); few = omega (arith, long, few, unknowns) }

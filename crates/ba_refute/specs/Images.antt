@@ -1,10 +1,9 @@
 -- The image of a branch: values for its unknowns, and the two databases and the row that they give.
-use Rattle.std.specs.Prelude.{◌≡◌, ℕ, ◌<◌, ◌≤◌, ℤ, pos, ◌+ℤ◌, ◌≤ℤ◌, ◌==◌, List, [], ◌∷◌, ◌++◌, All, Contains, length, map, take, Option, Some, slice_get, slice_index, slice_index_or}
+use Rattle.std.specs.Prelude.{◌≡◌, ℕ, ◌+◌, ◌<◌, ◌≤◌, ℤ, pos, ◌+ℤ◌, ◌≤ℤ◌, ◌==◌, List, [], ◌∷◌, ◌++◌, All, AllPairs, Contains, length, map, take, Option, Some, slice_get, slice_index, slice_index_or}
 use Rattle.std.specs.Fmt.{decimal}
 use Rattle.std.specs.List.{flat_map, prefix_len, repeat, zip}
 use Rattle.std.specs.List.Sorted.{IsStrictlySortedBy}
 use Rattle.std.specs.Ordering.{nat_cmp}
-use Rattle.ba_model.specs.Order.{row_cmp}
 use Rattle.ba_model.specs.declared.policy.Context.{Context}
 use Rattle.ba_model.specs.declared.policy.View.{View}
 use Rattle.ba_model.specs.declared.query.Atom.{Atom}
@@ -239,10 +238,18 @@ pub record IsFactRow (c : Context) (values : List Value) (facts : List Fact) (si
   pub table_is : fact.table ≡ table
   pub row : IsRowAt c values fact.terms r
 
--- the strictly rising list of exactly these rows
+-- The first of the facts that are r stands before the first that is s: of the facts in order a front
+-- that has s has r before its last fact.
+abbrev pub ComesBefore : Context → List Value → List Fact → Side → ℕ → List Value → List Value →
+    Type 0
+ComesBefore c values facts side table r s =
+    (n : ℕ) → IsFactRow c values (take (n + 1) facts) side table s →
+    IsFactRow c values (take n facts) side table r
+
+-- the list of exactly these rows, each once, in the order of the facts
 pub record AreFactRows (c : Context) (values : List Value) (facts : List Fact) (side : Side)
     (table : ℕ) (rows : List (List Value)) : Type 0 where
-  pub rising : IsStrictlySortedBy row_cmp rows
+  pub in_order : AllPairs (ComesBefore c values facts side table) rows
   pub sound : (r : List Value) → Contains rows r → IsFactRow c values facts side table r
   pub complete : (r : List Value) → IsFactRow c values facts side table r → Contains rows r
 

@@ -1,5 +1,9 @@
 pub mod Counterexamples
 pub mod Images
+pub mod Once
 pub mod Pairs
 pub mod Wide
+pub mod TermValues
+pub mod EquationParts
+pub mod OfEquations
 pub mod Refutals

@@ -3,6 +3,7 @@ ghost use Rattle.std.specs.Prelude.{All, IfOk, length};
 ghost use Rattle.ba_facts.specs.Shown.{Absurd};
 ghost use Rattle.ba_refute.specs.Counterexamples.{IsPairStored};
 ghost use Rattle.ba_refute.specs.Images.{AreValued, IsValued, IsImage};
+ghost use Rattle.ba_refute.specs.OfEquations.{AreSmall};
 ghost use Rattle.ba_refute.specs.Pairs.{pair_of};
 ghost use Rattle.ba_refute.specs.Wide.{Narrows};
 
@@ -34,7 +35,9 @@ impl Image {
         requires sound { ¬ (Absurd branch.now.known) }
         requires facts { AreValued (length branch.now.known.unknowns) ctx.now branch.now.facts }
         requires goal { All (IsValued (length branch.now.known.unknowns) ctx.now) branch.now.goal }
-        ensures { IfOk result (λ it. IsImage problem.now ctx.now branch.now (pair_of it)) }
+        ensures image { IfOk result
+            (λ it. IsImage problem.now ctx.now branch.now (pair_of it)) }
+        ensures small { IfOk result (λ _. AreSmall problem.now branch.now) }
     {
         let values = values(alloc, problem, branch)?;
         let tables = problem.policy.schema.tables.len();

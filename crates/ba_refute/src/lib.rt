@@ -7,6 +7,7 @@ mod image;
 pub mod laws;
 mod literals;
 mod numbers;
+mod once;
 mod question;
 mod refutal;
 mod rising;

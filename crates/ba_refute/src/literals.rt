@@ -1,7 +1,8 @@
 //! The literals that the values of an image look at.
-ghost use Rattle.std.specs.Prelude.{◌≡◌, ◌++◌, IfOk, List as Sequence, OnOk, map};
+ghost use Rattle.std.specs.Prelude.{◌≡◌, ◌++◌, All, IfOk, List as Sequence, OnOk, map};
 ghost use Rattle.std.specs.List.{flat_map};
 ghost use Rattle.ba_model.specs.declared.value.Value.{Value as Literal};
+ghost use Rattle.ba_refute.specs.Counterexamples.{IsNumber};
 ghost use Rattle.ba_refute.specs.Images.{literals, literals_of_atom, literals_of_branch, literals_of_entry, literals_of_fact, literals_of_lesson, literals_of_operand, literals_of_part, literals_of_problem, literals_of_query, literals_of_rule, literals_of_term, literals_of_term_atom, literals_of_view, number_of_value, numbers_of};
 
 use ba_facts::{Branch, Fact, Lesson, Term, TermAtom};
@@ -196,7 +197,8 @@ pub(crate) fn literals<'a>(
 
 /// The whole numbers among some values, in order.
 pub(crate) fn numbers(alloc: Global, values: &[&Value]) -> Result<Vec<i128>, AllocError>
-    ensures { IfOk result (λ it. it.items ≡ numbers_of (map (λ v. v.now) values.now)) }
+    ensures value { IfOk result (λ it. it.items ≡ numbers_of (map (λ v. v.now) values.now)) }
+    ensures stored { IfOk result (λ it. All IsNumber it.items) }
 {
     let mut numbers = Vec::new(alloc);
     for value in values {
@@ -206,7 +208,9 @@ pub(crate) fn numbers(alloc: Global, values: &[&Value]) -> Result<Vec<i128>, All
 }
 
 fn add_number(value: &Value, numbers: &mut Vec<i128>) -> Result<(), AllocError>
-    ensures { OnOk result (numbers.new.items ≡ numbers.old.items ++ number_of_value value.now) }
+    ensures value { OnOk result
+        (numbers.new.items ≡ numbers.old.items ++ number_of_value value.now) }
+    ensures stored { OnOk result (All IsNumber (number_of_value value.now)) }
 {
     match value {
         Value::Int(n) => {

@@ -22,7 +22,9 @@ pub enum Refutal {
     /// The image of its branch is a counterexample: the question isn't strongly compliant.
     Pair(Counterexample),
     /// The first clause that the image of its branch doesn't meet. Whether the question is strongly
-    /// compliant isn't known.
+    /// compliant isn't known. Of a leaf whose steps are a due list, or a late one, this comes only
+    /// where some column may be NULL, or another atom than `=` stands in the views, the rules, the
+    /// recorded queries or the question.
     Stuck(Leaf, Clause),
 }
 

@@ -1,14 +1,14 @@
 //! The databases of a branch's facts, where the unknowns have values.
-ghost use Rattle.std.specs.Prelude.{◌≡◌, ◌↔◌, All, Contains, IfOk, IsTrue, List as Sequence, Some, length};
-ghost use Rattle.ba_eval.specs.Search.{IsRisingListOf};
+ghost use Rattle.std.specs.Prelude.{◌≡◌, ◌↔◌, All, IfOk, IsTrue, Some, length};
 ghost use Rattle.ba_facts.specs.Fits.{value_of_term};
-ghost use Rattle.ba_model.specs.declared.value.Value.{Value as Plain};
-ghost use Rattle.ba_refute.specs.Images.{AreFactRows, AreSideRows, FactIsValued, IsFactRow, IsValued, IsRowAt, given};
+ghost use Rattle.ba_refute.specs.Images.{AreFactRows, AreSideRows, FactIsValued, IsValued, IsRowAt, given};
 
+use crate::once::add_row;
 use crate::wide::{WideRow, WideValue};
 use ba_facts::{Fact, Side, Term};
 use ba_model::{Context, Duplicate, List, Shared};
 use std::alloc::{AllocError, Global};
+use std::collections::BTreeSet;
 
 /// The value of a term.
 fn value_of(
@@ -56,7 +56,7 @@ fn is_of(fact: &Fact, side: Side, table: usize) -> bool
     }
 }
 
-/// The rows of a table on a side, in the order of the facts.
+/// The rows of a table on a side, each once, in the order of the facts.
 fn fact_rows(
     alloc: Global,
     ctx: &Context,
@@ -66,25 +66,18 @@ fn fact_rows(
     table: usize,
 ) -> Result<Vec<WideRow>, AllocError>
     requires { All (FactIsValued (length values.now) ctx.now) facts.now }
-    ensures { IfOk result (λ it. (r : Sequence Plain) → Contains it.items r
-        ↔ IsFactRow ctx.now values.now facts.now side table r) }
+    ensures { IfOk result
+        (λ it. AreFactRows ctx.now values.now facts.now side table it.items) }
 {
     let mut rows = Vec::new(alloc);
+    let mut seen = BTreeSet::new(alloc);
     for fact in facts {
         if is_of(fact, side, table) {
-            rows.push(row_of(alloc, ctx, values, fact.terms.as_slice())?)?;
+            let row = row_of(alloc, ctx, values, fact.terms.as_slice())?;
+            add_row(alloc, &mut rows, &mut seen, row)?;
         }
     }
     Ok(rows)
-}
-
-/// The strictly rising list of the rows.
-fn in_order(mut rows: Vec<WideRow>) -> List<WideRow>
-    ensures { IsRisingListOf rows.items result }
-{
-    rows.sort_unstable();
-    rows.dedup();
-    List::from_vec(rows)
 }
 
 /// The rows of each table on a side.
@@ -102,7 +95,7 @@ pub(crate) fn side_of(
     let mut all = Vec::new(alloc);
     for table in 0..tables {
         let rows = fact_rows(alloc, ctx, values, facts, side, table)?;
-        all.push(in_order(rows))?;
+        all.push(List::from_vec(rows))?;
     }
     Ok(List::from_vec(all))
 }

@@ -1,5 +1,5 @@
 //! Unknowns and their classes.
-ghost use Rattle.std.specs.Prelude.{◌↔◌, ◌<◌, IfOk, IsTrue, length};
+ghost use Rattle.std.specs.Prelude.{◌↔◌, ◌<◌, ◌^◌, IfOk, IsTrue, length};
 ghost use Rattle.ba_refute.specs.Images.{AreNodes, HasKind, HasNoLiteral, IsFreeUnknown, IsLeastUnknown, IsNode};
 
 use ba_facts::{Knowledge, TermRef, number_of};
@@ -50,7 +50,8 @@ fn is_node(known: &Knowledge, n: u32) -> bool
 /// The least unknowns of the classes of whole numbers that are valued, in rising order.
 /// `AllocError` also where there are 2^32 unknowns or more.
 pub(crate) fn nodes(alloc: Global, known: &Knowledge) -> Result<Vec<u32>, AllocError>
-    ensures { IfOk result (λ it. AreNodes known.now it.items) }
+    ensures exact { IfOk result (λ it. AreNodes known.now it.items) }
+    ensures few { IfOk result (λ _. length known.now.unknowns < 2 ^ 32) }
 {
     let count = number_of(known.unknowns().len())?;
     let mut nodes = Vec::new(alloc);

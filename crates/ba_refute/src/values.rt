@@ -4,6 +4,7 @@ ghost use Rattle.std.specs.List.{zip};
 ghost use Rattle.ba_facts.specs.Shown.{Absurd};
 ghost use Rattle.ba_model.specs.declared.value.Value.{Value as Plain};
 ghost use Rattle.ba_refute.specs.Images.{AreNodes, AreValues, HasNoLiteral, IsClassValue, IsLeastUnknown, IsMarks, IsValueOf, literals};
+ghost use Rattle.ba_refute.specs.OfEquations.{AreSmall};
 
 use crate::literals::{literals, numbers};
 use crate::numbers::node_numbers;
@@ -109,8 +110,9 @@ pub(crate) fn values(
     branch: &Branch,
 ) -> Result<Vec<WideValue>, AllocError>
     requires { ¬ (Absurd branch.now.known) }
-    ensures { IfOk result
+    ensures image { IfOk result
         (λ it. AreValues branch.now.known (literals problem.now branch.now) it.items) }
+    ensures small { IfOk result (λ _. AreSmall problem.now branch.now) }
 {
     let all = literals(alloc, problem, branch)?;
     let marks = marks(&all)?;

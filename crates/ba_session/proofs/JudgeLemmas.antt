@@ -3,7 +3,7 @@ use Rattle.std.proofs.Common.{◌≡◌, ◌∙◌, refl, sym, ap, subst, ℕ, s
 use Rattle.std.proofs.lemmas.List.{take_all, take_more, take-append-drop}
 use Rattle.std.proofs.lemmas.List.Elements.{All-append, All-cons, All-contains_itself, All-head, All-nil, All-push, All-tail, All-weaker}
 use Rattle.std.specs.List.{All, Contains}
-use Rattle.std.specs.Prelude.{MatchOption}
+use Rattle.std.specs.Prelude.{MatchOption, ◌↔◌}
 use Rattle.std.specs.declared.alloc.AllocError.{AllocError}
 use Rattle.ba_cache.specs.Passes.{CallsOn}
 use Rattle.ba_cache.specs.Rows.{IsSound, kept}
@@ -15,8 +15,9 @@ use Rattle.ba_comply.specs.declared.trace.TraceEntry.{TraceEntry}
 use Rattle.ba_direct.specs.Cover.{AlwaysStrong, Covered, IsCover}
 use Rattle.ba_direct.specs.declared.covers.Cover.{Cover}
 use Rattle.ba_general.specs.Generals.{IsOfQuestion}
-use Rattle.ba_settle.proofs.SettledLemmas.{leaf_problem, proof_problem}
-use Rattle.ba_settle.specs.Dues.{IsLeaf}
+use Rattle.ba_settle.proofs.SearchLemmas.{due_list}
+use Rattle.ba_settle.proofs.SettledLemmas.{leaf_end, leaf_problem, proof_problem}
+use Rattle.ba_settle.specs.Dues.{DueList, IsLeaf}
 use Rattle.ba_settle.specs.Settling.{Effort, SettledAreLeaves, Settles}
 use Rattle.ba_settle.specs.declared.ends.Leaf.{Leaf}
 use Rattle.ba_settle.specs.declared.ends.Settled.{Settled}
@@ -37,6 +38,8 @@ use Rattle.ba_model.specs.declared.policy.Policy.{Policy}
 use Rattle.ba_model.specs.declared.query.Query.{Query}
 use Rattle.ba_model.specs.declared.value.RowSet.{RowSet}
 use Rattle.ba_model.specs.declared.value.Value.{Value}
+use Rattle.ba_refute.proofs.RefuteLemmas.{refutes}
+use Rattle.ba_refute.specs.OfEquations.{IsQuestionOfEquations}
 use Rattle.ba_refute.specs.Images.{IsImage}
 use Rattle.ba_refute.specs.Refutals.{IsRefutal, IsRefutedBy, IsStuckAt}
 use Rattle.ba_refute.specs.declared.clause.Clause.{Clause}
@@ -44,6 +47,7 @@ use Rattle.ba_refute.specs.declared.clause.Counterexample.{Counterexample}
 use Rattle.ba_refute.specs.declared.refutal.Refutal.{Refutal}
 use Rattle.ba_refute.specs.declared.refutal.Refutal.TheVariants as refutal
 use Rattle.ba_session.specs.Asking.{HasFault, HasNoVerdict, IsRequestOf, IsServable, IsCompliant, IsFirstToMatch, IsGround, IsKept, IsNoMatch, IsReason, IsReleased, Judges, NoneMatches, Reads, Replies, Uncovered, answer_in, look_at, question}
+use Rattle.ba_session.specs.Deciding.{Decides, IsAnswerTo, IsDecidedRightly}
 use Rattle.ba_session.specs.Judging.{Answers, AnswersByProof, IsByProof, IsByTemplate, IsFoundBy, IsOtherGround, IsSearched, IsServing, IsShown, Says, Weighs, refusal_of}
 use Rattle.ba_session.proofs.PassLemmas.{makes_more, makes_none, makes_one}
 use Rattle.ba_session.specs.Passing.{LeavesVersions, Makes, ShelfCalls, on_shelf}
@@ -83,12 +87,15 @@ module _ (policy : Policy) (asker : Request) (query : Query) (leaf : Leaf) (is :
       IsReason policy asker effort query (why.Stuck other clause)
   stuck other clause e effort ends =
       let h : IsStuckAt policy asker.context asker.trace query leaf other clause = subst (IsRefutal policy asker.context asker.trace query leaf) e tells in
+      let (pick, end) = leaf_end effort (question policy asker query) leaf ends in
+      let due = due_list pick (question policy asker query) leaf.steps end.slots end.searches in
       subst (λ z. IsReason policy asker effort query (why.Stuck z clause)) (sym h.same)
       (record {
         saturated = ends;
         image = h.image;
         image_is = subst (λ p. IsImage p asker.context leaf.branch h.image) is h.image_is;
         unmet = h.unmet;
+        beyond_equations = h.beyond_equations pick end.slots (subst (λ p. DueList pick p leaf.steps end.slots) (sym is) due);
       })
 
 -- of a policy and a query that other names have too
@@ -328,7 +335,7 @@ module _ (policy : Policy) (asker : Request) (effort : Effort) (query : Query) w
   says_other : AnswerEverywhere → IsRequestOf policy asker → (basis : By) (made : ShelfCalls) → IsOtherGround policy asker query basis made → IsCompliant policy asker query → (reply : Reply) →
       Answers asker query basis reply → Says policy asker effort query made reply
   says_other law is_asker basis made ground strong (Answer other rows it) (told, same) =
-      (told.same, subst (λ z. IsGround policy asker effort query z made) (sym same) (other_ground policy asker effort query basis made ground), released law policy asker query rows is_asker strong told.answer)
+      (told.same, subst (λ z. IsGround policy asker effort query z made) (sym same) (other_ground policy asker effort query basis made ground), strong, released law policy asker query rows is_asker strong told.answer)
   says_other law is_asker basis made ground strong (Blocked other reason) h = absurd h
   says_other law is_asker basis made ground strong (Unread fault) h = absurd h
   says_other law is_asker basis made ground strong NoMemory h = other_left policy asker effort query basis made ground
@@ -341,7 +348,7 @@ module _ (policy : Policy) (asker : Request) (effort : Effort) (query : Query) w
   says_proof : AnswerEverywhere → IsRequestOf policy asker → (proof : Proof) (made : ShelfCalls) → (shown : IsShown policy asker effort query proof made) → (calls : List ShelfCall) (reply : Reply) →
       AnswersByProof asker query proof calls reply → Says policy asker effort query (on_shelf query (look_at query shown.found ∷ calls)) reply
   says_proof law is_asker proof made shown calls (Answer other rows basis) (told, by_proof) =
-      (told.same, ground_shown policy asker effort query proof made shown calls basis by_proof, released law policy asker query rows is_asker shown.compliant told.answer)
+      (told.same, ground_shown policy asker effort query proof made shown calls basis by_proof, shown.compliant, released law policy asker query rows is_asker shown.compliant told.answer)
   says_proof law is_asker proof made shown calls (Blocked other reason) h = absurd h
   says_proof law is_asker proof made shown calls (Unread fault) h = absurd h
   says_proof law is_asker proof made shown calls NoMemory none = inr (record {
@@ -366,8 +373,8 @@ module _ (policy : Policy) (asker : Request) (effort : Effort) (query : Query) w
 
   -- of a text that was read
   replies_said : (text : List ℕ) → Reads policy text query → (made : ShelfCalls) (reply : Reply) → Says policy asker effort query made reply → Replies policy asker effort text made reply
-  replies_said text reads made (Answer other rows ground) (same, is_ground, is_released) =
-      subst (λ z. Replies policy asker effort text made (Answer z rows ground)) (sym same) (record { reads = reads; ground = is_ground; released = is_released })
+  replies_said text reads made (Answer other rows ground) (same, is_ground, strong, is_released) =
+      subst (λ z. Replies policy asker effort text made (Answer z rows ground)) (sym same) (record { reads = reads; ground = is_ground; compliant = strong; released = is_released })
   replies_said text reads made (Blocked other reason) (same, denied) =
       subst (λ z. Replies policy asker effort text made (Blocked z reason)) (sym same) (record { reads = reads; denied = denied })
   replies_said text reads made (Unread fault) h = absurd h
@@ -399,6 +406,29 @@ refused_adds (failures.Fault fault) = refl
 pub refused_same : (failure : Failure ReadQueryFault) (reply : Reply) (asker : Request) → reply ≡ refusal_of failure → asker ≡ record asker { trace = asker.trace ++ answer_in reply }
 refused_same failure reply asker is = λ i. record asker { trace = sym (ap (λ z. asker.trace ++ answer_in z) is ∙ ap (λ z. asker.trace ++ z) (refused_adds failure) ∙ append-nil asker.trace) i }
 
+-- ---- where equations alone are used
+
+-- a reply that decides a question decides it rightly
+module _ (policy : Policy) (asker : Request) (effort : Effort) (text : List ℕ) (made : ShelfCalls) where
+  exactly : (reply : Reply) → Replies policy asker effort text made reply → (query : Query) → IsQuestionOfEquations policy asker.trace query → Decides query reply →
+      (IsAnswerTo query reply ↔ IsCompliant policy asker query)
+  exactly (Answer other rows ground) h query equations same = (λ answered. subst (IsCompliant policy asker) same h.compliant, λ strong. same)
+  exactly (Blocked other (why.Refuted pair)) h query equations same = (
+    λ answered. absurd answered,
+    λ strong. refutes policy asker.context asker.trace other pair h.denied.reason.refutes (subst (IsCompliant policy asker) (sym same) strong),
+  )
+  exactly (Blocked other (why.Spent steps)) h query equations decides = absurd decides
+  exactly (Blocked other (why.Stuck leaf clause)) h query equations same = absurd (h.denied.reason.beyond_equations (subst (IsQuestionOfEquations policy asker.trace) (sym same) equations))
+  exactly (Unread fault) h query equations decides = absurd decides
+  exactly NoMemory h query equations decides = absurd decides
+
+  pub rightly : (reply : Reply) → Replies policy asker effort text made reply → IsDecidedRightly policy asker reply
+  rightly reply h = record { exactly = exactly reply h }
+
+pub rightly_made : (policy : Policy) (asker : Request) (effort : Effort) (text : List ℕ) (reply : Reply) (old new : Passes) →
+    ((made : ShelfCalls) × Replies policy asker effort text made reply × Makes made old new) → IsDecidedRightly policy asker reply
+rightly_made policy asker effort text reply old new (made, replies, makes) = rightly policy asker effort text made reply replies
+
 -- ---- the request after a reply
 
 module _ (policy : Policy) (old : Request) (is : IsRequestOf policy old) where
@@ -420,7 +450,7 @@ module _ (policy : Policy) (old : Request) (is : IsRequestOf policy old) where
 
   asks_on : (effort : Effort) (query : Query) (made : ShelfCalls) (reply : Reply) → IsQuery policy.schema (kinds_of policy.params) [] query → Says policy old effort query made reply →
       IsRequestOf policy (record old { trace = old.trace ++ answer_in reply })
-  asks_on effort query made (Answer other rows ground) asked (same, is_ground, is_released) =
+  asks_on effort query made (Answer other rows ground) asked (same, is_ground, strong, is_released) =
       let entry : TraceEntry = record { query = other; rows = rows } in
       asks_more (entry ∷ [])
       (All-cons HasQuery entry [] (subst (IsQuery policy.schema (kinds_of policy.params) []) (sym same) asked) (All-nil HasQuery))

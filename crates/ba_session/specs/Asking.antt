@@ -27,6 +27,7 @@ use Rattle.ba_model.specs.declared.query.Query.{Query}
 use Rattle.ba_model.specs.declared.value.RowSet.{RowSet}
 use Rattle.ba_model.specs.declared.value.Value.{Value}
 use Rattle.ba_refute.specs.Counterexamples.{IsCounterexample, IsFirstUnmet}
+use Rattle.ba_refute.specs.OfEquations.{IsQuestionOfEquations}
 use Rattle.ba_refute.specs.Images.{IsImage}
 use Rattle.ba_refute.specs.declared.clause.Clause.{Clause}
 use Rattle.ba_refute.specs.declared.clause.Counterexample.{Counterexample}
@@ -189,13 +190,15 @@ pub record IsRefuted (policy : Policy) (asker : Request) (effort : Effort) (quer
   pub image_is : IsImage (question policy asker query) asker.context leaf.branch pair
   pub refutes : IsCounterexample policy asker.context asker.trace query pair
 
--- the search ends at a saturated branch, and this is the first clause that its image doesn't meet
+-- The search ends at a saturated branch, and this is the first clause that its image doesn't meet.
+-- So some column may be NULL, or another atom than `=` is used.
 pub record IsStuck (policy : Policy) (asker : Request) (effort : Effort) (query : Query)
     (leaf : Leaf) (clause : Clause) : Type 0 where
   pub saturated : Settles effort (question policy asker query) (settled.Saturated leaf)
   pub image : Counterexample
   pub image_is : IsImage (question policy asker query) asker.context leaf.branch image
   pub unmet : IsFirstUnmet policy asker.context asker.trace query image clause
+  pub beyond_equations : ¬ (IsQuestionOfEquations policy asker.trace query)
 
 -- why the question is blocked
 abbrev pub IsReason : Policy → Request → Effort → Query → Why → Type 0
@@ -254,11 +257,13 @@ Reads policy text query = ReadsQuery policy.schema policy.params text query
 abbrev pub HasFault : Policy → List ℕ → ReadQueryFault → Type 0
 HasFault policy text fault = query_of policy.schema policy.params text ≡ Err fault
 
--- the text's query is answered by these rows, for this reason
+-- The text's query is answered by these rows, for this reason: it is strongly compliant after the
+-- request's trace.
 pub record HasAnswer (policy : Policy) (asker : Request) (effort : Effort) (text : List ℕ)
     (query : Query) (rows : List (List Value)) (by : By) (made : ShelfCalls) : Type 0 where
   pub reads : Reads policy text query
   pub ground : IsGround policy asker effort query by made
+  pub compliant : IsCompliant policy asker query
   pub released : IsReleased policy asker query rows
 
 -- the text's query is blocked for this reason

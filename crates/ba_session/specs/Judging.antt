@@ -140,7 +140,7 @@ AnswersByProof asker query proof calls NoMemory = calls ≡ []
 abbrev pub Says : Policy → Request → Effort → Query → ShelfCalls → Reply → Type 0
 Says policy asker effort query made (Answer other rows basis) =
     (other ≡ query) × IsGround policy asker effort query basis made ×
-    IsReleased policy asker query rows
+    IsCompliant policy asker query × IsReleased policy asker query rows
 Says policy asker effort query made (Blocked other why) =
     (other ≡ query) × HasBlock policy asker effort query why made
 Says policy asker effort query made (Unread fault) = ⊥

@@ -1,3 +1,4 @@
 pub mod Passing
 pub mod Asking
 pub mod Judging
+pub mod Deciding

@@ -8,6 +8,7 @@ ghost use Rattle.ba_model.specs.Meaning.{IsAnswer};
 ghost use Rattle.ba_model.specs.Readings.{Gives};
 ghost use Rattle.ba_model.specs.Limits.{most_budget};
 ghost use Rattle.ba_session.specs.Asking.{IsRequestOf, IsBegun, IsServable, Reads, Replies, answer_in, begun, effort_in};
+ghost use Rattle.ba_session.specs.Deciding.{IsDecidedRightly};
 ghost use Rattle.ba_session.specs.Judging.{Answers, AnswersByProof, Says, refusal_of};
 ghost use Rattle.ba_session.specs.Passing.{AreOf, HasRoom, LeavesShelves, Makes, ShelfCalls, on_shelf};
 ghost use Rattle.ba_sql_query.specs.Texts.{query_of};
@@ -107,6 +108,9 @@ impl Request {
         ensures replies { (made : ShelfCalls) × Replies service.now.policy self.old
             (effort_in (S.orders settle.now) budget) text.now made result
             × Makes made passes.old passes.new }
+        // Where equations alone are used, a question that is answered or blocked, and not since the
+        // budget is spent, is answered exactly where it is strongly compliant after the trace.
+        ensures right { IsDecidedRightly service.now.policy self.old result }
         ensures request { self.new
             ≡ record self.old { trace = self.old.trace ++ answer_in result } }
         ensures asker { IsRequestOf service.now.policy self.new }

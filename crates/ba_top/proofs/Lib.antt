@@ -5,3 +5,16 @@ pub mod ProofsLemmas
 pub mod LineLemmas
 pub mod CheckLemmas
 pub mod Runs
+pub mod AuditLemmas
+pub mod HistoryLemmas
+pub mod LaneCounts
+pub mod NumberLemmas
+pub mod SaidLemmas
+pub mod MeetsLemmas
+pub mod AskerLemmas
+pub mod FollowLemmas
+pub mod TextLines
+pub mod CountedLemmas
+pub mod CheckedReading
+pub mod NamedLemmas
+pub mod AuditedLemmas

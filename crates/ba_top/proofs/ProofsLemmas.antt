@@ -1,7 +1,8 @@
 -- Lines with evidence, one by one.
-use Rattle.std.proofs.Common.{◌≡◌, ◌∙◌, refl, sym, subst, ap, ap₂, ℕ, ◌+◌, ◌≤◌, List, [], ◌∷◌, ◌++◌, length, take, drop, Some, slice_get, Result, Ok, Err, true, false, arith}
+use Rattle.std.proofs.Common.{◌≡◌, ◌∙◌, refl, sym, subst, subst₂, ap, ap₂, ℕ, ◌+◌, ◌≤◌, List, [], ◌∷◌, ◌++◌, length, take, drop, Some, slice_get, Result, Ok, Err, true, false, arith}
 use Rattle.std.proofs.lemmas.List.{drop_all}
 use Rattle.std.specs.Prelude.{IfOk, IsOk, OnOk}
+use Rattle.std.specs.Str.{IsUtf8}
 use Rattle.ba_input.specs.declared.input.Input.{Input}
 use Rattle.ba_input.specs.declared.task.Told.{Told}
 use Rattle.ba_input.specs.declared.task.Told.TheVariants as told
@@ -11,7 +12,9 @@ use Rattle.ba_kernel.specs.Drafts.{IsChecked}
 use Rattle.ba_input.specs.Inputs.{IsInput}
 use Rattle.ba_lanes.specs.Legal.{contexts_of, trace_in}
 use Rattle.ba_lanes.specs.declared.journal.Entry.{Entry}
+use Rattle.ba_lanes.specs.declared.journal.Entry.TheVariants.{Begin, Ask, End, Publish, Memory}
 use Rattle.ba_lanes.specs.declared.journal.Journal.{Journal}
+use Rattle.ba_model.specs.declared.policy.Policy.{Policy}
 use Rattle.ba_outside.specs.Seen.{SinkSeen}
 use Rattle.ba_outside.specs.declared.sink.WriteFail.{WriteFail}
 use Rattle.ba_plan.specs.Sent.{SentLines}
@@ -20,10 +23,12 @@ use Rattle.ba_tables.proofs.FieldLemmas.{drop_element}
 use Rattle.ba_tables.proofs.IndexLemmas.{take_one}
 use Rattle.ba_top.proofs.EvidenceLemmas.{told_after_lines}
 use Rattle.ba_top.proofs.PrintLemmas.{named_at}
-use Rattle.ba_top.specs.Evidence.{AllClose, AreAfter, EntryCloses, evident_bytes, told_bytes, trace_at}
-use Rattle.ba_top.specs.Text.{name_in}
+use Rattle.ba_top.specs.Audited.{AllWritten, EntryHasBits, EntryIsWritten, IsWritten, ReplyHasBits, TellsWritten, evident_value, reply_value, told_value}
+use Rattle.ba_top.specs.Evidence.{AllClose, AreAfter, EntryCloses, Traces, evident_bytes, told_bytes, trace_at}
+use Rattle.ba_top.specs.Text.{name_at, name_in, summary_of, total_bytes}
 use Rattle.ba_top.specs.Told.{TellsClosed}
 use Rattle.ba_top.specs.declared.requests.Requests.{Requests}
+use Rattle.ba_wire.specs.Printed.{ReadsBack, summary_json}
 
 -- the policy of an input is checked
 pub policy_checked : (input : Input) → IsInput input → CheckedLinksFit → IsChecked input.policy
@@ -73,3 +78,61 @@ summary_tells it input journal r is = subst (λ z. IfOk r (λ _. TellsClosed z i
 
 pub templates_tell : {X E : Type 0} (it : Told) (input : Input) (journal : Journal) (r : Result X E) → it ≡ told.Templates → IfOk r (λ _. TellsClosed it input journal)
 templates_tell it input journal r is = subst (λ z. IfOk r (λ _. TellsClosed z input journal)) (sym is) (if_ok_all (TellsClosed told.Templates input journal) r tt)
+
+-- ---- lines that are written
+
+value_as : (policy : Policy) (f g : Traces) (name : List ℕ) (line : ℕ) (entry : Entry) → ((n : ℕ) → f n ≡ g n) → told_value policy f name line entry ≡ told_value policy g name line entry
+value_as policy f g name line (Begin request version) same = refl
+value_as policy f g name line (Ask request version it) same = ap (λ trace. reply_value policy trace name line version it) (same request)
+value_as policy f g name line (End request version) same = refl
+value_as policy f g name line (Publish version) same = refl
+value_as policy f g name line (Memory kind request version) same = refl
+
+bits_as : (f g : Traces) (entry : Entry) → ((n : ℕ) → f n ≡ g n) → EntryHasBits f entry → EntryHasBits g entry
+bits_as f g (Begin request version) same h = tt
+bits_as f g (Ask request version it) same h = subst (λ trace. ReplyHasBits trace it) (same request) h
+bits_as f g (End request version) same h = tt
+bits_as f g (Publish version) same h = tt
+bits_as f g (Memory kind request version) same h = tt
+
+-- the line of an entry with its evidence is written
+pub evident_written : (input : Input) (earlier : List Entry) (entry : Entry) (it : Requests) (line : ℕ) (said : ScriptEntry) (name bytes : List ℕ) → slice_get input.script.entries (length earlier) ≡ Some said → line ≡ length earlier + 1
+    → AreAfter input earlier it → name ≡ name_in said → IsUtf8 bytes → bytes ≡ told_bytes input.policy (trace_at it.traces.items) name line entry → ReadsBack bytes (told_value input.policy (trace_at it.traces.items) name line entry)
+    → EntryHasBits (trace_at it.traces.items) entry → EntryIsWritten input earlier entry
+unfolding evident_bytes evident_value
+evident_written input earlier entry it line said name bytes at is h named utf8 same back bits =
+    let traces : Traces = λ request. trace_in request earlier in
+    let place : name ≡ name_at input.script (length earlier) = named ∙ sym (named_at input earlier said at) in
+    let whole : bytes ≡ told_bytes input.policy traces (name_at input.script (length earlier)) (length earlier + 1) entry =
+    same ∙ told_after_lines input earlier it name line entry h ∙ ap₂ (λ y z. told_bytes input.policy traces y z entry) place is in
+    let value : told_value input.policy (trace_at it.traces.items) name line entry ≡ told_value input.policy traces (name_at input.script (length earlier)) (length earlier + 1) entry =
+    value_as input.policy (trace_at it.traces.items) traces name line entry h.traces ∙ ap₂ (λ y z. told_value input.policy traces y z entry) place is in
+    record {
+      written = record { utf8 = subst IsUtf8 whole utf8; reads = subst₂ ReadsBack whole value back };
+      bits = bits_as (trace_at it.traces.items) traces entry h.traces bits;
+    }
+
+-- the next entry, and those behind it
+pub written_next : (input : Input) (entries : List Entry) (i : ℕ) (entry : Entry) → slice_get entries i ≡ Some entry → EntryIsWritten input (take i entries) entry
+    → AllWritten input (take (i + 1) entries) (drop (i + 1) entries) → AllWritten input (take i entries) (drop i entries)
+written_next input entries i entry is one rest =
+    subst (AllWritten input (take i entries)) (sym (drop_element entries i entry is))
+    (one, subst (λ z. AllWritten input z (drop (i + 1) entries)) (take_one entries i entry is) rest)
+
+-- none is left
+pub written_last : (input : Input) (entries : List Entry) (i : ℕ) → length entries ≤ i → AllWritten input (take i entries) (drop i entries)
+written_last input entries i past = subst (AllWritten input (take i entries)) (sym (drop_all i entries past)) tt
+
+-- the summary's line is written
+pub total_written : (entries : List Entry) (bytes : List ℕ) → bytes ≡ total_bytes entries → IsUtf8 bytes → ReadsBack bytes (summary_json (summary_of entries)) → IsWritten (total_bytes entries) (summary_json (summary_of entries))
+total_written entries bytes same utf8 back = record { utf8 = subst IsUtf8 same utf8; reads = subst (λ z. ReadsBack z (summary_json (summary_of entries))) same back }
+
+-- where no proofs are told nothing is asked of the lines
+pub lines_write : {X E : Type 0} (it : Told) (input : Input) (journal : Journal) (r : Result X E) → it ≡ told.Lines → IfOk r (λ _. TellsWritten it input journal)
+lines_write it input journal r is = subst (λ z. IfOk r (λ _. TellsWritten z input journal)) (sym is) (if_ok_all (TellsWritten told.Lines input journal) r tt)
+
+pub summary_writes : {X E : Type 0} (it : Told) (input : Input) (journal : Journal) (r : Result X E) → it ≡ told.Summary → IfOk r (λ _. TellsWritten it input journal)
+summary_writes it input journal r is = subst (λ z. IfOk r (λ _. TellsWritten z input journal)) (sym is) (if_ok_all (TellsWritten told.Summary input journal) r tt)
+
+pub templates_write : {X E : Type 0} (it : Told) (input : Input) (journal : Journal) (r : Result X E) → it ≡ told.Templates → IfOk r (λ _. TellsWritten it input journal)
+templates_write it input journal r is = subst (λ z. IfOk r (λ _. TellsWritten z input journal)) (sym is) (if_ok_all (TellsWritten told.Templates input journal) r tt)

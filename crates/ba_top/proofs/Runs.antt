@@ -1,5 +1,5 @@
 -- What follows from how a command went.
-use Rattle.std.proofs.Common.{◌≡◌, ◌⊎◌, ◌∙◌, inl, inr, refl, sym, ap, subst, ℕ, List, [], ◌∷◌, Bool, true, false, cond, length, Option, Some, None, Result, Ok, Err, IfSome}
+use Rattle.std.proofs.Common.{◌≡◌, ◌⊎◌, ◌∙◌, inl, inr, refl, sym, ap, subst, ℕ, List, [], ◌∷◌, Bool, true, false, cond, length, map, Option, Some, None, Result, Ok, Err, IfSome}
 use Rattle.ba_input.proofs.ReadsLemmas.{reads_failed, reads_front, reads_long, reads_settled}
 use Rattle.ba_input.proofs.RefusalLemmas.{refused_is}
 use Rattle.ba_input.specs.Causes.{IsLimit}
@@ -7,13 +7,16 @@ use Rattle.ba_input.specs.Reading.{plan_of}
 use Rattle.ba_input.specs.Reads.{IsSettled, Outcome, Reads}
 use Rattle.ba_input.specs.Stops.{fault_of}
 use Rattle.ba_input.specs.declared.detail.Detail.{Detail}
-use Rattle.ba_input.specs.declared.detail.Detail.TheVariants.{Done, NotAccepted, Fault as Faulted, Write, Memory}
+use Rattle.ba_input.specs.declared.detail.Detail.TheVariants.{Done, NotAccepted, NotAudited, Fault as Faulted, Write, Memory}
 use Rattle.ba_input.specs.declared.input.Input.{Input}
 use Rattle.ba_input.specs.declared.task.Task.{Task}
 use Rattle.ba_input.specs.declared.task.Task.TheVariants as task
 use Rattle.ba_input.specs.declared.task.Told.{Told}
-use Rattle.ba_lanes.specs.Legal.{lacks_memory}
+use Rattle.ba_input.specs.declared.task.Told.TheVariants as telling
+use Rattle.ba_lanes.proofs.IdealLemmas.{legal_is_ideal}
+use Rattle.ba_lanes.specs.Legal.{Legal, lacks_memory}
 use Rattle.ba_lanes.specs.declared.journal.Journal.{Journal}
+use Rattle.ba_model.specs.SchemaFaults.{AreDistinct}
 use Rattle.ba_model.specs.declared.limits.Counted.{Counted}
 use Rattle.ba_model.specs.declared.limits.Counted.TheVariants.{FileBytes}
 use Rattle.ba_outside.specs.Causes.{Rose}
@@ -24,14 +27,21 @@ use Rattle.ba_plan.specs.declared.stop.Stop.{Stop}
 use Rattle.ba_plan.specs.declared.stop.Stop.TheVariants.{Refused, Read as Unreadable, TooLong, NoMemory}
 use Rattle.ba_proof.specs.declared.checking.CheckFault.{CheckFault}
 use Rattle.ba_proof.specs.declared.proof.Proof.{Proof}
+use Rattle.ba_top.proofs.AuditedLemmas.{output_audited}
+use Rattle.ba_top.proofs.NamedLemmas.{run_named}
+use Rattle.ba_top.specs.Audited.{TellsAudited, TellsWritten}
+use Rattle.ba_top.specs.Auditing.{EndsAudit, Finds, IsFailed, IsOutcome, IsPassed, detail_of}
 use Rattle.ba_top.specs.Causes.{ComesTo, SomeComesTo, Tells, faulted}
 use Rattle.ba_top.specs.Checking.{EndsCheck, IsAccepted, IsFinding, IsVerdict, detail_found, line_found}
 use Rattle.ba_top.specs.Ends.{EndsLine, EndsLines}
-use Rattle.ba_top.specs.Ran.{Accepts, EndsEarly, EndsRun, Ran, RanTask, Rejects, Served}
+use Rattle.ba_top.specs.Ran.{Accepts, EndsEarly, EndsRun, Fails, Ran, RanTask, Rejects, Served, ServedIdeally, whole_run}
 use Rattle.ba_top.specs.Text.{lines_of}
-use Rattle.ba_top.specs.Told.{told_lines}
+use Rattle.ba_top.specs.Told.{TellsClosed, told_lines}
+use Rattle.ba_wire.specs.Audits.{finding_bytes}
 use Rattle.ba_wire.specs.Printed.{fault_bytes}
 use Rattle.ba_wire.specs.Verdicts.{verdict_bytes}
+use Rattle.ba_wire.specs.declared.audit.AuditFault.{AuditFault}
+use Rattle.ba_wire.specs.declared.audit.Audited.{Audited}
 use Rattle.ba_wire.specs.declared.fault.Fault.{Fault}
 use Rattle.ba_wire.specs.declared.fault.Fault.TheVariants as fault
 
@@ -74,9 +84,47 @@ checks_as : (proof : Proof) (s t : SinkSeen) (detail : Detail) → EndsCheck pro
 checks_as proof s t detail (inl told) = told_as proof s t detail told.found told.is told.ends
 checks_as proof s t detail (inr (is, same)) = inr (inr is)
 
+-- what an audit found and told ends with its own detail, or that of the writing
+found_as : (input : Input) (bytes : List ℕ) (s t : SinkSeen) (detail : Detail) (found : Result Audited AuditFault) → Finds input bytes found → EndsLine (finding_bytes found) (detail_of found) s t detail → Ending (IsOutcome input bytes) s t detail
+found_as input bytes s t detail (Ok it) finds (inl (is, wrote)) = inl (subst (IsOutcome input bytes) (sym is) (record { audited = it; passes = finds }))
+found_as input bytes s t detail (Ok it) finds (inr (inl (is, sent))) = inr (inl (is, sent.1))
+found_as input bytes s t detail (Ok it) finds (inr (inr (is, sent))) = inr (inr is)
+found_as input bytes s t detail (Err why) finds (inl (is, wrote)) = inl (subst (IsOutcome input bytes) (sym is) finds)
+found_as input bytes s t detail (Err why) finds (inr (inl (is, sent))) = inr (inl (is, sent.1))
+found_as input bytes s t detail (Err why) finds (inr (inr (is, sent))) = inr (inr is)
+
+-- an audit ends with what the output comes to, or that of the writing, or for want of memory
+audits_as : (input : Input) (bytes : List ℕ) (s t : SinkSeen) (detail : Detail) → EndsAudit input bytes s t detail → Ending (IsOutcome input bytes) s t detail
+audits_as input bytes s t detail (inl it) = found_as input bytes s t detail it.found it.finds it.ends
+audits_as input bytes s t detail (inr (is, same)) = inr (inr is)
+
+-- a run that is done had memory for every line
+whole_done : (journal : Journal) (lines : List (List ℕ)) (s t : SinkSeen) (detail : Detail) → EndsLines lines (whole_run journal) s t detail → detail ≡ Done → lacks_memory journal ≡ false
+whole_done journal lines s t detail (inl (is, wrote)) done = by (lacks_memory journal) (sym is ∙ done)
+  where
+    by : (b : Bool) → cond b Memory Done ≡ Done → b ≡ false
+    by true e = cc e
+    by false e = refl
+whole_done journal lines s t detail (inr (inl (is, sent))) done = absurd (write_done (sym is ∙ done))
+  where
+    write_done : Write ≡ Done → ⊥
+    write_done e = cc e
+whole_done journal lines s t detail (inr (inr (is, sent))) done = absurd (memory_done (sym is ∙ done))
+  where
+    memory_done : Memory ≡ Done → ⊥
+    memory_done e = cc e
+
+-- what is told with proofs is audited
+told_audited : (told : Told) (input : Input) (journal : Journal) → Legal input journal → AreDistinct (map (λ parameter. parameter.name) input.policy.params) → lacks_memory journal ≡ false →
+    TellsClosed told input journal → TellsWritten told input journal → TellsAudited told input journal
+told_audited telling.Lines input journal legal named none closed written = tt
+told_audited telling.Proofs input journal legal named none closed written = output_audited input journal legal none named closed written
+told_audited telling.Summary input journal legal named none closed written = tt
+told_audited telling.Templates input journal legal named none closed written = tt
+
 -- what was read, and then what was done with it
 pub ran_task : (words : List (List ℕ)) (f g : FilesSeen) (s t : SinkSeen) (detail : Detail) (journal : Option Journal) (it : Task) → Reads words f g (Ok it) → RanTask it s t detail journal → Ran words f g s t detail journal
-ran_task words f g s t detail (Some journal) (task.Run input told) follows (legal, headline, written, closed) = record {
+ran_task words f g s t detail (Some journal) (task.Run input told) follows (legal, headline, written, closed, readable) = record {
   input = input;
   told = told;
   read = follows;
@@ -84,12 +132,16 @@ ran_task words f g s t detail (Some journal) (task.Run input told) follows (lega
   headline = headline;
   written = written;
   closed = closed;
+  audited = λ done.
+      told_audited told input journal legal (run_named words f g input told follows) (whole_done journal (told_lines told input journal) s t detail written done) (closed done) (readable done);
 }
 ran_task words f g s t detail None (task.Run input told) follows (is, same) = inr (inl (input, told, follows, is, same))
 ran_task words f g s t detail (Some journal) (task.Print text) follows ends = absurd ends
-ran_task words f g s t detail None (task.Print text) follows ends = inr (inr (inr (record { text = text; read = follows; ends = ends })))
+ran_task words f g s t detail None (task.Print text) follows ends = inr (inr (inr (inl (record { text = text; read = follows; ends = ends }))))
 ran_task words f g s t detail (Some journal) (task.Check proof) follows ends = absurd ends
 ran_task words f g s t detail None (task.Check proof) follows ends = inr (inr (inl (record { proof = proof; read = follows; ends = ends })))
+ran_task words f g s t detail (Some journal) (task.Audit input bytes) follows ends = absurd ends
+ran_task words f g s t detail None (task.Audit input bytes) follows ends = inr (inr (inr (inr (record { input = input; bytes = bytes; read = follows; ends = ends }))))
 
 -- How a command ended: by what the reading came to, or by the writing, or for want of memory.
 Ended : List (List ℕ) → FilesSeen → FilesSeen → SinkSeen → SinkSeen → Detail → Type 0
@@ -102,7 +154,8 @@ ended words f g s t detail (Some journal) it = (Ok (task.Run it.input it.told), 
 ended words f g s t detail None (inl (stop, follows, ends)) = (Err stop, follows, early_as (fault_of stop) s t detail ends)
 ended words f g s t detail None (inr (inl (input, told, follows, is, same))) = (Ok (task.Run input told), follows, inr (inr is))
 ended words f g s t detail None (inr (inr (inl it))) = (Ok (task.Check it.proof), it.read, checks_as it.proof s t detail it.ends)
-ended words f g s t detail None (inr (inr (inr it))) = (Ok (task.Print it.text), it.read, ends_as (lines_of it.text) Done s t detail it.ends)
+ended words f g s t detail None (inr (inr (inr (inl it)))) = (Ok (task.Print it.text), it.read, ends_as (lines_of it.text) Done s t detail it.ends)
+ended words f g s t detail None (inr (inr (inr (inr it)))) = (Ok (task.Audit it.input it.bytes), it.read, audits_as it.input it.bytes s t detail it.ends)
 
 -- ---- read faults and long files
 
@@ -114,6 +167,7 @@ unreadable : (reading : Result Task (Stop Fault)) (file : List ℕ) → ComesTo 
 unreadable (Ok (task.Run input told)) file e = absurd (cc)
 unreadable (Ok (task.Print text)) file e = absurd (cc)
 unreadable (Ok (task.Check proof)) file e = absurd e
+unreadable (Ok (task.Audit input bytes)) file e = absurd e
 unreadable (Err (Refused it)) file e = let h : it ≡ fault.Read file = cc in inr (ap (λ z. Err (Refused z)) h)
 unreadable (Err (Unreadable f)) file e = let h : f ≡ file = cc in inl (ap (λ z. Err (Unreadable z)) h)
 unreadable (Err (TooLong f n)) file e = absurd (cc)
@@ -127,6 +181,7 @@ limit_of : (reading : Result Task (Stop Fault)) (what : Counted) (limit : ℕ) �
 limit_of (Ok (task.Run input told)) what limit e = absurd (cc)
 limit_of (Ok (task.Print text)) what limit e = absurd (cc)
 limit_of (Ok (task.Check proof)) what limit e = absurd e
+limit_of (Ok (task.Audit input bytes)) what limit e = absurd e
 limit_of (Err (Refused it)) what limit e = let h : it ≡ fault.Limit what limit = cc in inl (ap (λ z. Err (Refused z)) h)
 limit_of (Err (Unreadable f)) what limit e = absurd (cc)
 limit_of (Err (TooLong f n)) what limit e = let w : FileBytes ≡ what = cc in let h : n ≡ limit = cc in inr (sym w, (f, ap (λ z. Err (TooLong f z)) h))
@@ -162,6 +217,7 @@ not_write : (reading : Result Task (Stop Fault)) → ¬ (ComesTo reading Write)
 not_write (Ok (task.Run input told)) e = cc
 not_write (Ok (task.Print text)) e = cc
 not_write (Ok (task.Check proof)) e = e
+not_write (Ok (task.Audit input bytes)) e = e
 not_write (Err stop) e = by (fault_of stop) e
   where
     by : (it : Option Fault) → ¬ (Write ≡ faulted it)
@@ -177,7 +233,7 @@ ran_write words f g s t detail journal ran e = by_end (ended words f g s t detai
     by_end (reading, follows, inr (inl (is, rose))) = rose
     by_end (reading, follows, inr (inr is)) = absurd (cc)
 
--- ---- proofs
+-- ---- proofs and outputs
 
 not_done : (it : Option Fault) → ¬ (Done ≡ faulted it)
 not_done (Some it) e = cc
@@ -194,6 +250,11 @@ accepted proof s t detail e (inl is) = subst (IsVerdict proof) e is
 accepted proof s t detail e (inr (inl (is, rose))) = absurd (cc)
 accepted proof s t detail e (inr (inr is)) = absurd (cc)
 
+passed : (input : Input) (bytes : List ℕ) (s t : SinkSeen) (detail : Detail) → detail ≡ Done → Ending (IsOutcome input bytes) s t detail → IsPassed input bytes
+passed input bytes s t detail e (inl is) = subst (IsOutcome input bytes) e is
+passed input bytes s t detail e (inr (inl (is, rose))) = absurd (cc)
+passed input bytes s t detail e (inr (inr is)) = absurd (cc)
+
 pub ran_accepted : (words : List (List ℕ)) (f g : FilesSeen) (s t : SinkSeen) (detail : Detail) (journal : Option Journal) → Ran words f g s t detail journal → Accepts words f g detail journal
 ran_accepted words f g s t detail (Some journal) it = tt
 ran_accepted words f g s t detail None (inl (stop, follows, ends)) = λ e. absurd (never_done (fault_of stop) s t detail e (early_as (fault_of stop) s t detail ends))
@@ -203,13 +264,20 @@ ran_accepted words f g s t detail None (inr (inr (inl it))) = λ e. inl (record 
   read = it.read;
   holds = accepted it.proof s t detail e (checks_as it.proof s t detail it.ends);
 })
-ran_accepted words f g s t detail None (inr (inr (inr it))) = λ e. inr (it.text, it.read)
+ran_accepted words f g s t detail None (inr (inr (inr (inl it)))) = λ e. inr (inr (it.text, it.read))
+ran_accepted words f g s t detail None (inr (inr (inr (inr it)))) = λ e. inr (inl (record {
+  input = it.input;
+  bytes = it.bytes;
+  read = it.read;
+  holds = passed it.input it.bytes s t detail e (audits_as it.input it.bytes s t detail it.ends);
+}))
 
 -- a reading that ends so is of a proof that has the fault
 rejects : (words : List (List ℕ)) (f g : FilesSeen) (reading : Result Task (Stop Fault)) (why : CheckFault) → Reads words f g reading → ComesTo reading (NotAccepted why) → Rejects words f g why
 rejects words f g (Ok (task.Run input told)) why follows e = absurd (cc)
 rejects words f g (Ok (task.Print text)) why follows e = absurd (cc)
 rejects words f g (Ok (task.Check proof)) why follows is = record { proof = proof; read = follows; holds = is }
+rejects words f g (Ok (task.Audit input bytes)) why follows e = absurd e
 rejects words f g (Err stop) why follows e = absurd (by (fault_of stop) e)
   where
     by : (it : Option Fault) → ¬ (NotAccepted why ≡ faulted it)
@@ -222,6 +290,27 @@ ran_rejected words f g s t detail journal ran why e = by_end (ended words f g s 
   where
     by_end : Ended words f g s t detail → Rejects words f g why
     by_end (reading, follows, inl is) = rejects words f g reading why follows (subst (ComesTo reading) e is)
+    by_end (reading, follows, inr (inl (is, rose))) = absurd (cc)
+    by_end (reading, follows, inr (inr is)) = absurd (cc)
+
+-- a reading that ends so is of an output that has the fault
+fails : (words : List (List ℕ)) (f g : FilesSeen) (reading : Result Task (Stop Fault)) (why : AuditFault) → Reads words f g reading → ComesTo reading (NotAudited why) → Fails words f g why
+fails words f g (Ok (task.Run input told)) why follows e = absurd (cc)
+fails words f g (Ok (task.Print text)) why follows e = absurd (cc)
+fails words f g (Ok (task.Check proof)) why follows e = absurd e
+fails words f g (Ok (task.Audit input bytes)) why follows is = record { input = input; bytes = bytes; read = follows; holds = is }
+fails words f g (Err stop) why follows e = absurd (by (fault_of stop) e)
+  where
+    by : (it : Option Fault) → ¬ (NotAudited why ≡ faulted it)
+    by (Some it) e = cc
+    by None e = cc
+
+pub ran_failed : (words : List (List ℕ)) (f g : FilesSeen) (s t : SinkSeen) (detail : Detail) (journal : Option Journal) → Ran words f g s t detail journal → (why : AuditFault) → detail ≡ NotAudited why → Fails words f g why
+unfolding Ended
+ran_failed words f g s t detail journal ran why e = by_end (ended words f g s t detail journal ran)
+  where
+    by_end : Ended words f g s t detail → Fails words f g why
+    by_end (reading, follows, inl is) = fails words f g reading why follows (subst (ComesTo reading) e is)
     by_end (reading, follows, inr (inl (is, rose))) = absurd (cc)
     by_end (reading, follows, inr (inr is)) = absurd (cc)
 
@@ -246,6 +335,7 @@ some_comes MayBe reading detail may comes = record { reading = reading; may_be =
 tells : (MayBe : Result Task (Stop Fault) → Type 0) (detail : Detail) → SomeComesTo MayBe detail → Tells detail MayBe
 tells MayBe Done is = is
 tells MayBe (NotAccepted why) is = is
+tells MayBe (NotAudited why) is = is
 tells MayBe (Faulted fault.Words) is = is
 tells MayBe (Faulted (fault.Input file reason)) is = is
 tells MayBe (Faulted (fault.Read file)) is = tt
@@ -292,3 +382,7 @@ ran_complete contents words f g s t detail journal ran told calm still = by_end 
 pub ran_headline : (words : List (List ℕ)) (f g : FilesSeen) (s t : SinkSeen) (detail : Detail) (journal : Option Journal) → Ran words f g s t detail journal → IfSome journal (Served words f g s t detail)
 ran_headline words f g s t detail (Some journal) served = served
 ran_headline words f g s t detail None ran = tt
+
+pub ran_ideal : (words : List (List ℕ)) (f g : FilesSeen) (s t : SinkSeen) (detail : Detail) (journal : Option Journal) → Ran words f g s t detail journal → IfSome journal (ServedIdeally words f g s t detail)
+ran_ideal words f g s t detail (Some journal) it = record { served = it; ideal = legal_is_ideal it.input journal it.legal }
+ran_ideal words f g s t detail None ran = tt

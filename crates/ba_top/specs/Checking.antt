@@ -7,7 +7,7 @@ use Rattle.ba_proof.specs.declared.checking.CheckFault.{CheckFault}
 use Rattle.ba_proof.specs.declared.checking.CheckFault.TheVariants as check
 use Rattle.ba_proof.specs.declared.proof.Proof.{Proof}
 use Rattle.ba_input.specs.declared.detail.Detail.{Detail}
-use Rattle.ba_input.specs.declared.detail.Detail.TheVariants.{Done, NotAccepted, Fault, Write, Memory}
+use Rattle.ba_input.specs.declared.detail.Detail.TheVariants.{Done, NotAccepted, NotAudited, Fault, Write, Memory}
 use Rattle.ba_top.specs.Ends.{EndsLine}
 use Rattle.ba_wire.specs.Verdicts.{verdict_bytes}
 use Rattle.ba_wire.specs.declared.verdict.Verdict.{Verdict}
@@ -40,6 +40,7 @@ detail_found (Some fault) = NotAccepted fault
 abbrev pub IsVerdict : Proof → Detail → Type 0
 IsVerdict proof Done = IsAccepted proof
 IsVerdict proof (NotAccepted fault) = IsRejected proof fault
+IsVerdict proof (NotAudited fault) = ⊥
 IsVerdict proof (Fault fault) = ⊥
 IsVerdict proof Write = ⊥
 IsVerdict proof Memory = ⊥

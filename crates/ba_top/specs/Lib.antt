@@ -3,5 +3,7 @@ pub mod Evidence
 pub mod Told
 pub mod Ends
 pub mod Checking
+pub mod Auditing
 pub mod Ran
 pub mod Causes
+pub mod Audited

@@ -1,14 +1,16 @@
 //! Lines that tell their evidence.
-ghost use Rattle.std.specs.Prelude.{◌≡◌, ◌+◌, [], IfOk, List as Sequence, Some, length, slice_get, string_bytes, ◌∷◌};
+ghost use Rattle.std.specs.Prelude.{◌≡◌, ◌+◌, ◌≤◌, [], IfOk, List as Sequence, Some, length, slice_get, string_bytes, ◌∷◌};
 ghost use Rattle.ba_input.specs.Inputs.{IsInput};
 ghost use Rattle.ba_kernel.specs.Drafts.{IsChecked};
 ghost use Rattle.ba_lanes.specs.Legal.{contexts_of, trace_in};
 ghost use Rattle.ba_lanes.specs.declared.journal.Entry.{Entry as EntryOf};
-ghost use Rattle.ba_evidence.specs.Evidence.{answer_json};
+ghost use Rattle.ba_evidence.specs.Evidence.{AnswerHasBits, answer_json};
 ghost use Rattle.ba_match.specs.Instances.{instance_of};
+ghost use Rattle.ba_model.specs.Limits.{most_steps};
 ghost use Rattle.ba_plan.specs.Sent.{SentLines};
+ghost use Rattle.ba_top.specs.Audited.{EntryHasBits, EntryIsWritten, IsFew, ReplyHasBits, blocked_value, reply_value, told_value};
 ghost use Rattle.ba_top.specs.Evidence.{AreAfter, EntryCloses, GroundCloses, InstanceCloses, ReplyCloses, blocked_bytes, evidence_of, evident_bytes, reply_bytes, told_bytes, trace_at};
-ghost use Rattle.ba_wire.specs.Printed.{json_line};
+ghost use Rattle.ba_wire.specs.Printed.{ReadsBack, json_line};
 
 use crate::print::{entry_line, name_in, printed_block};
 use crate::requests::Requests;
@@ -27,6 +29,13 @@ use ba_template::{Match, Template};
 use ba_wire::{Line, line_text};
 use std::alloc::{AllocError, Global};
 
+// A template has no more steps than a proof may have.
+fn has_few_steps(template: &Template)
+    ensures { length template.now.steps ≤ most_steps }
+{
+    template.steps();
+}
+
 // The steps of a template's instance, where they are found to close the question's problem.
 fn closing_steps(
     alloc: Global,
@@ -43,7 +52,10 @@ fn closing_steps(
         (trace_at requests.now.traces.items request) template.now.steps) }
     ensures closes { IfOk result (λ _. InstanceCloses policy.now requests.now.contexts
         (trace_at requests.now.traces.items request) request query.now template.now found.now) }
+    ensures few { IfOk result (λ _. length (instance_of found.now
+        (trace_at requests.now.traces.items request) template.now.steps) ≤ most_steps) }
 {
+    has_few_steps(template);
     let Some(context) = requests.context(request) else {
         return Err(AllocError);
     };
@@ -77,6 +89,14 @@ fn answer_text(
         line name.now rows.now version)) }
     ensures closes { IfOk result (λ _. GroundCloses policy.now requests.now.contexts
         (trace_at requests.now.traces.items request) request query.now by.now) }
+    ensures reads_back { IfOk result (λ text. ReadsBack (string_bytes text)
+        (answer_json policy.now.params
+        (evidence_of (trace_at requests.now.traces.items request) by.now)
+        line name.now rows.now version)) }
+    ensures bits { IfOk result (λ _. AnswerHasBits
+        (evidence_of (trace_at requests.now.traces.items request) by.now) rows.now) }
+    ensures few { IfOk result (λ _. IsFew
+        (evidence_of (trace_at requests.now.traces.items request) by.now)) }
 {
     let params = policy.params.as_slice();
     match by {
@@ -109,8 +129,10 @@ fn blocked_text(
     version: u32,
     why: &Why,
 ) -> Result<String, AllocError>
-    ensures { IfOk result (λ text. string_bytes text
+    ensures text { IfOk result (λ text. string_bytes text
         ≡ blocked_bytes policy.now name.now line version why.now) }
+    ensures reads_back { IfOk result (λ text. ReadsBack (string_bytes text)
+        (blocked_value policy.now name.now line version why.now)) }
 {
     match why {
         Why::Refuted(pair) => refuted_line(alloc, &policy.schema, pair, line, name, version),
@@ -145,6 +167,11 @@ fn reply_text(
         (trace_at requests.now.traces.items request) name.now line version reply.now) }
     ensures closes { IfOk result (λ _. ReplyCloses policy.now requests.now.contexts
         (trace_at requests.now.traces.items request) request reply.now) }
+    ensures reads_back { IfOk result (λ text. ReadsBack (string_bytes text)
+        (reply_value policy.now (trace_at requests.now.traces.items request) name.now line version
+        reply.now)) }
+    ensures bits { IfOk result (λ _. ReplyHasBits (trace_at requests.now.traces.items request)
+        reply.now) }
 {
     match reply {
         Reply::Answer { query, rows, by } => answer_text(
@@ -179,6 +206,9 @@ fn evident_text(
         (trace_at requests.now.traces.items) name.now line entry.now) }
     ensures closes { IfOk result (λ _. EntryCloses policy.now requests.now.contexts
         (trace_at requests.now.traces.items) entry.now) }
+    ensures reads_back { IfOk result (λ text. ReadsBack (string_bytes text)
+        (told_value policy.now (trace_at requests.now.traces.items) name.now line entry.now)) }
+    ensures bits { IfOk result (λ _. EntryHasBits (trace_at requests.now.traces.items) entry.now) }
 {
     match entry {
         Entry::Ask {
@@ -216,6 +246,10 @@ pub(crate) fn print_evident<S: Sink>(
     ensures closes { (earlier : Sequence EntryOf) → AreAfter input.now earlier requests.now
         → IfOk result (λ _. EntryCloses input.now.policy (contexts_of input.now.script.entries)
         (λ request. trace_in request earlier) entry.now) }
+    ensures written { (earlier : Sequence EntryOf)
+        → slice_get input.now.script.entries (length earlier) ≡ Some said.now
+        → line ≡ length earlier + 1 → AreAfter input.now earlier requests.now
+        → IfOk result (λ _. EntryIsWritten input.now earlier entry.now) }
 {
     checked_links_fit();
     let name = name_in(said);

@@ -7,7 +7,7 @@ use ba_input::Detail;
 use ba_lanes::Journal;
 
 /// What the top call answers: the exit status, its cause, and the journal where lines were answered. A
-/// check and a printed script have none.
+/// check, an audit and a printed script have none.
 #[derive(Drop)]
 pub struct Outcome {
     pub status: u8,

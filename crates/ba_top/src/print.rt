@@ -4,11 +4,12 @@ ghost use Rattle.ba_input.specs.Inputs.{IsInput};
 ghost use Rattle.ba_input.specs.declared.input.Input.{Input as Given};
 ghost use Rattle.ba_lanes.specs.declared.journal.Entry.{Entry as EntryOf};
 ghost use Rattle.ba_plan.specs.Sent.{SentLines};
-ghost use Rattle.ba_wire.specs.Printed.{fault_bytes, line_bytes, printed};
+ghost use Rattle.ba_wire.specs.Printed.{ReadsBack, fault_bytes, line_bytes, printed, summary_json};
 ghost use Rattle.ba_lanes.specs.Legal.{left_templates};
 ghost use Rattle.ba_store.specs.Written.{line_of as template_bytes};
+ghost use Rattle.ba_top.specs.Audited.{IsWritten, LinesAreWritten, TellsWritten};
 ghost use Rattle.ba_top.specs.Evidence.{AllClose, AreAfter};
-ghost use Rattle.ba_top.specs.Text.{entry_bytes, entry_line, lines_of, name_in, printed_block, printed_by, reply_line, total_bytes};
+ghost use Rattle.ba_top.specs.Text.{entry_bytes, entry_line, lines_of, name_in, printed_block, printed_by, reply_line, summary_of, total_bytes};
 ghost use Rattle.ba_top.specs.Told.{TellsClosed, told_lines};
 
 use crate::evident::print_evident;
@@ -140,7 +141,9 @@ fn print_entry<S: Sink>(
 // The summary's line, if there is memory for it and each of its numbers is one of 64 bits.
 #[tactic(auto, unfolding(crate::specs::Text::total_bytes))]
 fn summary_line(alloc: Global, journal: &Journal) -> Result<String, WriteFail>
-    ensures { IfOk result (λ text. string_bytes text ≡ total_bytes journal.now.entries) }
+    ensures text { IfOk result (λ text. string_bytes text ≡ total_bytes journal.now.entries) }
+    ensures reads_back { IfOk result (λ text. ReadsBack (string_bytes text)
+        (summary_json (summary_of journal.now.entries))) }
 {
     let Some(summary) = count_all(journal.entries.as_slice()) else {
         return Err(WriteFail::NoMemory);
@@ -153,8 +156,10 @@ fn summary_line(alloc: Global, journal: &Journal) -> Result<String, WriteFail>
 
 // Writes the summary.
 fn print_summary<S: Sink>(alloc: Global, journal: &Journal, sink: &mut S) -> Result<(), WriteFail>
-    ensures { SentLines (total_bytes journal.now.entries ∷ [])
+    ensures sent { SentLines (total_bytes journal.now.entries ∷ [])
         (S.seen sink.old) (S.seen sink.new) result }
+    ensures written { IfOk result (λ _. IsWritten (total_bytes journal.now.entries)
+        (summary_json (summary_of journal.now.entries))) }
 {
     let Ok(text) = summary_line(alloc, journal) else {
         return Err(WriteFail::NoMemory);
@@ -252,6 +257,7 @@ fn print_proofs<S: Sink>(
     ensures sent { SentLines (told_lines Told.Proofs input.now journal.now)
         (S.seen sink.old) (S.seen sink.new) result }
     ensures closed { IfOk result (λ _. AllClose input.now [] journal.now.entries) }
+    ensures written { IfOk result (λ _. LinesAreWritten input.now journal.now) }
 {
     let mut requests = Requests::new(alloc);
     for place in 0..journal.entries.len() {
@@ -265,7 +271,8 @@ fn print_proofs<S: Sink>(
 
 /// Writes what is told of a run: of each line of the script, by its entry, in order, and then the
 /// summary; or the summary alone, or the templates that the run leaves. Where proofs are told and all
-/// is written, the steps that are told of answers by templates close their questions' problems.
+/// is written, the steps that are told of answers by templates close their questions' problems, and
+/// each line reads back.
 pub(crate) fn print_told<S: Sink>(
     alloc: Global,
     input: &Input,
@@ -278,6 +285,7 @@ pub(crate) fn print_told<S: Sink>(
     ensures sent { SentLines (told_lines told input.now journal.now)
         (S.seen sink.old) (S.seen sink.new) result }
     ensures closed { IfOk result (λ _. TellsClosed told input.now journal.now) }
+    ensures written { IfOk result (λ _. TellsWritten told input.now journal.now) }
 {
     match told {
         Told::Lines => print_lines(alloc, input, journal, sink),

@@ -12,10 +12,13 @@ ghost use Rattle.ba_input.specs.Reads.{Outcome as MayRead};
 ghost use Rattle.ba_input.specs.Tasks.{IsTask};
 ghost use Rattle.ba_lanes.specs.Headline.{Headline};
 ghost use Rattle.ba_lanes.specs.Legal.{Legal};
+ghost use Rattle.ba_wire.specs.declared.audit.AuditFault.{AuditFault};
 ghost use Rattle.ba_top.specs.Causes.{SomeComesTo, Tells};
-ghost use Rattle.ba_top.specs.Ran.{Accepts, EndsFault, EndsPrint, EndsRun, EndsStop, Ran, RanInput, RanTask, Rejects, Served, fault_status, status_of, whole_run};
+ghost use Rattle.ba_top.specs.Ran.{Accepts, EndsFault, EndsPrint, EndsRun, EndsStop, Fails, Ran, RanInput, RanTask, Rejects, Served, ServedIdeally, fault_status, status_of, whole_run};
+ghost use Rattle.ba_top.specs.Audited.{TellsWritten};
 ghost use Rattle.ba_top.specs.Told.{TellsClosed};
 
+use crate::auditing::end_audit;
 use crate::checking::end_check;
 use crate::ending::ended;
 use crate::outcome::Outcome;
@@ -50,6 +53,7 @@ fn status(detail: &Detail) -> u8
     match detail {
         Detail::Done => 0,
         Detail::NotAccepted(_) => 1,
+        Detail::NotAudited(_) => 1,
         Detail::Fault(fault) => fault_status(fault),
         Detail::Write => 5,
         Detail::Memory => 6,
@@ -78,6 +82,7 @@ fn end_run<S: Sink>(
     requires many { length journal.now.entries ≡ length input.now.script.entries }
     ensures ends { EndsRun input.now told journal.now (S.seen sink.old) (S.seen sink.new) result }
     ensures closed { result ≡ Detail.Done → TellsClosed told input.now journal.now }
+    ensures written { result ≡ Detail.Done → TellsWritten told input.now journal.now }
 {
     let sent = print_told(alloc, input, journal, told, sink);
     ended(sent, whole_run(journal))
@@ -159,6 +164,7 @@ fn end_task<R: Threads + Wait + Sync, S: Sink, G: Gate + Sync>(
         Task::Run(input, told) => run_input(rt, alloc, &input, told, sink, gate),
         Task::Print(text) => (end_print(&text, sink), None),
         Task::Check(proof) => (end_check(alloc, proof, sink), None),
+        Task::Audit(input, bytes) => (end_audit(alloc, &input, &bytes, sink), None),
     }
 }
 
@@ -197,6 +203,12 @@ fn run<R: Threads + Wait + Sync, F: Files, S: Sink, G: Gate + Sync>(
 /// under its context and after its rows. Else the line tells the first step that isn't accepted and
 /// why, or how many branches are open (status 1).
 ///
+/// `audit --schema S --policy P --tables D --script F --output O` reads what `run` does and, last, the
+/// output O; then writes one line. The output is accepted where each of its lines passes every test
+/// (status 0): then each answer is that of its line's text and strongly compliant after what its
+/// request was told before, each pair refutes its question, and no blocked question is covered. Else
+/// the line tells the first line that fails one, and which (status 1).
+///
 /// `gen --seed N --requests R [--workers N] [--print]` makes the schema, the policy, the tables and
 /// the script of a workload (`ba_workload`), and reads no file. With `--print` it writes the script,
 /// line by line; else it serves it as `run` does, with the default budget, and writes the summary
@@ -222,9 +234,21 @@ pub fn blockaid<R: Threads + Wait + Sync, F: Files, S: Sink, G: Gate + Sync>(
     // answered before its printed rows. Each block is of such a query that isn't covered, and carries
     // a counterexample to strong compliance, a derivation as long as the budget, or a stuck branch.
     // The input that the words and the files come to is the one for which the journal is legal and
-    // whose lines were written.
+    // whose lines were written. What a run that is done tells with proofs passes every test of an
+    // audit.
     ensures headline { IfSome result.journal (λ journal.
         Served (map string_bytes words.now) (F.seen files.old) (F.seen files.new)
+        (S.seen sink.old) (S.seen sink.new) result.detail journal) }
+    // Where no column may be NULL, each atom of rules, views and questions is an `=`, no line
+    // publishes a table set, each line found memory, and none is blocked since the budget is spent,
+    // the journal is ideal: each question is unread with its text's first fault; or answered by its
+    // query's answer in the input's tables, where the query is strongly compliant after what its
+    // request was answered before; or blocked by a counterexample, where it isn't. So any two such
+    // runs of one script over the same policy and tables have the same verdicts and rows, whatever
+    // their workers, budgets, orders and loaded templates (`ideal_journals_agree` of
+    // `ba_machine_laws`).
+    ensures ideal { IfSome result.journal (λ journal.
+        ServedIdeally (map string_bytes words.now) (F.seen files.old) (F.seen files.new)
         (S.seen sink.old) (S.seen sink.new) result.detail journal) }
 
     ensures status { result.status ≡ status_of result.detail }
@@ -232,13 +256,18 @@ pub fn blockaid<R: Threads + Wait + Sync, F: Files, S: Sink, G: Gate + Sync>(
         (S.seen sink.old) (S.seen sink.new) result.detail result.journal }
 
     // A check that is done has read a proof whose steps are all accepted and leave no branch open; and
-    // so its question is strongly compliant under its context and after its rows. Without a journal,
-    // to be done is that, or that a script was printed.
+    // so its question is strongly compliant under its context and after its rows. An audit that is done
+    // has read an output that passes every test. Without a journal, to be done is one of these, or that
+    // a script was printed.
     ensures accepted { Accepts (map string_bytes words.now) (F.seen files.old) (F.seen files.new)
         result.detail result.journal }
     // One that isn't accepted has read a proof that has the fault, and so is none.
     ensures rejected { (fault : CheckFault) → result.detail ≡ Detail.NotAccepted fault
         → Rejects (map string_bytes words.now) (F.seen files.old) (F.seen files.new) fault }
+    // An audit of an output that isn't accepted has read one whose first failing line, and the first
+    // test that it fails, are those of the fault.
+    ensures failed { (fault : AuditFault) → result.detail ≡ Detail.NotAudited fault
+        → Fails (map string_bytes words.now) (F.seen files.old) (F.seen files.new) fault }
 
     // A read fault names the last name asked for, and the files' count rose.
     ensures read { (file : List ℕ) → result.detail ≡ Detail.Fault (Fault.Read file)

@@ -1,4 +1,5 @@
 // Runs that no case of files can show: reads and writes that fail, want of memory, huge files, the sure forms.
+mod audits;
 mod checks;
 mod gates;
 mod memory;

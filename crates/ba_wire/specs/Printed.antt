@@ -234,7 +234,7 @@ unfoldable pub fault_json : Fault → Data
 fault_json fault.Words =
     object (member (codes "fault") (string (codes "words"))
     (member (codes "status") (count 2)
-    (member (codes "usage") (string (codes "blockaid run|check|gen|store")) no_members)))
+    (member (codes "usage") (string (codes "blockaid run|check|gen|store|audit")) no_members)))
 fault_json (fault.Input file reason) =
     object (member (codes "fault") (string (codes "input"))
     (member (codes "file") (string file)

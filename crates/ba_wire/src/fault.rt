@@ -239,7 +239,7 @@ fn words_object(alloc: Global) -> Result<Object, AllocError>
     Object::new(alloc)
         .with_text("fault", "words")?
         .with_count("status", 2)?
-        .with_text("usage", "blockaid run|check|gen|store")
+        .with_text("usage", "blockaid run|check|gen|store|audit")
 }
 
 fn input_object(alloc: Global, file: &Str, reason: &Reason) -> Result<Object, AllocError>

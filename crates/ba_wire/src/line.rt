@@ -84,8 +84,7 @@ pub enum Line<'a> {
 }
 
 impl By {
-    /// The name under which it is printed.
-    pub fn name(self) -> &'static str
+    fn name(self) -> &'static str
         ensures { result.now ≡ by_name self }
     {
         match self {
@@ -97,7 +96,7 @@ impl By {
 }
 
 impl Block {
-    pub(crate) fn name(self) -> &'static str
+    fn name(self) -> &'static str
         ensures { result.now ≡ block_name self }
     {
         match self {
@@ -108,7 +107,7 @@ impl Block {
     }
 }
 
-pub(crate) fn clause_name(clause: Clause) -> &'static str
+fn clause_name(clause: Clause) -> &'static str
     ensures { result.now ≡ clause_name clause }
 {
     match clause {
@@ -123,7 +122,7 @@ pub(crate) fn clause_name(clause: Clause) -> &'static str
 }
 
 // What isn't supported, if that is the fault.
-pub(crate) fn unsupported_in(fault: &ReadQueryFault) -> Option<&Str>
+fn unsupported_in(fault: &ReadQueryFault) -> Option<&Str>
     ensures { option_copied result ≡ unsupported_in fault.now }
 {
     match fault {

@@ -63,6 +63,13 @@ fn write_command(told: &mut String, command: &Command) -> Told {
             workers,
             print,
         } => write!(told, "gen {seed} {requests} {workers} {print}"),
+        Command::Audit {
+            schema,
+            policy,
+            tables,
+            script,
+            output,
+        } => write!(told, "audit {schema} {policy} {tables} {script} {output}"),
     }
 }
 
@@ -119,6 +126,26 @@ store --schema S --policy P --tables D --script F --proofs
 store --schema S --policy P --tables D --script F --orders 3
 store --schema S --policy P --proof F
 
+audit --schema S --policy P --tables D --script F --output O => audit S P D F O
+audit --output=O --script=F --tables=t/0 --policy=P --schema=S => audit S P t/0 F O
+audit --schema audit --policy run --tables audit --script store --output audit => audit audit run audit store audit
+
+audit
+Audit --schema S --policy P --tables D --script F --output O
+audit audit --schema S --policy P --tables D --script F --output O
+audit --schema S --policy P --tables D --script F
+audit --schema S --policy P --tables D --output O
+audit --schema S --policy P --tables D --script F --output
+audit --schema S --policy P --tables D --script F --out O
+audit --schema S --policy P --tables D --script F --output O O
+audit --schema S --policy P --tables D --script F --output O --output O
+audit --schema S --policy P --tables D --script F --output O --load T
+audit --schema S --policy P --tables D --script F --output O --proofs
+audit --schema S --policy P --tables D --script F --output O --workers 1
+audit --schema S --policy P --tables D --script F --output O --budget 16
+audit --schema S --policy P --tables D --script F --output O --orders 1
+audit --schema S --policy P --proof F
+
 check --schema S --policy P --proof F => check S P F
 check --proof=F --policy=P --schema=S => check S P F
 check --policy check --proof run --schema check => check check check run
@@ -132,6 +159,7 @@ check --schema S --policy P --prove F
 check --schema S --policy P --proof F G
 check --schema S --policy P --proof F --proof F
 check --schema S --policy P --proof F --budget 16
+check --schema S --policy P --proof F --output O
 check --schema S --policy P --script F
 
 gen --seed 0 --requests 1 => gen 0 1 1 false
@@ -183,6 +211,7 @@ const OPTIONS: &str = "--load T => S P D F 1 2000 1 T
 --proofs true
 --proofs=true
 --proof
+--output O
 --load
 --load T --load T
 --load T U

@@ -162,7 +162,8 @@ impl Reading for Lines {
     }
 }
 
-const LINES: &str = r#"words => {"fault":"words","status":2,"usage":"blockaid run|check|gen|store"}~
+const LINES: &str =
+    r#"words => {"fault":"words","status":2,"usage":"blockaid run|check|gen|store|audit"}~
 t0/Users.csv => {"fault":"read","file":"t0/Users.csv","status":4}~"#;
 
 #[test]

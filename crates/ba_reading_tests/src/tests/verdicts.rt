@@ -1,10 +1,13 @@
-//! Lines of checks, and the reasons of files that are no proofs or no templates, as the program prints
-//! them.
+//! Lines of checks and audits, and the reasons of files that are no proofs or no templates, as the
+//! program prints them.
 
 use super::faults::write_reason;
 use ba_kernel::StepFault;
 use ba_model::{Counted, Str};
-use ba_wire::{Fault, Reason, TemplateFault, Verdict, fault_text, verdict_text};
+use ba_wire::{
+    AuditFault, AuditReason, Audited, Fault, Reason, TemplateFault, Verdict, fault_text,
+    finding_text, verdict_text,
+};
 use std::alloc::{AllocError, Global};
 use std::test::Fail;
 
@@ -47,6 +50,61 @@ fn lines_of_checks(rt: HostRuntime) -> Result<(), Fail> {
     write_verdict(alloc, &mut told, Verdict::StillOpen { branches: 1 })?;
     write_faults(alloc, &mut told)?;
     assert_eq!(rt; told.as_str(), LINES);
+    Ok(())
+}
+
+const REASONS: [AuditReason; 12] = [
+    AuditReason::Count,
+    AuditReason::Json,
+    AuditReason::Shape,
+    AuditReason::Kind,
+    AuditReason::Version,
+    AuditReason::Unread,
+    AuditReason::By,
+    AuditReason::Covered,
+    AuditReason::Rows,
+    AuditReason::Proof,
+    AuditReason::Pair,
+    AuditReason::Summary,
+];
+
+const FINDINGS: &str = "{\"audited\":true,\"lines\":65536,\"unaudited\":3}
+{\"audited\":false,\"line\":2,\"reason\":\"count\"}
+{\"audited\":false,\"line\":2,\"reason\":\"json\"}
+{\"audited\":false,\"line\":2,\"reason\":\"shape\"}
+{\"audited\":false,\"line\":2,\"reason\":\"kind\"}
+{\"audited\":false,\"line\":2,\"reason\":\"version\"}
+{\"audited\":false,\"line\":2,\"reason\":\"unread\"}
+{\"audited\":false,\"line\":2,\"reason\":\"by\"}
+{\"audited\":false,\"line\":2,\"reason\":\"covered\"}
+{\"audited\":false,\"line\":2,\"reason\":\"rows\"}
+{\"audited\":false,\"line\":2,\"reason\":\"proof\"}
+{\"audited\":false,\"line\":2,\"reason\":\"pair\"}
+{\"audited\":false,\"line\":2,\"reason\":\"summary\"}
+";
+
+fn write_finding(
+    alloc: Global,
+    told: &mut String,
+    finding: Result<Audited, AuditFault>,
+) -> Result<(), AllocError> {
+    let line = finding_text(alloc, finding)?;
+    told.push_str(line.as_str())
+}
+
+#[test]
+fn lines_of_audits(rt: HostRuntime) -> Result<(), Fail> {
+    let alloc = rt.alloc();
+    let mut told = String::new(alloc);
+    let audited = Audited {
+        lines: 65_536,
+        unaudited: 3,
+    };
+    write_finding(alloc, &mut told, Ok(audited))?;
+    for reason in REASONS {
+        write_finding(alloc, &mut told, Err(AuditFault::At(2, reason)))?;
+    }
+    assert_eq!(rt; told.as_str(), FINDINGS);
     Ok(())
 }
 

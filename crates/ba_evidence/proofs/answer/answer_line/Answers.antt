@@ -11,12 +11,15 @@ use Rattle.ba_evidence.proofs.answer.answer_line.Goals as goal
 
 pub returns-clause-text : goal.returns-clause-text
 returns-clause-text c =
-    let is = c.in_ok-value.ensures in
+    let is = c.in_ok-value.ensures.json in
     let whole = answer_whole c.args.params.now (evidence c.args.ground.now) c.args.line c.args.request.now c.args.rows.now c.args.version in
     IfOk-weaker c.line_of.result _ _ (λ s h. h (ap has_float is ∙ whole) ∙ ap json_line is) c.line_of.ensures.text
 
 pub returns-clause-reads_back : goal.returns-clause-reads_back
 returns-clause-reads_back c =
-    let is = c.in_ok-value.ensures in
+    let is = c.in_ok-value.ensures.json in
     let flat = answer_flat c.args.params.now (evidence c.args.ground.now) c.args.line c.args.request.now c.args.rows.now c.args.version in
     IfOk-weaker c.line_of.result _ _ (λ s h. subst (ReadsBack (string_bytes s)) is (h (subst (λ d. depth d ≤ max_depth) (sym is) flat))) c.line_of.ensures.reads_back
+
+pub returns-clause-bits : goal.returns-clause-bits
+returns-clause-bits c = IfOk-weaker c.line_of.result _ _ (λ s h. c.in_ok-value.ensures.bits) c.line_of.ensures.text

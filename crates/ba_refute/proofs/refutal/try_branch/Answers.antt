@@ -10,4 +10,4 @@ pub returns-in-Some : goal.returns-in-Some
 returns-in-Some c =
     let same = subst (Narrows IsPairStored (pair_of c.in_ok-image.image)) c.in-Some.is c.in_ok-pair.ensures in
     tried_by_test c.args.asked.now c.args.problem.now c.args.branch.now c.in-Some.pair c.test.result
-    (subst (IsImage c.args.problem.now c.args.asked.now.context.now c.args.branch.now) (sym same.0) c.in_ok-image.ensures) c.test.ensures
+    (subst (IsImage c.args.problem.now c.args.asked.now.context.now c.args.branch.now) (sym same.0) c.in_ok-image.ensures.image) c.in_ok-image.ensures.small c.test.ensures

@@ -22,4 +22,4 @@ returns-in-Pair c =
 pub returns-in-Stuck : goal.returns-in-Stuck
 returns-in-Stuck c =
     stuck c.args.asked.now c.args.leaf c.deref-problem.result.now c.deref-branch.result.now c.deref-problem.ensures c.deref-branch.ensures
-    c.in_ok-tried.tried c.in_ok-tried.ensures c.in-Stuck.clause c.in-Stuck.is
+    c.in_ok-tried.tried c.in_ok-tried.ensures c.requires.fits c.requires.problem c.requires.leaf c.in-Stuck.clause c.in-Stuck.is

@@ -12,7 +12,7 @@ loop-n-preserved c =
       | else-is_node w ↦ rw w.nodes-is (nodes_pass k c.loop-n.n c.loop-n.nodes.items c.loop-n.invariant (λ h. false≢true (sym w.if-is_node.false ∙ c.is_node.ensures.1 h)))
     ]
 
-pub returns : goal.returns
-returns c =
+pub returns-clause-exact : goal.returns-clause-exact
+returns-clause-exact c =
     nodes_all c.args.known.now c.loop-n.n c.loop-n.nodes.items
     (omega (arith, c.loop-n-test.false, c.in_ok-count.ensures, ap length c.unknowns.ensures)) c.loop-n.invariant

@@ -1,5 +1,5 @@
-use Rattle.std.proofs.Common.{◌++◌, ◌+◌, Err, drop, sym, subst, take}
-use Rattle.std.proofs.lemmas.Result.{err_from_is_err_and}
+use Rattle.std.proofs.Common.{◌++◌, ◌+◌, Err, arith, drop, sym, subst, take}
+use Rattle.std.proofs.lemmas.Result.{IfOk-weaker, err_from_is_err_and}
 use Rattle.ba_input.specs.declared.task.Told.TheVariants.{Proofs}
 use Rattle.ba_plan.proofs.SendingLines.{lines_no_memory}
 use Rattle.ba_plan.specs.Sent.{SentLines}
@@ -7,11 +7,11 @@ use Rattle.ba_tables.proofs.IndexLemmas.{take_one}
 use Rattle.ba_top.specs.Evidence.{AreAfter}
 use Rattle.ba_top.specs.Told.{told_after, told_end}
 use Rattle.ba_top.proofs.PrintLemmas.{line_at, said_at, told_err, told_then}
-use Rattle.ba_top.proofs.ProofsLemmas.{close_next}
+use Rattle.ba_top.proofs.ProofsLemmas.{close_next, written_last, written_next}
 use Rattle.ba_top.proofs.print.print_proofs.Goals as goal
 
 pub loop-place-init : goal.loop-place-init
-loop-place-init g c = (c.new-requests.ensures c.args.input.now, (λ t r h. h), (λ h. h))
+loop-place-init g c = (c.new-requests.ensures c.args.input.now, (λ t r h. h), (λ h. h), (λ h. h))
 
 pub returns-in_err-print_evident-clause-sent : goal.returns-in_err-print_evident-clause-sent
 returns-in_err-print_evident-clause-sent g c =
@@ -54,4 +54,11 @@ loop-place-preserved g c =
           (told_then Proofs c.args.input.now entries i entry (told_end Proofs c.args.journal.now) s m t r c.get-entry.ensures
           (c.in_ok-print_evident.ensures.sent (take i entries) said (line_at entries i entry c.get-entry.ensures) c.loop-place.invariant.0) h)),
       (λ h. c.loop-place.invariant.2 (close_next c.args.input.now entries i entry c.get-entry.ensures (c.in_ok-print_evident.ensures.closes (take i entries) c.loop-place.invariant.0) h)),
+      (λ h. c.loop-place.invariant.3 (written_next c.args.input.now entries i entry c.get-entry.ensures
+          (c.in_ok-print_evident.ensures.written (take i entries) said (line_at entries i entry c.get-entry.ensures) c.loop-place.invariant.0) h)),
     )
+
+pub returns-clause-written : goal.returns-clause-written
+returns-clause-written g c =
+    IfOk-weaker c.print_summary.result _ _ (λ x h. record { entries = c.loop-place.invariant.3 (written_last c.args.input.now c.args.journal.now.entries c.loop-place.place (omega arith)); total = h })
+    c.print_summary.ensures.written

@@ -4,4 +4,4 @@ pub end_run-requires-clause-many : goal.end_run-requires-clause-many
 end_run-requires-clause-many g c = c.in-Ok.ensures.many
 
 pub returns-in-Ok : goal.returns-in-Ok
-returns-in-Ok g c = (c.in-Ok.ensures.legal, c.in-Ok.ensures.headline, c.end_run.ensures.ends, c.end_run.ensures.closed)
+returns-in-Ok g c = (c.in-Ok.ensures.legal, c.in-Ok.ensures.headline, c.end_run.ensures.ends, c.end_run.ensures.closed, c.end_run.ensures.written)

@@ -1,5 +1,0 @@
-use Rattle.ba_complete.proofs.RefuteLemmas.{images_refute as refute}
-use Rattle.ba_complete.proofs.laws.images_refute.Goals as goal
-
-pub returns : goal.returns
-returns c = refute

@@ -1,3 +1,0 @@
-pub mod Valued
-pub mod Parts
-pub mod Questions

@@ -1,4 +1,0 @@
-pub mod Journal
-pub mod Told
-pub mod Ran
-pub mod Text

@@ -1,4 +1,0 @@
-pub mod Books
-pub mod Steps
-pub mod Wellformed
-pub mod Laws

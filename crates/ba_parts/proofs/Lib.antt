@@ -1,3 +1,0 @@
-pub mod UnionLemmas
-pub mod RowLemmas
-pub mod EntryLemmas

@@ -1,4 +1,0 @@
-pub mod Seen
-pub mod Taking
-pub mod MemSource
-pub mod StdSource
