@@ -7,3 +7,4 @@ pub mod HeardLemmas
 pub mod EndLemmas
 pub mod SoundLemmas
 pub mod OneEndLemmas
+pub mod ReadLemmas

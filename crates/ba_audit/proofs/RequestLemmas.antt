@@ -84,5 +84,6 @@ request_fits basis sets k held (said.Begin request name context) reading begins 
     either_fits basis.policy (eqb request k) (begun_by basis context reading) held (begin_fits basis sets context begins reading) fits
 request_fits basis sets k held (said.Ask request name text) reading begins told fits =
     either_fits basis.policy (eqb request k) (option_map (with_told (told_by basis.policy text reading)) held) held (told_fits basis.policy (told_by basis.policy text reading) told held fits) fits
+request_fits basis sets k held (said.Read request name key arguments questions) reading begins told fits = fits
 request_fits basis sets k held (said.End request name) reading begins told fits = fits
 request_fits basis sets k held (said.Publish number set) reading begins told fits = fits

@@ -2,6 +2,7 @@
 use Rattle.std.proofs.Common.{◌≡◌, ◌∙◌, ◌↔◌, refl, sym, ap, subst, ℕ, ◌+◌, ◌<◌, inl, inr, List, [], ◌∷◌, Bool, true, false, Option, Some, None, Result, Ok, Err, IsTrue, arith}
 use Rattle.std.proofs.lemmas.Bool.{false≢true}
 use Rattle.std.specs.Option.{option_to_list}
+use Rattle.std.specs.Prelude.{slice_get}
 use Rattle.ba_direct.specs.Cover.{Covered as IsCovered}
 use Rattle.ba_comply.specs.declared.trace.TraceEntry.{TraceEntry}
 use Rattle.ba_model.specs.Meaning.{AnswerIsUnique, IsAnswer}
@@ -18,8 +19,8 @@ use Rattle.ba_printed.specs.declared.line.PrintedLine.{PrintedLine}
 use Rattle.ba_printed.specs.declared.line.PrintedLine.TheVariants as printed
 use Rattle.ba_audit.specs.Audits.{IsNoVerdict, ShowsQuery, ShowsText}
 use Rattle.ba_audit.specs.Keeping.{MeetsKept, MeetsTaken, TellsHeard, known_in}
-use Rattle.ba_audit.specs.Lines.{Basis, Reading, is_answer, is_block, is_memory, reading_of, recorded, rows_in, told_by, unread_in}
-use Rattle.ba_audit.specs.Tests.{IsFirstUnmet, IsRightlyBy, IsRightlyUnread, MeetsAll, MeetsAnswer, MeetsAsked, MeetsBehind, MeetsBlock, MeetsForm, MeetsOpening, MeetsQuery, MeetsSaid, MeetsText, fault_of, is_kind, is_version, may_go_on, rank, request_in}
+use Rattle.ba_audit.specs.Lines.{Basis, Reading, is_answer, is_block, is_memory, queries_read, reading_of, recorded, rows_in, told_by, unread_in}
+use Rattle.ba_audit.specs.Tests.{IsFirstUnmet, IsRightlyBy, IsRightlyUnread, MeetsAll, MeetsAnswer, MeetsAsked, MeetsBehind, MeetsBlock, MeetsForm, MeetsKeyBlock, MeetsKeyRead, MeetsOpening, MeetsQueries, MeetsQuery, MeetsReader, MeetsSaid, MeetsText, fault_of, is_kind, is_version, may_go_on, rank, request_in}
 use Rattle.ba_audit.specs.declared.heard.Heard.{Heard}
 use Rattle.ba_audit.specs.declared.heard.Heard.TheVariants.{Unmet, Met}
 use Rattle.ba_audit.specs.declared.numbered.Numbered.{Numbered}
@@ -93,6 +94,9 @@ free_query policy asker q (printed.End end line) reason free = tt
 free_query policy asker q (printed.Publish line publish version) reason free = tt
 free_query policy asker q (printed.Answer it line request rows version) reason free = free_answer policy asker q it rows reason free
 free_query policy asker q (printed.Block it line request version) reason free = free_block policy asker q it reason free
+free_query policy asker q (printed.Read it key line read version) reason free = tt
+free_query policy asker q (printed.ReadBlock it key line query read version) reason free = tt
+free_query policy asker q printed.UnevenRead reason free = tt
 free_query policy asker q (printed.Unread line request unread version) reason free = tt
 free_query policy asker q (printed.Memory line) reason free = tt
 free_query policy asker q (printed.Summary summary) reason free = tt
@@ -199,6 +203,9 @@ memory_rows (printed.End end line) e = refl
 memory_rows (printed.Publish line publish version) e = refl
 memory_rows (printed.Answer it line request rows version) e = absurd (false≢true e)
 memory_rows (printed.Block it line request version) e = refl
+memory_rows (printed.Read it key line read version) e = refl
+memory_rows (printed.ReadBlock it key line query read version) e = refl
+memory_rows printed.UnevenRead e = refl
 memory_rows (printed.Unread line request unread version) e = refl
 memory_rows (printed.Memory line) e = refl
 memory_rows (printed.Summary summary) e = refl
@@ -210,6 +217,9 @@ memory_query policy asker q (printed.End end line) e reason = tt
 memory_query policy asker q (printed.Publish line publish version) e reason = tt
 memory_query policy asker q (printed.Answer it line request rows version) e reason = absurd (false≢true e)
 memory_query policy asker q (printed.Block it line request version) e reason = absurd (false≢true e)
+memory_query policy asker q (printed.Read it key line read version) e reason = tt
+memory_query policy asker q (printed.ReadBlock it key line query read version) e reason = tt
+memory_query policy asker q printed.UnevenRead e reason = tt
 memory_query policy asker q (printed.Unread line request unread version) e reason = tt
 memory_query policy asker q (printed.Memory line) e reason = tt
 memory_query policy asker q (printed.Summary summary) e reason = tt
@@ -228,13 +238,16 @@ abbrev IsNothing : {X : Type 0} → Option X → Type 0
 IsNothing None = Unit {0}
 IsNothing (Some x) = ⊥
 
-memory_verdict : (line : PrintedLine) → is_memory line ≡ true → IsNoVerdict line
+pub memory_verdict : (line : PrintedLine) → is_memory line ≡ true → IsNoVerdict line
 unfolding is_memory is_answer is_block
 memory_verdict (printed.Begin begin line version) e = record { no_answer = refl; no_block = refl }
 memory_verdict (printed.End end line) e = record { no_answer = refl; no_block = refl }
 memory_verdict (printed.Publish line publish version) e = record { no_answer = refl; no_block = refl }
 memory_verdict (printed.Answer it line request rows version) e = absurd (false≢true e)
 memory_verdict (printed.Block it line request version) e = absurd (false≢true e)
+memory_verdict (printed.Read it key line read version) e = absurd (false≢true e)
+memory_verdict (printed.ReadBlock it key line query read version) e = absurd (false≢true e)
+memory_verdict printed.UnevenRead e = record { no_answer = refl; no_block = refl }
 memory_verdict (printed.Unread line request unread version) e = record { no_answer = refl; no_block = refl }
 memory_verdict (printed.Memory line) e = record { no_answer = refl; no_block = refl }
 memory_verdict (printed.Summary summary) e = record { no_answer = refl; no_block = refl }
@@ -246,6 +259,9 @@ memory_query_shows policy asker q (printed.End end line) e = tt
 memory_query_shows policy asker q (printed.Publish line publish version) e = tt
 memory_query_shows policy asker q (printed.Answer it line request rows version) e = absurd (false≢true e)
 memory_query_shows policy asker q (printed.Block it line request version) e = absurd (false≢true e)
+memory_query_shows policy asker q (printed.Read it key line read version) e = tt
+memory_query_shows policy asker q (printed.ReadBlock it key line query read version) e = tt
+memory_query_shows policy asker q printed.UnevenRead e = tt
 memory_query_shows policy asker q (printed.Unread line request unread version) e = tt
 memory_query_shows policy asker q (printed.Memory line) e = tt
 memory_query_shows policy asker q (printed.Summary summary) e = tt
@@ -263,6 +279,9 @@ unread_verdict (printed.End end line) fault e = record { no_answer = refl; no_bl
 unread_verdict (printed.Publish line publish version) fault e = record { no_answer = refl; no_block = refl }
 unread_verdict (printed.Answer it line request rows version) fault e = absurd (subst IsNothing e tt)
 unread_verdict (printed.Block it line request version) fault e = absurd (subst IsNothing e tt)
+unread_verdict (printed.Read it key line read version) fault e = absurd (subst IsNothing e tt)
+unread_verdict (printed.ReadBlock it key line query read version) fault e = absurd (subst IsNothing e tt)
+unread_verdict printed.UnevenRead fault e = record { no_answer = refl; no_block = refl }
 unread_verdict (printed.Unread line request unread version) fault e = record { no_answer = refl; no_block = refl }
 unread_verdict (printed.Memory line) fault e = record { no_answer = refl; no_block = refl }
 unread_verdict (printed.Summary summary) fault e = record { no_answer = refl; no_block = refl }
@@ -284,12 +303,68 @@ heard_fault policy asker fault reading is line says = (
   subst (λ r. ShowsText policy (Some (Asking asker)) r line) (sym is) (unread_verdict line fault says),
 )
 
+below_covered : (policy : Policy) (asker : Asker) (q : Query) (it : PrintedBlock) (other : Reason) → rank other < 7 → MeetsBlock policy asker q it other
+unfolding rank
+below_covered policy asker q it Count lt = tt
+below_covered policy asker q it Json lt = tt
+below_covered policy asker q it Shape lt = tt
+below_covered policy asker q it Kind lt = tt
+below_covered policy asker q it Version lt = tt
+below_covered policy asker q it Unread lt = tt
+below_covered policy asker q it By lt = tt
+below_covered policy asker q it Covered lt = absurd (omega (arith, lt))
+below_covered policy asker q it Rows lt = absurd (omega (arith, lt))
+below_covered policy asker q it Proof lt = absurd (omega (arith, lt))
+below_covered policy asker q it Pair lt = absurd (omega (arith, lt))
+below_covered policy asker q it Summary lt = absurd (omega (arith, lt))
+
+-- ---- what a read owes before its evidence
+
+pub key_read_low : (policy : Policy) (asker : Asker) (qs : List Query) (its : List Evidence) (other : Reason) → rank other < 6 → MeetsKeyRead policy asker qs its other
+unfolding rank
+key_read_low policy asker qs its Count lt = tt
+key_read_low policy asker qs its Json lt = tt
+key_read_low policy asker qs its Shape lt = tt
+key_read_low policy asker qs its Kind lt = tt
+key_read_low policy asker qs its Version lt = tt
+key_read_low policy asker qs its Unread lt = tt
+key_read_low policy asker qs its By lt = absurd (omega (arith, lt))
+key_read_low policy asker qs its Covered lt = absurd (omega (arith, lt))
+key_read_low policy asker qs its Rows lt = absurd (omega (arith, lt))
+key_read_low policy asker qs its Proof lt = absurd (omega (arith, lt))
+key_read_low policy asker qs its Pair lt = absurd (omega (arith, lt))
+key_read_low policy asker qs its Summary lt = absurd (omega (arith, lt))
+
+key_block_low : (policy : Policy) (asker : Asker) (found : Option Query) (why : PrintedBlock) (other : Reason) → rank other < 6 → MeetsKeyBlock policy asker found why other
+key_block_low policy asker None why other lt = tt
+key_block_low policy asker (Some q) why other lt = below_covered policy asker q why other (omega (arith, lt))
+
+queries_low : (policy : Policy) (asker : Asker) (qs : List Query) (line : PrintedLine) (other : Reason) → rank other < 6 → MeetsQueries policy asker qs line other
+unfolding MeetsQueries
+queries_low policy asker qs (printed.Begin begin line version) other lt = tt
+queries_low policy asker qs (printed.End end line) other lt = tt
+queries_low policy asker qs (printed.Publish line publish version) other lt = tt
+queries_low policy asker qs (printed.Answer it line request rows version) other lt = tt
+queries_low policy asker qs (printed.Block it line request version) other lt = tt
+queries_low policy asker qs (printed.Read its key line read version) other lt = key_read_low policy asker qs its other lt
+queries_low policy asker qs (printed.ReadBlock why key line query read version) other lt = key_block_low policy asker (slice_get qs query) why other lt
+queries_low policy asker qs printed.UnevenRead other lt = tt
+queries_low policy asker qs (printed.Unread line request unread version) other lt = tt
+queries_low policy asker qs (printed.Memory line) other lt = tt
+queries_low policy asker qs (printed.Summary summary) other lt = tt
+
+reader_low : (policy : Policy) (held : Option Begun) (qs : List Query) (line : PrintedLine) (other : Reason) → rank other < 5 → MeetsReader policy held qs line other
+reader_low policy None qs line other lt = tt
+reader_low policy (Some Silent) qs line other lt = tt
+reader_low policy (Some (Asking asker)) qs line other lt = queries_low policy asker qs line other (omega (arith, lt))
+
 -- ---- kind and version
 
 pub behind_low : (policy : Policy) (held : Option Begun) (e : ScriptEntry) (line : PrintedLine) (other : Reason) → rank other < 5 → MeetsBehind policy held e line other
 unfolding MeetsBehind
 behind_low policy held (said.Begin request name context) line other lt = tt
 behind_low policy held (said.Ask request name text) line other lt = before_unread policy held (reading_of policy text) line other lt
+behind_low policy held (said.Read request name key arguments questions) line other lt = reader_low policy held (queries_read policy key arguments) line other lt
 behind_low policy held (said.End request name) line other lt = tt
 behind_low policy held (said.Publish number set) line other lt = tt
 
@@ -312,11 +387,11 @@ module _ (basis : Basis) (number : ℕ) (used : List Numbered) (held : Option Be
   below_kind Pair lt = absurd (omega (arith, lt))
   below_kind Summary lt = absurd (omega (arith, lt))
 
-  pub first_kind : is_kind e number held line ≡ false → IsFirstUnmet OfSaid Kind
+  pub first_kind : is_kind basis.policy e number held line ≡ false → IsFirstUnmet OfSaid Kind
   unfolding rank
   first_kind wrong = record { unmet = λ m. not_true (subst IsTrue wrong m.0); before = below_kind }
 
-  below_version : IsTrue (is_kind e number held line) → (other : Reason) → rank other < 4 → OfSaid other
+  below_version : IsTrue (is_kind basis.policy e number held line) → (other : Reason) → rank other < 4 → OfSaid other
   unfolding rank
   below_version kind Count lt = (tt, behind_low basis.policy held e line Count (omega arith))
   below_version kind Json lt = (tt, behind_low basis.policy held e line Json (omega arith))
@@ -331,11 +406,11 @@ module _ (basis : Basis) (number : ℕ) (used : List Numbered) (held : Option Be
   below_version kind Pair lt = absurd (omega (arith, lt))
   below_version kind Summary lt = absurd (omega (arith, lt))
 
-  pub first_version : is_kind e number held line ≡ true → is_version basis used held e line ≡ false → IsFirstUnmet OfSaid Version
+  pub first_version : is_kind basis.policy e number held line ≡ true → is_version basis used held e line ≡ false → IsFirstUnmet OfSaid Version
   unfolding rank
   first_version kind wrong = record { unmet = λ m. not_true (subst IsTrue wrong m.0); before = below_version (is_true kind) }
 
-  opening : IsTrue (is_kind e number held line) → IsTrue (is_version basis used held e line) → (reason : Reason) → MeetsOpening basis number used held e line reason
+  opening : IsTrue (is_kind basis.policy e number held line) → IsTrue (is_version basis used held e line) → (reason : Reason) → MeetsOpening basis number used held e line reason
   opening kind version Count = tt
   opening kind version Json = tt
   opening kind version Shape = tt
@@ -349,7 +424,7 @@ module _ (basis : Basis) (number : ℕ) (used : List Numbered) (held : Option Be
   opening kind version Pair = tt
   opening kind version Summary = tt
 
-  pub heard_said : is_kind e number held line ≡ true → is_version basis used held e line ≡ true → (told : List TraceEntry) (Shows : Type 0) (heard : Heard) →
+  pub heard_said : is_kind basis.policy e number held line ≡ true → is_version basis used held e line ≡ true → (told : List TraceEntry) (Shows : Type 0) (heard : Heard) →
       TellsHeard (MeetsBehind basis.policy held e line) told Shows heard → TellsHeard OfSaid told Shows heard
   heard_said kind version told Shows heard h =
       heard_as (MeetsBehind basis.policy held e line) OfSaid (λ reason b. (opening (is_true kind) (is_true version) reason, b)) (λ reason m. m.1) told told refl Shows Shows (λ x. x) heard h
@@ -484,21 +559,6 @@ module _ (policy : Policy) (asker : Asker) (q : Query) (it : Evidence) (rows : L
     before = below_rows (is.0 (is_true sure));
   }
 
-below_covered : (policy : Policy) (asker : Asker) (q : Query) (it : PrintedBlock) (other : Reason) → rank other < 7 → MeetsBlock policy asker q it other
-unfolding rank
-below_covered policy asker q it Count lt = tt
-below_covered policy asker q it Json lt = tt
-below_covered policy asker q it Shape lt = tt
-below_covered policy asker q it Kind lt = tt
-below_covered policy asker q it Version lt = tt
-below_covered policy asker q it Unread lt = tt
-below_covered policy asker q it By lt = tt
-below_covered policy asker q it Covered lt = absurd (omega (arith, lt))
-below_covered policy asker q it Rows lt = absurd (omega (arith, lt))
-below_covered policy asker q it Proof lt = absurd (omega (arith, lt))
-below_covered policy asker q it Pair lt = absurd (omega (arith, lt))
-below_covered policy asker q it Summary lt = absurd (omega (arith, lt))
-
 pub first_covered : (policy : Policy) (asker : Asker) (q : Query) (it : PrintedBlock) (b : Bool) → (IsTrue b ↔ IsCovered policy asker.context q) → b ≡ true → IsFirstUnmet (MeetsBlock policy asker q it) Covered
 unfolding rank
 first_covered policy asker q it b is sure = record { unmet = λ wrong. wrong (is.0 (is_true sure)); before = below_covered policy asker q it }
@@ -508,7 +568,7 @@ first_covered policy asker q it b is sure = record { unmet = λ wrong. wrong (is
 abbrev pub goes : Option Begun → PrintedLine → Type 0
 goes held line = IsTrue (may_go_on held line)
 
-true_of : (b : Bool) → IsTrue b → b ≡ true
+pub true_of : (b : Bool) → IsTrue b → b ≡ true
 true_of true t = refl
 true_of false t = absurd (not_true t)
 

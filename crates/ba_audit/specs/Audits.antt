@@ -1,6 +1,6 @@
 -- When an output passes an audit, which line and which test fail first, and what a pass shows.
 use Rattle.std.specs.List.{flat_map}
-use Rattle.std.specs.Prelude.{◌≡◌, ◌⊎◌, ℕ, ◌+◌, List, [], ◌∷◌, ◌++◌, All, false, Option, Some, None, Result, Ok, Err, length, map, count_by, ◌==◌, nat_lt}
+use Rattle.std.specs.Prelude.{◌≡◌, ◌⊎◌, ℕ, ◌+◌, List, [], ◌∷◌, ◌++◌, All, false, Option, Some, None, Result, Ok, Err, length, map, count_by, slice_get, ◌==◌, nat_lt}
 use Rattle.ba_comply.specs.Comply.{Strong}
 use Rattle.ba_direct.specs.Cover.{Covered}
 use Rattle.ba_kernel.specs.Asked.{QuestionFits}
@@ -12,7 +12,7 @@ use Rattle.ba_model.specs.SchemaFaults.{AreTables}
 use Rattle.ba_model.specs.declared.policy.Policy.{Policy}
 use Rattle.ba_model.specs.declared.query.Query.{Query}
 use Rattle.ba_model.specs.declared.value.Value.{Value}
-use Rattle.ba_script.specs.Scripts.{BeginFits}
+use Rattle.ba_script.specs.Scripts.{BeginFits, ReadFits}
 use Rattle.ba_script.specs.declared.entry.Script.{Script}
 use Rattle.ba_script.specs.declared.entry.ScriptEntry.{ScriptEntry}
 use Rattle.ba_script.specs.declared.entry.ScriptEntry.TheVariants as said
@@ -20,10 +20,11 @@ use Rattle.ba_sql_query.specs.declared.fault.ReadQueryFault.{ReadQueryFault}
 use Rattle.ba_printed.specs.Lines.{printed_lines}
 use Rattle.ba_printed.specs.Reading.{printed_of}
 use Rattle.ba_printed.specs.declared.line.Evidence.{Evidence}
+use Rattle.ba_printed.specs.declared.line.PrintedBlock.{PrintedBlock}
 use Rattle.ba_printed.specs.declared.line.PrintedLine.{PrintedLine}
 use Rattle.ba_printed.specs.declared.line.PrintedLine.TheVariants as printed
 use Rattle.ba_tables.specs.TableSet.{TableSet}
-use Rattle.ba_audit.specs.Lines.{Basis, Line, Place, Reading, entry, line_at, is_answer, is_block, is_unaudited, reading_of, said_by, total, versions}
+use Rattle.ba_audit.specs.Lines.{Basis, Line, Place, Reading, entry, line_at, is_answer, is_block, is_unaudited, queries_read, reading_of, said_by, total, versions}
 use Rattle.ba_audit.specs.Tests.{IsFirstUnmet, IsProved, IsRefuted, IsRightlyBy, MeetsAll, MeetsReading, held_by}
 use Rattle.ba_wire.specs.declared.audit.AuditFault.{AuditFault}
 use Rattle.ba_wire.specs.declared.audit.AuditFault.TheVariants.{At}
@@ -129,12 +130,13 @@ pub record IsChecked (policy : Policy) : Type 0 where
   pub tables : AreTables policy.schema.tables
   pub rules : All (RuleFits policy.schema) policy.schema.rules
 
--- the policy was checked, the sets conform, and the contexts of the
--- script's requests are of the policy
+-- the policy was checked, the sets conform, the contexts of the script's requests are of the
+-- policy, and its reads are of the policy's cache keys
 pub record IsInput (policy : Policy) (sets : List TableSet) (script : List ScriptEntry) : Type 0 where
   pub checked : IsChecked policy
   pub sets_are : All (IsSet policy) sets
   pub contexts : All (BeginFits policy.params) script
+  pub reads : All (ReadFits policy.keys) script
 
 -- ---- what a pass shows
 
@@ -158,9 +160,34 @@ abbrev pub ShowsText : Policy → Option Begun → Result Query ReadQueryFault �
 ShowsText policy (Some (Asking asker)) (Ok q) line = ShowsQuery policy asker q line
 ShowsText policy held reading line = IsNoVerdict line
 
+-- Of a read that is blocked at a query: this is there, and isn't covered, and a pair is a
+-- counterexample to its strong compliance.
+pub record ShowsKeyBlock (policy : Policy) (asker : Asker) (found : Option Query)
+    (why : PrintedBlock) : Type 0 where
+  pub query : Query
+  pub is : found ≡ Some query
+  pub uncovered : Covered policy asker.context query → ⊥
+  pub refuted : IsRefuted policy asker query why
+
+-- What is printed of a read, behind which are these queries: where it is let through, each is
+-- strongly compliant after the request's earlier printed answers; a block is of one of them.
+unfoldable pub ShowsQueries : Policy → Asker → List Query → PrintedLine → Type 0
+ShowsQueries policy asker qs (printed.Read its key line read version) =
+    All (Strong policy asker.context asker.trace) qs
+ShowsQueries policy asker qs (printed.ReadBlock why key line query read version) =
+    ShowsKeyBlock policy asker (slice_get qs query) why
+ShowsQueries policy asker qs line = Unit {0}
+
+-- the same where its request is begun
+abbrev pub ShowsReader : Policy → Option Begun → List Query → PrintedLine → Type 0
+ShowsReader policy (Some (Asking asker)) qs line = ShowsQueries policy asker qs line
+ShowsReader policy held qs line = IsNoVerdict line
+
 unfoldable pub ShowsEntry : Policy → Option Begun → ScriptEntry → PrintedLine → Type 0
 ShowsEntry policy held (said.Begin request name context) line = Unit {0}
 ShowsEntry policy held (said.Ask request name text) line = ShowsText policy held (reading_of policy text) line
+ShowsEntry policy held (said.Read request name key arguments questions) line =
+    ShowsReader policy held (queries_read policy key arguments) line
 ShowsEntry policy held (said.End request name) line = Unit {0}
 ShowsEntry policy held (said.Publish number set) line = Unit {0}
 
@@ -176,7 +203,8 @@ AllShow basis before (p ∷ ps) [] = ⊥
 AllShow basis before (p ∷ ps) (r ∷ rs) = ShowsPlace basis before p r × AllShow basis (before ++ line_at p r ∷ []) ps rs
 
 -- Each answer is its query's in its version, and complies strongly with what its request was told
--- before; each pair refutes; and no blocked question is covered.
+-- before, as does each query behind a read that is let through; each pair refutes; and no blocked
+-- query is covered.
 abbrev pub IsSound : Output → Type 0
 IsSound it = AllShow (basis_of it) [] (places it.script) (readings it.policy it.bytes)
 

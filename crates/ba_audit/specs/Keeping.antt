@@ -7,6 +7,8 @@ use Rattle.ba_comply.specs.declared.trace.TraceEntry.{TraceEntry}
 use Rattle.ba_kernel.specs.Asked.{RecordFits}
 use Rattle.ba_model.specs.Conform.{Conforms}
 use Rattle.ba_model.specs.Fit.{ContextFits, kinds_of}
+use Rattle.ba_model.specs.declared.policy.CacheKey.{CacheKey}
+use Rattle.ba_model.specs.declared.policy.Context.{Context}
 use Rattle.ba_model.specs.declared.policy.Policy.{Policy}
 use Rattle.ba_model.specs.declared.failure.Failure.{Failure}
 use Rattle.ba_model.specs.declared.failure.Failure.TheVariants.{NoMemory, Fault}
@@ -18,7 +20,7 @@ use Rattle.ba_printed.specs.declared.line.PrintedLine.TheVariants as printed
 use Rattle.ba_printed.specs.Reading.{printed_of}
 use Rattle.ba_wire.specs.declared.summary.Summary.{Summary}
 use Rattle.ba_audit.specs.Audits.{AllPass, AllShow, FailsAt, IsAudited, IsFirstFault, IsInput, IsSound, ShowsEntry, Output, basis_of, feeds, output_of, places, readings, unaudited_of}
-use Rattle.ba_audit.specs.Lines.{Basis, Line, Reading, entry, is_unaudited, line_at, numbered_at, request_after, request_by, said_by, summary_of, told_by, unaudited_in, used_in}
+use Rattle.ba_audit.specs.Lines.{Basis, Line, Reading, entry, is_unaudited, key_at, line_at, numbered_at, request_after, request_by, said_by, summary_of, told_by, unaudited_in, used_in}
 use Rattle.ba_audit.specs.Tests.{IsFirstUnmet, MeetsAll, MeetsForm, MeetsSaid, MeetsTotal, request_in}
 use Rattle.ba_audit.specs.declared.against.Against.{Against}
 use Rattle.ba_audit.specs.declared.heard.Heard.{Heard}
@@ -100,6 +102,7 @@ pub record Counts (e : ScriptEntry) (reading : Reading) (old new : Told) : Type 
 unfoldable pub told_at : Policy → ScriptEntry → Reading → List TraceEntry
 told_at policy (said.Begin request name context) reading = []
 told_at policy (said.Ask request name text) reading = told_by policy text reading
+told_at policy (said.Read request name key arguments questions) reading = []
 told_at policy (said.End request name) reading = []
 told_at policy (said.Publish number set) reading = []
 
@@ -107,6 +110,12 @@ told_at policy (said.Publish number set) reading = []
 abbrev pub TellsHeard : (Reason → Type 0) → List TraceEntry → Type 0 → Heard → Type 0
 TellsHeard Meets told Shows (Unmet reason) = IsFirstUnmet Meets reason
 TellsHeard Meets told Shows (Met added) = MeetsAll Meets × (option_to_list added ≡ told) × Shows
+
+-- the key of this number is there, and these are values of its arguments
+pub record IsReadOf (policy : Policy) (number : ℕ) (arguments : Context) : Type 0 where
+  pub key : CacheKey
+  pub is : key_at policy number ≡ Some key
+  pub fits : ContextFits (kinds_of key.arguments) arguments
 
 -- what is added may be recorded
 abbrev pub AddsFitting : Policy → Heard → Type 0

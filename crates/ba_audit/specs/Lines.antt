@@ -3,6 +3,8 @@
 use Rattle.std.specs.Prelude.{ℕ, ◌+◌, ◌==◌, List, [], ◌∷◌, ◌++◌, Bool, true, false, Option, Some, None, option_map, Result, Ok, Err, if◌then◌else◌, is_some, length, slice_get, count_by, sum_by}
 use Rattle.std.specs.List.{flat_map}
 use Rattle.ba_comply.specs.declared.trace.TraceEntry.{TraceEntry}
+use Rattle.ba_keys.specs.Literals.{key_queries}
+use Rattle.ba_model.specs.declared.policy.CacheKey.{CacheKey}
 use Rattle.ba_model.specs.declared.policy.Context.{Context}
 use Rattle.ba_model.specs.declared.policy.Policy.{Policy}
 use Rattle.ba_model.specs.declared.query.Query.{Query}
@@ -56,6 +58,18 @@ asker_in (printed.Block why line request version) = Some request
 asker_in (printed.Unread line request unread version) = Some request
 asker_in line = None
 
+-- the name of the request that read a cache key
+unfoldable pub reader_in : PrintedLine → Option (List ℕ)
+reader_in (printed.Read it key line read version) = Some read
+reader_in (printed.ReadBlock why key line query read version) = Some read
+reader_in line = None
+
+-- the name of the key that it read
+unfoldable pub key_in : PrintedLine → Option (List ℕ)
+key_in (printed.Read it key line read version) = Some key
+key_in (printed.ReadBlock why key line query read version) = Some key
+key_in line = None
+
 -- the name of the request that it ends
 unfoldable pub end_in : PrintedLine → Option (List ℕ)
 end_in (printed.End end line) = Some end
@@ -76,11 +90,13 @@ unfoldable pub published_as : PrintedLine → Option ℕ
 published_as (printed.Publish line publish version) = Some version
 published_as line = None
 
--- the version that a question was asked over
+-- the version that a question was asked over, or a key read
 unfoldable pub asked_over : PrintedLine → Option ℕ
 asked_over (printed.Answer evidence line request rows version) = Some version
 asked_over (printed.Block why line request version) = Some version
 asked_over (printed.Unread line request unread version) = Some version
+asked_over (printed.Read it key line read version) = Some version
+asked_over (printed.ReadBlock why key line query read version) = Some version
 asked_over line = None
 
 -- the fault that a question's text is said to have
@@ -93,7 +109,7 @@ unfoldable pub rows_in : PrintedLine → Option (List (List Value))
 rows_in (printed.Answer evidence line request rows version) = Some rows
 rows_in line = None
 
--- the number of the script's line, which all but the summary have
+-- the number of the script's line, which all but an uneven read and the summary have
 unfoldable pub number_in : PrintedLine → Option ℕ
 number_in (printed.Begin begin line version) = Some line
 number_in (printed.End end line) = Some line
@@ -101,6 +117,9 @@ number_in (printed.Publish line publish version) = Some line
 number_in (printed.Answer evidence line request rows version) = Some line
 number_in (printed.Block why line request version) = Some line
 number_in (printed.Unread line request unread version) = Some line
+number_in (printed.Read it key line read version) = Some line
+number_in (printed.ReadBlock why key line query read version) = Some line
+number_in printed.UnevenRead = None
 number_in (printed.Memory line) = Some line
 number_in (printed.Summary summary) = None
 
@@ -109,12 +128,16 @@ unfoldable pub is_memory : PrintedLine → Bool
 is_memory (printed.Memory line) = true
 is_memory line = false
 
+-- it answers a question, or lets a read through
 unfoldable pub is_answer : PrintedLine → Bool
 is_answer (printed.Answer evidence line request rows version) = true
+is_answer (printed.Read it key line read version) = true
 is_answer line = false
 
+-- it blocks a question, or a read
 unfoldable pub is_block : PrintedLine → Bool
 is_block (printed.Block why line request version) = true
+is_block (printed.ReadBlock why key line query read version) = true
 is_block line = false
 
 -- the evidence of a block can't be tested: it is a number of steps, or a clause
@@ -124,9 +147,10 @@ is_untested (blocked.Spent steps) = true
 is_untested (blocked.Stuck clause) = true
 
 -- Nothing of it is tested but its number and version: a memory line, and a block as spent or stuck,
--- whose question isn't covered.
+-- whose query isn't covered.
 unfoldable pub is_unaudited : PrintedLine → Bool
 is_unaudited (printed.Block why line request version) = is_untested why
+is_unaudited (printed.ReadBlock why key line query read version) = is_untested why
 is_unaudited (printed.Memory line) = true
 is_unaudited line = false
 
@@ -145,6 +169,7 @@ numbered_by number (Err reason) = []
 unfoldable pub numbered_at : ScriptEntry → Reading → List Numbered
 numbered_at (said.Begin request name context) reading = []
 numbered_at (said.Ask request name text) reading = []
+numbered_at (said.Read request name key arguments questions) reading = []
 numbered_at (said.End request name) reading = []
 numbered_at (said.Publish number set) reading = numbered_by number reading
 
@@ -210,6 +235,18 @@ abbrev pub told_by : Policy → List ℕ → Reading → List TraceEntry
 told_by policy text (Ok line) = recorded (reading_of policy text) (rows_in line)
 told_by policy text (Err reason) = []
 
+-- the cache key of the number, from 0
+abbrev pub key_at : Policy → ℕ → Option CacheKey
+key_at policy number = slice_get policy.keys number
+
+abbrev pub queries_behind : Policy → Context → Option CacheKey → List Query
+queries_behind policy arguments None = []
+queries_behind policy arguments (Some key) = key_queries policy key arguments
+
+-- the queries behind the key of the number, with these values of its arguments in them
+abbrev pub queries_read : Policy → ℕ → Context → List Query
+queries_read policy number arguments = queries_behind policy arguments (key_at policy number)
+
 abbrev pub with_told : List TraceEntry → Begun → Begun
 with_told more Silent = Silent
 with_told more (Asking asker) = Asking (record asker { trace = asker.trace ++ more })
@@ -220,6 +257,7 @@ request_by basis k held (said.Begin request name context) reading =
     if request == k then begun_by basis context reading else held
 request_by basis k held (said.Ask request name text) reading =
     if request == k then option_map (with_told (told_by basis.policy text reading)) held else held
+request_by basis k held (said.Read request name key arguments questions) reading = held
 request_by basis k held (said.End request name) reading = held
 request_by basis k held (said.Publish number set) reading = held
 
@@ -249,6 +287,7 @@ said_in lines = flat_map (λ line. said_by line.reading) lines
 unfoldable pub is_begin : ScriptEntry → Bool
 is_begin (said.Begin request name context) = true
 is_begin (said.Ask request name text) = false
+is_begin (said.Read request name key arguments questions) = false
 is_begin (said.End request name) = false
 is_begin (said.Publish number set) = false
 

@@ -1,6 +1,6 @@
 -- The tests of one printed line, each by its name, and the first that it fails.
-use Rattle.std.specs.Prelude.{◌≡◌, ◌≢◌, ◌⊎◌, ℕ, ◌+◌, ◌<◌, ◌≤◌, ◌==◌, ◌&&◌, ◌||◌, List, [], ◌∷◌, Bool, true, false, not, IsTrue, Option, Some, None, Result, Ok, Err, is_some, length, nat_lt}
-use Rattle.std.specs.List.{list_any}
+use Rattle.std.specs.Prelude.{◌≡◌, ◌≢◌, ◌⊎◌, ℕ, ◌+◌, ◌<◌, ◌≤◌, ◌==◌, ◌&&◌, ◌||◌, List, [], ◌∷◌, Bool, true, false, not, IsTrue, Option, Some, None, Result, Ok, Err, is_some, length, nat_lt, slice_get}
+use Rattle.std.specs.List.{AllZip, list_any}
 use Rattle.std.specs.Str.{bytes_eq}
 use Rattle.ba_comply.specs.declared.trace.TraceEntry.{TraceEntry}
 use Rattle.ba_direct.specs.Cover.{Covered, IsCover}
@@ -10,6 +10,7 @@ use Rattle.ba_kernel.specs.declared.problem.Problem.{Problem}
 use Rattle.ba_kernel.specs.declared.step.Step.{Step}
 use Rattle.ba_model.specs.Limits.{most_steps}
 use Rattle.ba_model.specs.Meaning.{IsAnswer}
+use Rattle.ba_model.specs.declared.policy.CacheKey.{CacheKey}
 use Rattle.ba_model.specs.declared.policy.Policy.{Policy}
 use Rattle.ba_model.specs.declared.query.Query.{Query}
 use Rattle.ba_model.specs.declared.value.Value.{Value}
@@ -25,7 +26,7 @@ use Rattle.ba_printed.specs.declared.line.PrintedBlock.TheVariants as blocked
 use Rattle.ba_printed.specs.declared.line.PrintedLine.{PrintedLine}
 use Rattle.ba_printed.specs.declared.line.PrintedLine.TheVariants as printed
 use Rattle.ba_wire.specs.declared.summary.Summary.{Summary}
-use Rattle.ba_audit.specs.Lines.{Basis, Line, Place, Reading, asked_over, asker_in, begin_in, begun_over, end_in, entry, is_memory, number_in, published_as, reading_of, request_after, set_in, summary_of, tables_of, total, unread_in, used_in}
+use Rattle.ba_audit.specs.Lines.{Basis, Line, Place, Reading, asked_over, asker_in, begin_in, begun_over, end_in, entry, is_memory, key_at, key_in, number_in, published_as, queries_read, reader_in, reading_of, request_after, set_in, summary_of, tables_of, total, unread_in, used_in}
 use Rattle.ba_audit.specs.declared.numbered.Numbered.{Numbered}
 use Rattle.ba_wire.specs.declared.audit.AuditReason.{AuditReason as Reason}
 use Rattle.ba_wire.specs.declared.audit.AuditReason.TheVariants.{Count, Json, Shape, Kind, Version, Unread, By, Covered as CoveredReason, Rows, Proof, Pair, Summary as SummaryReason}
@@ -40,12 +41,26 @@ abbrev pub is_name : Option (List ℕ) → List ℕ → Bool
 is_name None name = false
 is_name (Some other) name = bytes_eq other name
 
+-- A read that is let through has as many members in `by` and in `proof` as the key has queries, and
+-- a block is of one of them.
+unfoldable pub is_within : ℕ → PrintedLine → Bool
+is_within queries (printed.Read it key line read version) = length it == queries
+is_within queries (printed.ReadBlock why key line query read version) = nat_lt query queries
+is_within queries line = true
+
+-- it names the key, and is within its queries
+abbrev pub is_key : Option CacheKey → PrintedLine → Bool
+is_key None line = false
+is_key (Some key) line = is_name (key_in line) key.name && is_within (length key.queries) line
+
 -- the printed line is of the entry's form, under its name
-unfoldable pub has_form : ScriptEntry → PrintedLine → Bool
-has_form (said.Begin request name context) line = is_name (begin_in line) name
-has_form (said.Ask request name text) line = is_name (asker_in line) name
-has_form (said.End request name) line = is_name (end_in line) name
-has_form (said.Publish number set) line = is_name (set_in line) set
+unfoldable pub has_form : Policy → ScriptEntry → PrintedLine → Bool
+has_form policy (said.Begin request name context) line = is_name (begin_in line) name
+has_form policy (said.Ask request name text) line = is_name (asker_in line) name
+has_form policy (said.Read request name key arguments questions) line =
+    is_name (reader_in line) name && is_key (key_at policy key) line
+has_form policy (said.End request name) line = is_name (end_in line) name
+has_form policy (said.Publish number set) line = is_name (set_in line) set
 
 abbrev pub is_number : Option ℕ → ℕ → Bool
 is_number None n = false
@@ -60,12 +75,14 @@ may_go_on (Some (Asking asker)) line = true
 unfoldable pub may_follow : ScriptEntry → Option Begun → PrintedLine → Bool
 may_follow (said.Begin request name context) held line = true
 may_follow (said.Ask request name text) held line = may_go_on held line
+may_follow (said.Read request name key arguments questions) held line = may_go_on held line
 may_follow (said.End request name) held line = may_go_on held line
 may_follow (said.Publish number set) held line = true
 
-abbrev pub is_kind : ScriptEntry → ℕ → Option Begun → PrintedLine → Bool
-is_kind e number held line =
-    (is_memory line || has_form e line) && (is_number (number_in line) number && may_follow e held line)
+abbrev pub is_kind : Policy → ScriptEntry → ℕ → Option Begun → PrintedLine → Bool
+is_kind policy e number held line =
+    (is_memory line || has_form policy e line)
+    && (is_number (number_in line) number && may_follow e held line)
 
 -- ---- version
 
@@ -80,7 +97,7 @@ abbrev pub may_begin : Basis → Option ℕ → Bool
 may_begin basis None = true
 may_begin basis (Some version) = is_some (tables_of basis version)
 
--- a question is asked over the version that its request began over
+-- a question is asked, and a key read, over the version that its request began over
 abbrev pub may_ask : Option Begun → Option ℕ → Bool
 may_ask (Some (Asking asker)) (Some version) = asker.version == version
 may_ask held version = true
@@ -88,6 +105,8 @@ may_ask held version = true
 unfoldable pub is_version : Basis → List Numbered → Option Begun → ScriptEntry → PrintedLine → Bool
 is_version basis used held (said.Begin request name context) line = may_begin basis (begun_over line)
 is_version basis used held (said.Ask request name text) line = may_ask held (asked_over line)
+is_version basis used held (said.Read request name key arguments questions) line =
+    may_ask held (asked_over line)
 is_version basis used held (said.End request name) line = true
 is_version basis used held (said.Publish number set) line = may_publish basis.numbered used (published_as line)
 
@@ -134,9 +153,7 @@ MeetsBlock policy asker q it CoveredReason = Covered policy asker.context q → 
 MeetsBlock policy asker q it Pair = IsRefuted policy asker q it
 MeetsBlock policy asker q it reason = Unit {0}
 
--- What each test asks of what is printed of a request's query. The reads of cache keys have their
--- place here: of each of the key's queries what an answer owes, but for the rows, or of one what a
--- block owes.
+-- what each test asks of what is printed of a request's query
 unfoldable pub MeetsQuery : Policy → Asker → Query → PrintedLine → Reason → Type 0
 MeetsQuery policy asker q (printed.Answer it line request rows version) reason = MeetsAnswer policy asker q it rows reason
 MeetsQuery policy asker q (printed.Block it line request version) reason = MeetsBlock policy asker q it reason
@@ -166,12 +183,40 @@ MeetsAsked policy held reading line Proof = MeetsText policy held reading line P
 MeetsAsked policy held reading line Pair = MeetsText policy held reading line Pair
 MeetsAsked policy held reading line reason = Unit {0}
 
+-- ---- reads of cache keys
+
+-- What each test asks of a read that is let through: of each of the key's queries what it asks of
+-- an answer, but for the rows.
+abbrev pub MeetsKeyRead : Policy → Asker → List Query → List Evidence → Reason → Type 0
+MeetsKeyRead policy asker qs its By = AllZip (IsRightlyBy policy asker) qs its
+MeetsKeyRead policy asker qs its Proof = AllZip (IsProved policy asker) qs its
+MeetsKeyRead policy asker qs its reason = Unit {0}
+
+-- and of one that is blocked: of the query that it names, if this is there, what it asks of a block
+abbrev pub MeetsKeyBlock : Policy → Asker → Option Query → PrintedBlock → Reason → Type 0
+MeetsKeyBlock policy asker None it reason = Unit {0}
+MeetsKeyBlock policy asker (Some q) it reason = MeetsBlock policy asker q it reason
+
+-- what each test asks of what is printed of a read, behind which are these queries
+unfoldable pub MeetsQueries : Policy → Asker → List Query → PrintedLine → Reason → Type 0
+MeetsQueries policy asker qs (printed.Read its key line read version) reason =
+    MeetsKeyRead policy asker qs its reason
+MeetsQueries policy asker qs (printed.ReadBlock it key line query read version) reason =
+    MeetsKeyBlock policy asker (slice_get qs query) it reason
+MeetsQueries policy asker qs line reason = Unit {0}
+
+-- the same where its request is begun
+abbrev pub MeetsReader : Policy → Option Begun → List Query → PrintedLine → Reason → Type 0
+MeetsReader policy (Some (Asking asker)) qs line reason = MeetsQueries policy asker qs line reason
+MeetsReader policy held qs line reason = Unit {0}
+
 -- ---- all tests of a line
 
 -- the number of the request that a line of the script is of, if it is begun
 unfoldable pub request_in : ScriptEntry → Option ℕ
 request_in (said.Begin request name context) = None
 request_in (said.Ask request name text) = Some request
+request_in (said.Read request name key arguments questions) = Some request
 request_in (said.End request name) = Some request
 request_in (said.Publish number set) = None
 
@@ -185,15 +230,17 @@ held_by basis before e = known_after basis before (request_in e)
 
 -- kind and version
 abbrev pub MeetsOpening : Basis → ℕ → List Numbered → Option Begun → ScriptEntry → PrintedLine → Reason → Type 0
-MeetsOpening basis number used held e line Kind = IsTrue (is_kind e number held line)
+MeetsOpening basis number used held e line Kind = IsTrue (is_kind basis.policy e number held line)
 MeetsOpening basis number used held e line Version = IsTrue (is_version basis used held e line)
 MeetsOpening basis number used held e line reason = Unit {0}
 
--- and what is behind them, of a question
+-- and what is behind them, of a question and of a read
 unfoldable pub MeetsBehind : Policy → Option Begun → ScriptEntry → PrintedLine → Reason → Type 0
 MeetsBehind policy held (said.Begin request name context) line reason = Unit {0}
 MeetsBehind policy held (said.Ask request name text) line reason =
     MeetsAsked policy held (reading_of policy text) line reason
+MeetsBehind policy held (said.Read request name key arguments questions) line reason =
+    MeetsReader policy held (queries_read policy key arguments) line reason
 MeetsBehind policy held (said.End request name) line reason = Unit {0}
 MeetsBehind policy held (said.Publish number set) line reason = Unit {0}
 

@@ -38,7 +38,7 @@ fn is_covered(
 }
 
 /// Whether the answer is by cover exactly where the query is covered.
-fn is_rightly_by(
+pub(crate) fn is_rightly_by(
     alloc: Global,
     policy: &Shared<Policy>,
     asker: &Asker,
@@ -96,7 +96,7 @@ fn is_proof(
 }
 
 /// Whether the evidence holds of the query.
-fn is_proved(
+pub(crate) fn is_proved(
     alloc: Global,
     policy: &Shared<Policy>,
     asker: &Asker,

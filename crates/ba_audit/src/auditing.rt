@@ -1,5 +1,6 @@
 //! The audit of an output.
-ghost use Rattle.std.specs.Prelude.{◌≡◌, ◌+◌, ◌<◌, ◌^◌, ℕ, IfErr, IfOk, IsTrue, Ok, OnOk, Some, length};
+ghost use Rattle.std.specs.Prelude.{◌≡◌, ◌+◌, ◌<◌, ◌^◌, ℕ, All, IfErr, IfOk, IsTrue, Ok, OnOk, Some, length};
+ghost use Rattle.ba_script.specs.Scripts.{ReadFits};
 ghost use Rattle.ba_model.specs.Readings.{OfFault};
 ghost use Rattle.ba_audit.specs.Audits.{IsChecked, IsInput, IsSound, Output, TellsAudited, TellsFault, feeds, output_of};
 ghost use Rattle.ba_audit.specs.Keeping.{BegunFits, IsEnded, IsLast, IsOf, IsSummary, MeetsKept, MeetsLast, MeetsTaken, Reached, Takes, TakesRead, after_last, basis_at, known_in, located_at, output_at};
@@ -52,6 +53,7 @@ fn take_read(
 ) -> Result<(), Failure<Reason>>
     requires checked { IsChecked against.now.policy.now }
     requires fits { (k : ℕ) → BegunFits against.now.policy.now (known_in told.old (Some k)) }
+    requires reads { ReadFits against.now.policy.now.keys entry.now }
     ensures ok { OnOk result
         (TakesRead (basis_at against.now) number entry.now line.now told.old told.new) }
     ensures fault { IfErr result (λ e. OfFault e (IsFirstUnmet
@@ -80,6 +82,7 @@ fn take_line(
 ) -> Result<(), Failure<Reason>>
     requires checked { IsChecked against.now.policy.now }
     requires fits { (k : ℕ) → BegunFits against.now.policy.now (known_in told.old (Some k)) }
+    requires reads { ReadFits against.now.policy.now.keys entry.now }
     ensures ok { OnOk result (Takes (basis_at against.now) ended number entry.now
         (printed_of against.now.policy.now bytes.now) told.old told.new) }
     ensures fault { IfErr result (λ e. OfFault e (IsFirstUnmet
@@ -118,6 +121,7 @@ fn take_next(
     requires within { i < length script.now.entries }
     requires checked { IsChecked against.now.policy.now }
     requires fits { (k : ℕ) → BegunFits against.now.policy.now (known_in told.old (Some k)) }
+    requires reads { All (ReadFits against.now.policy.now.keys) script.now.entries }
     ensures ok { (it : Output) → IsOf it against.now ended script.now.entries
         → Reached it i lines.old told.old
         → OnOk result (Reached it (i + 1) lines.new told.new) }
@@ -176,6 +180,9 @@ fn test_summary(told: &Told, line: &PrintedLine) -> Result<(), Failure<Reason>>
         | PrintedLine::Publish { .. }
         | PrintedLine::Answer { .. }
         | PrintedLine::Block { .. }
+        | PrintedLine::Read { .. }
+        | PrintedLine::ReadBlock { .. }
+        | PrintedLine::UnevenRead
         | PrintedLine::Unread { .. }
         | PrintedLine::Memory { .. } => Err(Failure::Fault(Reason::Kind)),
     }
@@ -275,13 +282,16 @@ fn audit_against(
 /// request begins over, by cover exactly where the query is covered, with the views and pairings that
 /// cover it, or else with steps that the kernel accepts and that close the problem of the question
 /// after the request's earlier printed answers. No covered question is blocked, and a pair is a
-/// counterexample. Of spent and stuck blocks and of memory lines nothing more is tested: they are
-/// counted as unaudited. Then each answer's query is strongly compliant after what its request was told
-/// before, by the evidence alone.
+/// counterexample. A read of a cache key that is let through has for each of the key's queries,
+/// with its arguments in them, what an answer has but for the rows, and one that is blocked has for
+/// the query that it names what a block has. Of spent and stuck blocks and of memory lines nothing
+/// more is tested: they are counted as unaudited. Then each answer's query, and each query behind a
+/// read that is let through, is strongly compliant after what its request was told before, by the
+/// evidence alone.
 ///
 /// The only other error is want of memory, which leaves nothing behind. Each line is read once, those
-/// of publish lines twice; each question's text is read, its cover looked for and its answer made
-/// once, each proof's steps are taken once.
+/// of publish lines twice; each question's text is read, each query's cover looked for, each
+/// question's answer made and each proof's steps taken once.
 pub fn audit(
     alloc: Global,
     policy: &Shared<Policy>,

@@ -32,6 +32,7 @@ fn is_begin(entry: &ScriptEntry) -> bool
     match entry {
         ScriptEntry::Begin { .. } => true,
         ScriptEntry::Ask { .. } => false,
+        ScriptEntry::Read { .. } => false,
         ScriptEntry::End { .. } => false,
         ScriptEntry::Publish { .. } => false,
     }

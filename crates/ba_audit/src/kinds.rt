@@ -3,15 +3,16 @@ ghost use Rattle.std.specs.Prelude.{◌≡◌, ◌==◌};
 ghost use Rattle.std.specs.List.{list_any};
 ghost use Rattle.std.specs.Option.{option_copied};
 ghost use Rattle.ba_audit.specs.Keeping.{basis_at};
-ghost use Rattle.ba_audit.specs.Tests.{has_form, is_kind, is_name, is_number, is_version, may_ask, may_begin, may_follow, may_go_on, may_publish};
+ghost use Rattle.ba_audit.specs.Tests.{has_form, is_key, is_kind, is_name, is_number, is_version, is_within, may_ask, may_begin, may_follow, may_go_on, may_publish};
 
 use crate::against::{Against, tables_of};
 use crate::numbered::Numbered;
 use crate::printed::{
-    asked_over, asker_in, begin_in, begun_over, end_in, is_memory, number_in, published_as, set_in,
+    asked_over, asker_in, begin_in, begun_over, end_in, is_memory, key_in, number_in, published_as,
+    reader_in, set_in,
 };
 use crate::request::Begun;
-use ba_model::Str;
+use ba_model::{CacheKey, Policy, Shared, Str};
 use ba_printed::PrintedLine;
 use ba_script::ScriptEntry;
 
@@ -24,14 +25,48 @@ fn is_name(found: Option<&Str>, name: &Str) -> bool
     }
 }
 
+/// Whether the line is within the queries of a key that has so many: a read that is let through has
+/// as many members, and a block is of one of them.
+#[tactic(auto, unfolding(crate::specs::Tests::is_within))]
+fn is_within(queries: usize, line: &PrintedLine) -> bool
+    ensures { result ≡ is_within queries line.now }
+{
+    match line {
+        PrintedLine::Read { evidence, .. } => evidence.len() == queries,
+        PrintedLine::ReadBlock { query, .. } => *query < queries as u64,
+        PrintedLine::Begin { .. }
+        | PrintedLine::End { .. }
+        | PrintedLine::Publish { .. }
+        | PrintedLine::Answer { .. }
+        | PrintedLine::Block { .. }
+        | PrintedLine::UnevenRead
+        | PrintedLine::Unread { .. }
+        | PrintedLine::Memory { .. }
+        | PrintedLine::Summary(_) => true,
+    }
+}
+
+/// Whether the line names the key, if it is there, and is within its queries.
+fn is_key(found: Option<&CacheKey>, line: &PrintedLine) -> bool
+    ensures { result ≡ is_key (option_copied found.entry) line.now }
+{
+    match found {
+        Some(key) => is_name(key_in(line), &key.name) && is_within(key.queries.len(), line),
+        None => false,
+    }
+}
+
 /// Whether the line is of the entry's form, under its name.
 #[tactic(auto, unfolding(crate::specs::Tests::has_form))]
-fn has_form(entry: &ScriptEntry, line: &PrintedLine) -> bool
-    ensures { result ≡ has_form entry.now line.now }
+fn has_form(policy: &Shared<Policy>, entry: &ScriptEntry, line: &PrintedLine) -> bool
+    ensures { result ≡ has_form policy.now entry.now line.now }
 {
     match entry {
         ScriptEntry::Begin { name, .. } => is_name(begin_in(line), name),
         ScriptEntry::Ask { name, .. } => is_name(asker_in(line), name),
+        ScriptEntry::Read { name, key, .. } => {
+            is_name(reader_in(line), name) && is_key(policy.keys.find(*key), line)
+        }
         ScriptEntry::End { name, .. } => is_name(end_in(line), name),
         ScriptEntry::Publish { set, .. } => is_name(set_in(line), set),
     }
@@ -66,6 +101,7 @@ fn may_follow(entry: &ScriptEntry, held: Option<&Begun>, line: &PrintedLine) -> 
     match entry {
         ScriptEntry::Begin { .. } => true,
         ScriptEntry::Ask { .. } => may_go_on(held, line),
+        ScriptEntry::Read { .. } => may_go_on(held, line),
         ScriptEntry::End { .. } => may_go_on(held, line),
         ScriptEntry::Publish { .. } => true,
     }
@@ -74,14 +110,15 @@ fn may_follow(entry: &ScriptEntry, held: Option<&Begun>, line: &PrintedLine) -> 
 /// Whether the line's form, name and number are those of the script's line, and its request may
 /// print it, of which so much is known.
 pub(crate) fn is_kind(
+    policy: &Shared<Policy>,
     entry: &ScriptEntry,
     number: u64,
     held: Option<&Begun>,
     line: &PrintedLine,
 ) -> bool
-    ensures { result ≡ is_kind entry.now number (option_copied held.entry) line.now }
+    ensures { result ≡ is_kind policy.now entry.now number (option_copied held.entry) line.now }
 {
-    let form = is_memory(line) || has_form(entry, line);
+    let form = is_memory(line) || has_form(policy, entry, line);
     form && (is_number(number_in(line), number) && may_follow(entry, held, line))
 }
 
@@ -142,6 +179,7 @@ pub(crate) fn is_version(
     match entry {
         ScriptEntry::Begin { .. } => may_begin(against, begun_over(line)),
         ScriptEntry::Ask { .. } => may_ask(held, asked_over(line)),
+        ScriptEntry::Read { .. } => may_ask(held, asked_over(line)),
         ScriptEntry::End { .. } => true,
         ScriptEntry::Publish { .. } => may_publish(against.numbered, used, published_as(line)),
     }

@@ -14,6 +14,7 @@ pub mod laws;
 mod numbered;
 mod numbers;
 mod printed;
+mod reads;
 mod request;
 mod stored;
 mod told;

@@ -26,6 +26,7 @@ fn numbered_at(
     match entry {
         ScriptEntry::Begin { .. } => Ok(None),
         ScriptEntry::Ask { .. } => Ok(None),
+        ScriptEntry::Read { .. } => Ok(None),
         ScriptEntry::End { .. } => Ok(None),
         ScriptEntry::Publish { number, .. } => match read_printed(alloc, policy, bytes) {
             Ok(line) => Ok(numbered_by(*number, &line)),

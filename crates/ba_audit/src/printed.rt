@@ -1,6 +1,6 @@
 //! What printed lines have.
 ghost use Rattle.std.specs.Prelude.{◌≡◌, option_copied};
-ghost use Rattle.ba_audit.specs.Lines.{asked_over, asker_in, begin_in, begun_over, end_in, is_answer, is_block, is_memory, is_unaudited, is_untested, number_in, published_as, rows_in, set_in, unread_in};
+ghost use Rattle.ba_audit.specs.Lines.{asked_over, asker_in, begin_in, begun_over, end_in, is_answer, is_block, is_memory, is_unaudited, is_untested, key_in, number_in, published_as, reader_in, rows_in, set_in, unread_in};
 
 use ba_model::{List, Row, Str};
 use ba_printed::{PrintedBlock, PrintedLine};
@@ -17,6 +17,9 @@ pub(crate) fn begin_in(line: &PrintedLine) -> Option<&Str>
         | PrintedLine::Publish { .. }
         | PrintedLine::Answer { .. }
         | PrintedLine::Block { .. }
+        | PrintedLine::Read { .. }
+        | PrintedLine::ReadBlock { .. }
+        | PrintedLine::UnevenRead
         | PrintedLine::Unread { .. }
         | PrintedLine::Memory { .. }
         | PrintedLine::Summary(_) => None,
@@ -35,6 +38,49 @@ pub(crate) fn asker_in(line: &PrintedLine) -> Option<&Str>
         PrintedLine::Begin { .. }
         | PrintedLine::End { .. }
         | PrintedLine::Publish { .. }
+        | PrintedLine::Read { .. }
+        | PrintedLine::ReadBlock { .. }
+        | PrintedLine::UnevenRead
+        | PrintedLine::Memory { .. }
+        | PrintedLine::Summary(_) => None,
+    }
+}
+
+/// The name of the request that read a cache key.
+#[tactic(auto, unfolding(crate::specs::Lines::reader_in))]
+pub(crate) fn reader_in(line: &PrintedLine) -> Option<&Str>
+    ensures { option_copied result ≡ reader_in line.now }
+{
+    match line {
+        PrintedLine::Read { read, .. } => Some(read),
+        PrintedLine::ReadBlock { read, .. } => Some(read),
+        PrintedLine::Begin { .. }
+        | PrintedLine::End { .. }
+        | PrintedLine::Publish { .. }
+        | PrintedLine::Answer { .. }
+        | PrintedLine::Block { .. }
+        | PrintedLine::UnevenRead
+        | PrintedLine::Unread { .. }
+        | PrintedLine::Memory { .. }
+        | PrintedLine::Summary(_) => None,
+    }
+}
+
+/// The name of the key that it read.
+#[tactic(auto, unfolding(crate::specs::Lines::key_in))]
+pub(crate) fn key_in(line: &PrintedLine) -> Option<&Str>
+    ensures { option_copied result ≡ key_in line.now }
+{
+    match line {
+        PrintedLine::Read { key, .. } => Some(key),
+        PrintedLine::ReadBlock { key, .. } => Some(key),
+        PrintedLine::Begin { .. }
+        | PrintedLine::End { .. }
+        | PrintedLine::Publish { .. }
+        | PrintedLine::Answer { .. }
+        | PrintedLine::Block { .. }
+        | PrintedLine::UnevenRead
+        | PrintedLine::Unread { .. }
         | PrintedLine::Memory { .. }
         | PrintedLine::Summary(_) => None,
     }
@@ -51,6 +97,9 @@ pub(crate) fn end_in(line: &PrintedLine) -> Option<&Str>
         | PrintedLine::Publish { .. }
         | PrintedLine::Answer { .. }
         | PrintedLine::Block { .. }
+        | PrintedLine::Read { .. }
+        | PrintedLine::ReadBlock { .. }
+        | PrintedLine::UnevenRead
         | PrintedLine::Unread { .. }
         | PrintedLine::Memory { .. }
         | PrintedLine::Summary(_) => None,
@@ -68,6 +117,9 @@ pub(crate) fn set_in(line: &PrintedLine) -> Option<&Str>
         | PrintedLine::End { .. }
         | PrintedLine::Answer { .. }
         | PrintedLine::Block { .. }
+        | PrintedLine::Read { .. }
+        | PrintedLine::ReadBlock { .. }
+        | PrintedLine::UnevenRead
         | PrintedLine::Unread { .. }
         | PrintedLine::Memory { .. }
         | PrintedLine::Summary(_) => None,
@@ -85,6 +137,9 @@ pub(crate) fn begun_over(line: &PrintedLine) -> Option<u64>
         | PrintedLine::Publish { .. }
         | PrintedLine::Answer { .. }
         | PrintedLine::Block { .. }
+        | PrintedLine::Read { .. }
+        | PrintedLine::ReadBlock { .. }
+        | PrintedLine::UnevenRead
         | PrintedLine::Unread { .. }
         | PrintedLine::Memory { .. }
         | PrintedLine::Summary(_) => None,
@@ -102,13 +157,16 @@ pub(crate) fn published_as(line: &PrintedLine) -> Option<u64>
         | PrintedLine::End { .. }
         | PrintedLine::Answer { .. }
         | PrintedLine::Block { .. }
+        | PrintedLine::Read { .. }
+        | PrintedLine::ReadBlock { .. }
+        | PrintedLine::UnevenRead
         | PrintedLine::Unread { .. }
         | PrintedLine::Memory { .. }
         | PrintedLine::Summary(_) => None,
     }
 }
 
-/// The version that a question was asked over.
+/// The version that a question was asked over, or a key read.
 #[tactic(auto, unfolding(crate::specs::Lines::asked_over))]
 pub(crate) fn asked_over(line: &PrintedLine) -> Option<u64>
     ensures { result ≡ asked_over line.now }
@@ -117,9 +175,12 @@ pub(crate) fn asked_over(line: &PrintedLine) -> Option<u64>
         PrintedLine::Answer { version, .. } => Some(*version),
         PrintedLine::Block { version, .. } => Some(*version),
         PrintedLine::Unread { version, .. } => Some(*version),
+        PrintedLine::Read { version, .. } => Some(*version),
+        PrintedLine::ReadBlock { version, .. } => Some(*version),
         PrintedLine::Begin { .. }
         | PrintedLine::End { .. }
         | PrintedLine::Publish { .. }
+        | PrintedLine::UnevenRead
         | PrintedLine::Memory { .. }
         | PrintedLine::Summary(_) => None,
     }
@@ -137,6 +198,9 @@ pub(crate) fn unread_in(line: &PrintedLine) -> Option<&ReadQueryFault>
         | PrintedLine::Publish { .. }
         | PrintedLine::Answer { .. }
         | PrintedLine::Block { .. }
+        | PrintedLine::Read { .. }
+        | PrintedLine::ReadBlock { .. }
+        | PrintedLine::UnevenRead
         | PrintedLine::Memory { .. }
         | PrintedLine::Summary(_) => None,
     }
@@ -153,6 +217,9 @@ pub(crate) fn rows_in(line: &PrintedLine) -> Option<&List<Row>>
         | PrintedLine::End { .. }
         | PrintedLine::Publish { .. }
         | PrintedLine::Block { .. }
+        | PrintedLine::Read { .. }
+        | PrintedLine::ReadBlock { .. }
+        | PrintedLine::UnevenRead
         | PrintedLine::Unread { .. }
         | PrintedLine::Memory { .. }
         | PrintedLine::Summary(_) => None,
@@ -171,8 +238,10 @@ pub(crate) fn number_in(line: &PrintedLine) -> Option<u64>
         PrintedLine::Answer { line, .. } => Some(*line),
         PrintedLine::Block { line, .. } => Some(*line),
         PrintedLine::Unread { line, .. } => Some(*line),
+        PrintedLine::Read { line, .. } => Some(*line),
+        PrintedLine::ReadBlock { line, .. } => Some(*line),
         PrintedLine::Memory { line } => Some(*line),
-        PrintedLine::Summary(_) => None,
+        PrintedLine::UnevenRead | PrintedLine::Summary(_) => None,
     }
 }
 
@@ -188,39 +257,46 @@ pub(crate) fn is_memory(line: &PrintedLine) -> bool
         | PrintedLine::Publish { .. }
         | PrintedLine::Answer { .. }
         | PrintedLine::Block { .. }
+        | PrintedLine::Read { .. }
+        | PrintedLine::ReadBlock { .. }
+        | PrintedLine::UnevenRead
         | PrintedLine::Unread { .. }
         | PrintedLine::Summary(_) => false,
     }
 }
 
-/// Whether it answers a question.
+/// Whether it answers a question, or lets a read through.
 #[tactic(auto, unfolding(crate::specs::Lines::is_answer))]
 pub(crate) fn is_answer(line: &PrintedLine) -> bool
     ensures { result ≡ is_answer line.now }
 {
     match line {
-        PrintedLine::Answer { .. } => true,
+        PrintedLine::Answer { .. } | PrintedLine::Read { .. } => true,
         PrintedLine::Begin { .. }
         | PrintedLine::End { .. }
         | PrintedLine::Publish { .. }
         | PrintedLine::Block { .. }
+        | PrintedLine::ReadBlock { .. }
+        | PrintedLine::UnevenRead
         | PrintedLine::Unread { .. }
         | PrintedLine::Memory { .. }
         | PrintedLine::Summary(_) => false,
     }
 }
 
-/// Whether it blocks a question.
+/// Whether it blocks a question, or a read.
 #[tactic(auto, unfolding(crate::specs::Lines::is_block))]
 pub(crate) fn is_block(line: &PrintedLine) -> bool
     ensures { result ≡ is_block line.now }
 {
     match line {
-        PrintedLine::Block { .. } => true,
+        PrintedLine::Block { .. } | PrintedLine::ReadBlock { .. } => true,
         PrintedLine::Begin { .. }
         | PrintedLine::End { .. }
         | PrintedLine::Publish { .. }
         | PrintedLine::Answer { .. }
+        | PrintedLine::Read { .. }
+        | PrintedLine::UnevenRead
         | PrintedLine::Unread { .. }
         | PrintedLine::Memory { .. }
         | PrintedLine::Summary(_) => false,
@@ -245,11 +321,14 @@ pub(crate) fn is_unaudited(line: &PrintedLine) -> bool
 {
     match line {
         PrintedLine::Block { blocked, .. } => is_untested(blocked),
+        PrintedLine::ReadBlock { blocked, .. } => is_untested(blocked),
         PrintedLine::Memory { .. } => true,
         PrintedLine::Begin { .. }
         | PrintedLine::End { .. }
         | PrintedLine::Publish { .. }
         | PrintedLine::Answer { .. }
+        | PrintedLine::Read { .. }
+        | PrintedLine::UnevenRead
         | PrintedLine::Unread { .. }
         | PrintedLine::Summary(_) => false,
     }

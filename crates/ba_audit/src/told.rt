@@ -41,6 +41,7 @@ fn request_in(entry: &ScriptEntry) -> Option<u32>
     match entry {
         ScriptEntry::Begin { .. } => None,
         ScriptEntry::Ask { request, .. } => Some(*request),
+        ScriptEntry::Read { request, .. } => Some(*request),
         ScriptEntry::End { request, .. } => Some(*request),
         ScriptEntry::Publish { .. } => None,
     }
@@ -189,6 +190,7 @@ impl Told {
                 Some(it) => tell(&mut self.requests, *request, it),
                 None => Ok(()),
             },
+            ScriptEntry::Read { .. } => Ok(()),
             ScriptEntry::End { .. } => Ok(()),
             ScriptEntry::Publish { number, .. } => match numbered_by(*number, line) {
                 Some(it) => {

@@ -1,4 +1,5 @@
 pub mod AskLemmas
+pub mod ReadLemmas
 pub mod RequestLemmas
 pub mod RunLemmas
 pub mod StateLemmas

@@ -1,5 +1,5 @@
 -- Runs of the machine over lists of events, and what each answer is.
-use Rattle.std.specs.Prelude.{◌≡◌, ℕ, List, [], ◌∷◌, ◌++◌, Some, slice_get, ⊤}
+use Rattle.std.specs.Prelude.{◌≡◌, ℕ, List, [], ◌∷◌, ◌++◌, Bool, true, false, All, Some, slice_get, ⊤}
 use Rattle.ba_comply.specs.Comply.{Complies, Records}
 use Rattle.ba_core.specs.State.{State, opened_at}
 use Rattle.ba_core.specs.Steps.{Steps}
@@ -37,9 +37,28 @@ abbrev pub TellsCompliantly : State → ℕ → Query → Asked → Type 0
 TellsCompliantly old k query (Answer rows) = IsCompliant old k query rows
 TellsCompliantly old k query Blocked = ⊤
 
--- what is told by a reply: rows by an answer alone
+-- Each of the queries is compliant after the answers that the request was told before, which are
+-- those of its version, which conforms.
+pub record ReadIsCompliant (old : State) (k : ℕ) (queries : List Query) : Type 0 where
+  pub asker : Opened
+  pub is_open : opened_at old k ≡ Some asker
+  pub tables : TableSet
+  pub pinned : slice_get old.versions asker.version ≡ Some tables
+  pub conforms : Conforms old.policy.schema tables.rows
+  pub recorded : Records asker.trace asker.context tables.rows
+  pub comply : All (Complies old.policy asker.context asker.trace) queries
+
+-- what an allowed read lets the request read
+abbrev pub AllowsCompliantly : State → ℕ → List Query → Bool → Type 0
+AllowsCompliantly old k queries true = ReadIsCompliant old k queries
+AllowsCompliantly old k queries false = ⊤
+
+-- what is told by a reply: rows by an answer, and what lies behind a read's queries by an allowed
+-- read
 abbrev pub RepliesCompliantly : State → Event → CoreReply → Type 0
 RepliesCompliantly old (events.Ask k query why) (replies.Asked asked) = TellsCompliantly old k query asked
+RepliesCompliantly old (events.Read k queries grounds) (replies.Read allowed) =
+    AllowsCompliantly old k queries allowed
 RepliesCompliantly old event reply = ⊤
 
 -- ---- runs
@@ -61,5 +80,6 @@ abbrev pub EventFits : Policy → Event → Type 0
 EventFits policy (events.Publish tables) = tables.schema ≡ policy.schema
 EventFits policy (events.Begin k context version) = ContextFits (kinds_of policy.params) context
 EventFits policy (events.Ask k query why) = ⊤
+EventFits policy (events.Read k queries grounds) = ⊤
 EventFits policy (events.Admit template) = ⊤
 EventFits policy (events.End k) = ⊤

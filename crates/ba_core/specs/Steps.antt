@@ -1,5 +1,6 @@
 -- The steps of the machine, by cases over its events.
-use Rattle.std.specs.Prelude.{◌≡◌, ◌≢◌, ℕ, ◌≤◌, ◌<◌, List, [], ◌∷◌, ◌++◌, Some, None, IsSome, length, slice_get, ⊤}
+use Rattle.std.specs.Prelude.{◌≡◌, ◌≢◌, ℕ, ◌≤◌, ◌<◌, List, [], ◌∷◌, ◌++◌, Some, None, IsSome, length, slice_get, Bool, true, false, All, Contains, ⊤}
+use Rattle.std.specs.List.{AllZip}
 use Rattle.ba_core.specs.State.{ChangesOnly, State, opened_at}
 use Rattle.ba_core.specs.declared.event.Asked.{Asked}
 use Rattle.ba_core.specs.declared.event.Asked.TheVariants.{Answer, Blocked}
@@ -95,6 +96,27 @@ pub record IsBlocked (old : State) (k : ℕ) (query : Query) (why : Ground) : Ty
   pub fits : Fits old.policy old.templates asker query why
   pub refusal : why ≡ Refuse
 
+-- each of the request's queries has a ground, and none is a refusal
+pub record AllowsRead (old : State) (k : ℕ) (queries : List Query) (grounds : List Ground) :
+    Type 0 where
+  pub asker : Opened
+  pub is_open : opened_at old k ≡ Some asker
+  pub fit : AllZip (Fits old.policy old.templates asker) queries grounds
+  pub no_refusal : All (λ why. why ≢ Refuse) grounds
+
+-- each of the request's queries has a ground, and one is a refusal, as its query isn't covered
+pub record BlocksRead (old : State) (k : ℕ) (queries : List Query) (grounds : List Ground) :
+    Type 0 where
+  pub asker : Opened
+  pub is_open : opened_at old k ≡ Some asker
+  pub fit : AllZip (Fits old.policy old.templates asker) queries grounds
+  pub refusal : Contains grounds Refuse
+
+-- whether the request may read what lies behind the queries
+abbrev pub Reads : State → ℕ → List Query → List Ground → Bool → Type 0
+Reads old k queries grounds true = AllowsRead old k queries grounds
+Reads old k queries grounds false = BlocksRead old k queries grounds
+
 -- the request, which was open, is closed
 pub record IsEnded (old : State) (k : ℕ) (new : State) : Type 0 where
   pub was_open : IsSome (opened_at old k)
@@ -115,6 +137,19 @@ pub record IsUnfit (old : State) (k : ℕ) (query : Query) (why : Ground) : Type
   pub named : HasTemplate old.templates why
   pub unfit : Fits old.policy old.templates asker query why → ⊥
 
+-- the request is open, and a template that a ground names isn't there
+pub record LacksTemplates (old : State) (k : ℕ) (grounds : List Ground) : Type 0 where
+  pub is_open : IsSome (opened_at old k)
+  pub lacks : All (HasTemplate old.templates) grounds → ⊥
+
+-- the grounds aren't as many as the request's queries, or one isn't a ground for its query
+pub record AreUnfit (old : State) (k : ℕ) (queries : List Query) (grounds : List Ground) :
+    Type 0 where
+  pub asker : Opened
+  pub is_open : opened_at old k ≡ Some asker
+  pub named : All (HasTemplate old.templates) grounds
+  pub unfit : AllZip (Fits old.policy old.templates asker) queries grounds → ⊥
+
 abbrev pub RefusesBegin : State → ℕ → ℕ → CoreFault → Type 0
 RefusesBegin old k version Taken = IsSome (opened_at old k)
 RefusesBegin old k version NoVersion = (opened_at old k ≡ None) × (length old.versions ≤ version)
@@ -129,6 +164,13 @@ RefusesAsk old k query why Unfit = IsUnfit old k query why
 RefusesAsk old k query why Taken = ⊥
 RefusesAsk old k query why NoVersion = ⊥
 
+abbrev pub RefusesRead : State → ℕ → List Query → List Ground → CoreFault → Type 0
+RefusesRead old k queries grounds NoRequest = opened_at old k ≡ None
+RefusesRead old k queries grounds NoTemplate = LacksTemplates old k grounds
+RefusesRead old k queries grounds Unfit = AreUnfit old k queries grounds
+RefusesRead old k queries grounds Taken = ⊥
+RefusesRead old k queries grounds NoVersion = ⊥
+
 abbrev pub RefusesEnd : State → ℕ → CoreFault → Type 0
 RefusesEnd old k NoRequest = opened_at old k ≡ None
 RefusesEnd old k Taken = ⊥
@@ -141,6 +183,7 @@ abbrev pub Refuses : State → Event → CoreFault → Type 0
 Refuses old (events.Publish tables) fault = ⊥
 Refuses old (events.Begin k context version) fault = RefusesBegin old k version fault
 Refuses old (events.Ask k query why) fault = RefusesAsk old k query why fault
+Refuses old (events.Read k queries grounds) fault = RefusesRead old k queries grounds fault
 Refuses old (events.Admit template) fault = ⊥
 Refuses old (events.End k) fault = RefusesEnd old k fault
 
@@ -151,12 +194,15 @@ abbrev pub Asks : State → ℕ → Query → Ground → Asked → State → Typ
 Asks old k query why (Answer rows) new = AnswersAsk old k query why rows new
 Asks old k query why Blocked new = IsBlocked old k query why × (new ≡ old)
 
--- the event takes the old state to the new one, with this reply; a refusal changes nothing
+-- the event takes the old state to the new one, with this reply; a refusal changes nothing, nor does
+-- a read
 abbrev pub Steps : State → Event → CoreReply → State → Type 0
 Steps old event (replies.Refused fault) new = Refuses old event fault × (new ≡ old)
 Steps old (events.Publish tables) (replies.Number n) new = IsPublished old tables n new
 Steps old (events.Begin k context version) replies.Begun new = IsBegun old k context version new
 Steps old (events.Ask k query why) (replies.Asked asked) new = Asks old k query why asked new
+Steps old (events.Read k queries grounds) (replies.Read allowed) new =
+    Reads old k queries grounds allowed × (new ≡ old)
 Steps old (events.Admit template) (replies.Number n) new = IsAdmitted old template n new
 Steps old (events.End k) replies.Ended new = IsEnded old k new
 Steps old event reply new = ⊥

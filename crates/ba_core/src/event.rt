@@ -28,6 +28,9 @@ pub enum Event {
     Begin(u32, Context, u32),
     /// The request of this number asks a query, with the ground of the decision.
     Ask(u32, Shared<Query>, Ground),
+    /// The request of this number reads what lies behind these queries, with the ground of the
+    /// decision on each.
+    Read(u32, List<Shared<Query>>, List<Ground>),
     /// A template is admitted under the next number.
     Admit(Shared<Template>),
     /// The request of this number ends. Its number may be begun again.
@@ -53,7 +56,8 @@ pub enum CoreFault {
     NoVersion,
     /// The ground names a template that wasn't admitted.
     NoTemplate,
-    /// The ground isn't one for this question after this request's trace.
+    /// The ground isn't one for this question after this request's trace; or a read has more or
+    /// fewer grounds than queries, or one that isn't one for its query.
     Unfit,
 }
 
@@ -64,6 +68,8 @@ pub enum CoreReply {
     Number(u32),
     Begun,
     Asked(Asked),
+    /// Whether the request may read: where no ground is a refusal.
+    Read(bool),
     Ended,
     Refused(CoreFault),
 }

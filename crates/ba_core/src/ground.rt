@@ -1,5 +1,6 @@
 //! Whether a ground is one for a question.
-ghost use Rattle.std.specs.Prelude.{◌≡◌, ◌↔◌, IfOk, IsTrue};
+ghost use Rattle.std.specs.Prelude.{◌≡◌, ◌↔◌, All, IfOk, IsTrue};
+ghost use Rattle.std.specs.List.{AllZip};
 ghost use Rattle.ba_comply.specs.Comply.{Strong};
 ghost use Rattle.ba_core.specs.Grounds.{Supports};
 ghost use Rattle.ba_core.specs.Steps.{Fits, HasTemplate, IsServed};
@@ -60,6 +61,47 @@ pub(crate) fn has_template(templates: &[Shared<Template>], why: &Ground) -> bool
         Ground::Template(n, _) => (*n as usize) < templates.len(),
         Ground::Cover(_) | Ground::Proof(_) | Ground::Refuse => true,
     }
+}
+
+/// Whether the templates that the grounds name are there.
+pub(crate) fn have_templates(templates: &[Shared<Template>], grounds: &[Ground]) -> bool
+    ensures { IsTrue result ↔ All (HasTemplate templates.now) grounds.now }
+{
+    for why in grounds {
+        if !has_template(templates, why) {
+            return false;
+        }
+    }
+    true
+}
+
+/// Whether there is a ground for each of the request's queries, in order. If there is, each query
+/// whose ground isn't a refusal is strongly compliant.
+pub(crate) fn all_fit(
+    alloc: Global,
+    policy: &Shared<Policy>,
+    templates: &[Shared<Template>],
+    asker: &Opened,
+    queries: &[Shared<Query>],
+    grounds: &[Ground],
+) -> Result<bool, AllocError>
+    requires policy { PolicyFits policy.now }
+    requires context { ContextFits (kinds_of policy.now.params) asker.now.context }
+    ensures exact { IfOk result (λ fit. IsTrue fit
+        ↔ AllZip (Fits policy.now templates.now asker.now) queries.now grounds.now) }
+    ensures strong { IfOk result (λ fit. IsTrue fit
+        → AllZip (Supports policy.now asker.now) queries.now grounds.now) }
+{
+    if queries.len() != grounds.len() {
+        return Ok(false);
+    }
+    for i in 0..queries.len() {
+        let fit = fits(alloc, policy, templates, asker, &queries[i], &grounds[i])?;
+        if !fit {
+            return Ok(false);
+        }
+    }
+    Ok(true)
 }
 
 /// Whether the template of the number is there and has this match with the question. If so, the query is strongly compliant.

@@ -1,10 +1,10 @@
 //! The machine.
-ghost use Rattle.std.specs.Prelude.{◌≡◌, ◌↔◌, IfErr, IfOk, IfSome, IsTrue, OnErr, OnOk, Some, slice_get};
+ghost use Rattle.std.specs.Prelude.{◌≡◌, ◌≢◌, ◌↔◌, All, Contains, IfErr, IfOk, IfSome, IsTrue, OnErr, OnOk, Some, false, slice_get};
 ghost use Rattle.std.specs.Option.{option_copied};
 ghost use Rattle.ba_core.specs.Grounds.{Decides, IsAnswerIn, IsRefusal, Keeps};
-ghost use Rattle.ba_core.specs.Runs.{EventFits, IsStep, TellsCompliantly};
+ghost use Rattle.ba_core.specs.Runs.{AllowsCompliantly, EventFits, IsStep, TellsCompliantly};
 ghost use Rattle.ba_core.specs.State.{IsOpenRequest, IsFirst, IsVersion, opened_at};
-ghost use Rattle.ba_core.specs.Steps.{RefusesAsk, Steps};
+ghost use Rattle.ba_core.specs.Steps.{Reads, RefusesAsk, RefusesRead, Steps};
 ghost use Rattle.ba_core.specs.declared.event.CoreReply.{CoreReply};
 ghost use Rattle.ba_core.specs.declared.event.Event.{Event};
 ghost use Rattle.ba_core.specs.declared.event.Ground.{Ground};
@@ -12,7 +12,7 @@ ghost use Rattle.ba_model.specs.Fit.{ContextFits, PolicyFits, kinds_of};
 ghost use Rattle.ba_model.specs.Readings.{OfFault};
 
 use crate::event::{Asked, CoreFault, CoreReply, Event, Ground};
-use crate::ground::{fits, has_template};
+use crate::ground::{all_fit, fits, has_template, have_templates};
 use crate::opened::{Answered, Opened};
 use crate::requests::{close, keep, put};
 use ba_comply::Trace;
@@ -200,6 +200,32 @@ impl Core {
         Ok(asked)
     }
 
+    /// Whether the request may read what lies behind these queries, each with its ground: where no
+    /// ground is a refusal. Nothing changes, since no rows are told: what is read is computed from
+    /// the queries' answers alone, and each of the queries is compliant after the request's trace.
+    ///
+    /// Refused are, in this order, a request that isn't open (`NoRequest`), a ground that names a
+    /// template that isn't there (`NoTemplate`), and grounds that aren't as many as the queries, or
+    /// one that isn't a ground for its query after this request's trace (`Unfit`).
+    pub fn read(
+        &mut self,
+        k: u32,
+        queries: &[Shared<Query>],
+        grounds: &[Ground],
+    ) -> Result<bool, Failure<CoreFault>>
+        ensures step { IfOk result (λ allowed. Steps self.old
+            (Event.Read k queries.now grounds.now) (CoreReply.Read allowed) self.new) }
+        ensures refused { IfErr result (λ e. OfFault e (λ fault. Steps self.old
+            (Event.Read k queries.now grounds.now) (CoreReply.Refused fault) self.new)) }
+        ensures same { self.new ≡ self.old }
+
+        // Each query behind an allowed read complies with the policy after what the request was
+        // told before.
+        ensures compliant { IfOk result (AllowsCompliantly self.old k queries.now) }
+    {
+        self.decide_read(k, queries, grounds)
+    }
+
     /// Ends the request. Its number may be begun again. A request that isn't open is refused (`NoRequest`), and nothing changes.
     pub fn end(&mut self, k: u32) -> Result<(), CoreFault>
         ensures step { OnOk result (Steps self.old (Event.End k) CoreReply.Ended self.new) }
@@ -231,6 +257,12 @@ impl Core {
                 Ok(asked) => Ok(CoreReply::Asked(asked)),
                 Err(failure) => refused(failure),
             },
+            Event::Read(k, queries, grounds) => {
+                match self.read(k, queries.as_slice(), grounds.as_slice()) {
+                    Ok(allowed) => Ok(CoreReply::Read(allowed)),
+                    Err(failure) => refused(failure),
+                }
+            }
             Event::Admit(template) => {
                 let number = self.admit(template)?;
                 Ok(CoreReply::Number(number))
@@ -276,6 +308,40 @@ impl Core {
         strong_complies();
         let rows = self.rows_of(asker, query)?;
         Ok(Asked::Answer(rows))
+    }
+
+    /// Whether the request may read what lies behind the queries.
+    fn decide_read(
+        &self,
+        k: u32,
+        queries: &[Shared<Query>],
+        grounds: &[Ground],
+    ) -> Result<bool, Failure<CoreFault>>
+        ensures reads { IfOk result (Reads self.now k queries.now grounds.now) }
+        ensures compliant { IfOk result (AllowsCompliantly self.now k queries.now) }
+        ensures refused { IfErr result (λ e. OfFault e
+            (RefusesRead self.now k queries.now grounds.now)) }
+    {
+        let Some(asker) = self.request(k) else {
+            return Err(Failure::Fault(CoreFault::NoRequest));
+        };
+        if !have_templates(self.templates(), grounds) {
+            return Err(Failure::Fault(CoreFault::NoTemplate));
+        }
+        let fit = all_fit(
+            self.alloc,
+            self.policy(),
+            self.templates(),
+            asker,
+            queries,
+            grounds,
+        )?;
+        if !fit {
+            return Err(Failure::Fault(CoreFault::Unfit));
+        }
+        strong_complies();
+        let _pinned = self.tables_of(asker);
+        Ok(allows(grounds))
     }
 
     /// The query's rows in the tables of the request's version.
@@ -324,6 +390,19 @@ fn is_refusal(why: &Ground) -> bool
         Ground::Refuse => true,
         Ground::Cover(_) | Ground::Template(_, _) | Ground::Proof(_) => false,
     }
+}
+
+/// Whether no ground is a refusal.
+fn allows(grounds: &[Ground]) -> bool
+    ensures allowed { IsTrue result → All (λ why. why ≢ Ground.Refuse) grounds.now }
+    ensures blocked { result ≡ false → Contains grounds.now Ground.Refuse }
+{
+    for why in grounds {
+        if is_refusal(why) {
+            return false;
+        }
+    }
+    true
 }
 
 /// The reply to an event that failed, unless memory ran out.

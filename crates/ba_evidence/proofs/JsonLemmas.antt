@@ -17,7 +17,8 @@ use Rattle.ba_proof.proofs.JsonLemmas.{steps_flat, steps_whole}
 use Rattle.ba_proof.specs.Written.{value_json as proof_value}
 use Rattle.ba_refute.specs.declared.clause.Counterexample.{Counterexample}
 use Rattle.ba_wire.specs.Printed.{count, row_json, rows_json, value_json}
-use Rattle.ba_evidence.specs.Evidence.{Evidence, covered, matched, proved, answer_json, database_json, evidence_json, pair_json, part_json, refuted_json, with_tables}
+use Rattle.ba_evidence.specs.Evidence.{Evidence, TellsGrounds, covered, matched, proved, answer_json, database_json, evidence_json, name_json, pair_json, part_json, read_json, refuted_json, refuted_read_json, rests_json, with_tables}
+use Rattle.ba_evidence.specs.declared.reads.Rests.{Rests}
 
 -- a value is written as in a proof file
 pub same_value : (v : Value) → proof_value v ≡ value_json v
@@ -58,6 +59,11 @@ pub answer_whole : (params : List Parameter) (it : Evidence) (line : ℕ) (reque
 unfolding answer_json
 answer_whole params it line request rows version = rw (evidence_whole params it, rows_whole rows) refl
 
+pub read_whole : (params : List Parameter) (grounds : List Evidence) (key : List ℕ) (line : ℕ) (request : List ℕ) (version : ℕ)
+    → has_float (read_json params grounds key line request version) ≡ false
+unfolding read_json
+read_whole params grounds key line request version = rw (all_whole name_json (λ it. refl) grounds, all_whole (evidence_json params) (evidence_whole params) grounds) refl
+
 neither : (a b : Bool) → (a || b) ≡ false → (a ≡ false) × (b ≡ false)
 neither true b e = cc e
 neither false b e = (refl, e)
@@ -89,6 +95,18 @@ pair_whole schema pair = rw (database_whole schema pair.one, row_whole pair.row,
 pub refuted_whole : (schema : Schema) (pair : Counterexample) (line : ℕ) (request : List ℕ) (version : ℕ) → has_float (refuted_json schema pair line request version) ≡ false
 unfolding refuted_json
 refuted_whole schema pair line request version = rw (pair_whole schema pair) refl
+
+pub refuted_read_whole : (schema : Schema) (pair : Counterexample) (key : List ℕ) (line query : ℕ) (request : List ℕ) (version : ℕ)
+    → has_float (refuted_read_json schema pair key line query request version) ≡ false
+unfolding refuted_read_json
+refuted_read_whole schema pair key line query request version = rw (pair_whole schema pair) refl
+
+-- ---- reads
+
+pub told_json : (params : List Parameter) (grounds : List Evidence) (rests : Rests) (key : List ℕ) (line : ℕ) (request : List ℕ) (version : ℕ) → TellsGrounds params grounds rests
+    → rests_json rests key line request version ≡ read_json params grounds key line request version
+unfolding rests_json read_json
+told_json params grounds rests key line request version h = rw (h.names, h.proofs) refl
 
 -- ---- how deep
 
@@ -122,6 +140,14 @@ pub answer_flat : (params : List Parameter) (it : Evidence) (line : ℕ) (reques
 unfolding answer_json
 answer_flat params it line request rows version = let proof = evidence_flat params it in let all = rows_flat rows in omega arith
 
+pub read_flat : (params : List Parameter) (grounds : List Evidence) (key : List ℕ) (line : ℕ) (request : List ℕ) (version : ℕ)
+    → depth (read_json params grounds key line request version) ≤ max_depth
+unfolding read_json
+read_flat params grounds key line request version =
+    let names = all_flat name_json 0 (λ it. omega arith) grounds in
+    let proofs = all_flat (evidence_json params) 4 (evidence_flat params) grounds in
+    omega arith
+
 put_flat : (n : ℕ) (k : List ℕ) (d : Data) (ms : Members) → depth d ≤ n → members_depth ms ≤ n → members_depth (put k d ms) ≤ n
 put_flat n k d no_members this rest = omega (arith, this)
 put_flat n k d (member l e ms) this rest = by (slice_cmp nat_cmp k l) (put_flat n k d ms this (omega (arith, rest)))
@@ -146,3 +172,8 @@ pair_flat schema pair = let one = database_flat schema pair.one in let row = row
 pub refuted_flat : (schema : Schema) (pair : Counterexample) (line : ℕ) (request : List ℕ) (version : ℕ) → depth (refuted_json schema pair line request version) ≤ max_depth
 unfolding refuted_json
 refuted_flat schema pair line request version = let flat = pair_flat schema pair in omega arith
+
+pub refuted_read_flat : (schema : Schema) (pair : Counterexample) (key : List ℕ) (line query : ℕ) (request : List ℕ) (version : ℕ)
+    → depth (refuted_read_json schema pair key line query request version) ≤ max_depth
+unfolding refuted_read_json
+refuted_read_flat schema pair key line query request version = let flat = pair_flat schema pair in omega arith

@@ -1,6 +1,7 @@
 -- What lines with evidence say: compact JSON, its keys in byte order.
-use Rattle.std.specs.Prelude.{ℕ, List, [], ◌∷◌, All, codes, map}
+use Rattle.std.specs.Prelude.{All, List, [], codes, map, ℕ, ◌∷◌, ◌≡◌}
 use Rattle.serde_json.specs.Data.{Data, Members, string, object, no_members, member, put}
+use Rattle.serde_json.specs.View.{view}
 use Rattle.ba_model.specs.declared.policy.Parameter.{Parameter}
 use Rattle.ba_model.specs.declared.schema.Schema.{Schema}
 use Rattle.ba_model.specs.declared.schema.Table.{Table}
@@ -14,6 +15,7 @@ use Rattle.ba_proof.specs.Written.{list_json, step_json}
 use Rattle.ba_refute.specs.declared.clause.Counterexample.{Counterexample}
 use Rattle.ba_wire.specs.Printed.{count, row_json, rows_json}
 use Rattle.ba_evidence.specs.declared.answer.Ground.{Ground}
+use Rattle.ba_evidence.specs.declared.reads.Rests.{Rests}
 use Rattle.ba_evidence.specs.declared.answer.Ground.TheVariants as ground
 
 -- ---- answers
@@ -70,6 +72,37 @@ pub record AnswerHasBits (it : Evidence) (rows : List (List Value)) : Type 0 whe
   pub rows_have : All (All ValueSpells) rows
   pub evidence_has : EvidenceHasBits it
 
+-- ---- reads of cache keys
+
+-- what a ground is called
+abbrev pub name_json : Evidence → Data
+name_json it = string (by_name it)
+
+-- These grounds are told, with the policy's parameters: what each is called, and what it is.
+pub record TellsGrounds (params : List Parameter) (grounds : List Evidence) (it : Rests) : Type 0 where
+  pub names : map view it.names.items ≡ map name_json grounds
+  pub proofs : map view it.proofs.items ≡ map (evidence_json params) grounds
+
+-- the object of a read that is allowed: what each of the key's queries rests on stands under `proof`
+unfoldable pub read_json : List Parameter → List Evidence → List ℕ → ℕ → List ℕ → ℕ → Data
+read_json params grounds key line request version =
+    object (member (codes "by") (list_json (map name_json grounds))
+    (member (codes "key") (string key)
+    (member (codes "line") (count line)
+    (member (codes "proof") (list_json (map (evidence_json params) grounds))
+    (member (codes "read") (string request)
+    (member (codes "version") (count version) no_members))))))
+
+-- the same of what is told
+unfoldable pub rests_json : Rests → List ℕ → ℕ → List ℕ → ℕ → Data
+rests_json rests key line request version =
+    object (member (codes "by") (list_json (map view rests.names.items))
+    (member (codes "key") (string key)
+    (member (codes "line") (count line)
+    (member (codes "proof") (list_json (map view rests.proofs.items))
+    (member (codes "read") (string request)
+    (member (codes "version") (count version) no_members))))))
+
 -- ---- refuted questions
 
 -- the members, with the rows of each table under its name
@@ -98,3 +131,14 @@ refuted_json schema pair line request version =
     (member (codes "pair") (pair_json schema pair)
     (member (codes "request") (string request)
     (member (codes "version") (count version) no_members)))))
+
+-- the object of a read of which the query of this number is refuted
+unfoldable pub refuted_read_json : Schema → Counterexample → List ℕ → ℕ → ℕ → List ℕ → ℕ → Data
+refuted_read_json schema pair key line query request version =
+    object (member (codes "blocked") (string (codes "refuted"))
+    (member (codes "key") (string key)
+    (member (codes "line") (count line)
+    (member (codes "pair") (pair_json schema pair)
+    (member (codes "query") (count query)
+    (member (codes "read") (string request)
+    (member (codes "version") (count version) no_members)))))))

@@ -26,7 +26,7 @@ pub enum Ground<'a> {
 }
 
 impl<'a> Ground<'a> {
-    fn name(&self) -> &'static str
+    pub(crate) fn name(&self) -> &'static str
         ensures { result.now ≡ by_name (evidence self.now) }
     {
         match self {
@@ -68,7 +68,11 @@ fn cover_json(alloc: Global, parts: &[PartCover]) -> Result<Json, AllocError>
     Ok(Json::Array(items))
 }
 
-fn ground_json(alloc: Global, params: &[Parameter], ground: &Ground) -> Result<Json, AllocError>
+pub(crate) fn ground_json(
+    alloc: Global,
+    params: &[Parameter],
+    ground: &Ground,
+) -> Result<Json, AllocError>
     ensures json { IfOk result (λ v. view v ≡ evidence_json params.now (evidence ground.now)) }
     ensures bits { IfOk result (λ _. EvidenceHasBits (evidence ground.now)) }
 {

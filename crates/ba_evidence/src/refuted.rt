@@ -2,7 +2,7 @@
 ghost use Rattle.std.specs.Prelude.{◌≡◌, IfOk, OnOk, string_bytes};
 ghost use Rattle.serde_json.specs.View.{members_view, view};
 ghost use Rattle.ba_wire.specs.Printed.{ReadsBack, json_line};
-ghost use Rattle.ba_evidence.specs.Evidence.{database_json, pair_json, refuted_json, with_tables};
+ghost use Rattle.ba_evidence.specs.Evidence.{database_json, pair_json, refuted_json, refuted_read_json, with_tables};
 
 use crate::line::line_of;
 use crate::rows::{row_json, rows_json};
@@ -105,5 +105,56 @@ pub fn refuted_line(
         (refuted_json schema.now pair.now line request.now version)) }
 {
     let value = refuted_json(alloc, schema, pair, line, request, version)?;
+    line_of(alloc, &value)
+}
+
+#[tactic(auto, unfolding(crate::specs::Evidence::refuted_read_json))]
+fn refuted_read_json(
+    alloc: Global,
+    schema: &Schema,
+    pair: &Counterexample,
+    key: &Str,
+    line: u64,
+    query: u64,
+    request: &Str,
+    version: u32,
+) -> Result<Json, AllocError>
+    ensures { IfOk result (λ v. view v
+        ≡ refuted_read_json schema.now pair.now key.now line query request.now version) }
+{
+    let mut members = Map::new(alloc);
+    let blocked = Json::try_from_str(alloc, "refuted")?;
+    put(&mut members, alloc, "blocked", blocked)?;
+    let key = Json::try_from_str(alloc, key.as_str())?;
+    put(&mut members, alloc, "key", key)?;
+    put(&mut members, alloc, "line", Json::from(line))?;
+    let pair = pair_json(alloc, schema, pair)?;
+    put(&mut members, alloc, "pair", pair)?;
+    put(&mut members, alloc, "query", Json::from(query))?;
+    let request = Json::try_from_str(alloc, request.as_str())?;
+    put(&mut members, alloc, "read", request)?;
+    put(&mut members, alloc, "version", Json::from(version))?;
+    Ok(Json::Object(members))
+}
+
+/// The line of a read of a cache key of which a query is refuted, with the pair that refutes it, as
+/// in `refuted_line`. `query` is that query's number among the key's, from 0. The only error is want
+/// of memory, which leaves nothing behind.
+pub fn refuted_read_line(
+    alloc: Global,
+    schema: &Schema,
+    pair: &Counterexample,
+    key: &Str,
+    line: u64,
+    query: u64,
+    request: &Str,
+    version: u32,
+) -> Result<String, AllocError>
+    ensures text { IfOk result (λ s. string_bytes s
+        ≡ json_line (refuted_read_json schema.now pair.now key.now line query request.now version)) }
+    ensures reads_back { IfOk result (λ s. ReadsBack (string_bytes s)
+        (refuted_read_json schema.now pair.now key.now line query request.now version)) }
+{
+    let value = refuted_read_json(alloc, schema, pair, key, line, query, request, version)?;
     line_of(alloc, &value)
 }

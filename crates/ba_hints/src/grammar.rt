@@ -74,6 +74,10 @@ pub enum Term {
     Param,
     /// The name of a view that is made.
     View,
+    /// The name of a cache key that is made.
+    CacheKey,
+    /// The name of an argument of a cache key.
+    Argument,
     /// The type of a schema's column.
     Type,
     /// The number behind a type.
@@ -131,7 +135,12 @@ impl Term {
             Term::NewColumn | Term::KeyColumn | Term::LinkColumn | Term::TargetColumn => {
                 "a column's name"
             }
-            Term::Alias | Term::Label | Term::Param | Term::View => "a name",
+            Term::Alias
+            | Term::Label
+            | Term::Param
+            | Term::View
+            | Term::CacheKey
+            | Term::Argument => "a name",
             Term::Type => "a type (INT, INTEGER, BIGINT, SMALLINT, TEXT, VARCHAR, CHAR)",
             Term::Size => "a number",
             Term::Any => "more words",
@@ -225,6 +234,14 @@ pub enum Stage {
     View,
     ViewAs,
     ViewWords,
+    Key,
+    KeyOpen,
+    KeyArguments,
+    Argument,
+    ArgumentKind,
+    ArgumentEnd,
+    KeyAs,
+    KeyWords,
 }
 
 /// When a step may be taken, and what it does.
@@ -432,7 +449,7 @@ pub const SCHEMA: [Step; 71] = [
 ];
 
 /// The steps over a policy.
-pub const POLICY: [Step; 12] = [
+pub const POLICY: [Step; 25] = [
     Step(Stage::Policy, Term::ParamKey, Stage::Param),
     Step(Stage::Policy, Term::Create, Stage::CreateView),
     Step(Stage::Policy, Term::End, Stage::Done),
@@ -441,6 +458,19 @@ pub const POLICY: [Step; 12] = [
     Step(Stage::ParamKind, Term::Text, Stage::ParamEnd),
     Step(Stage::ParamEnd, Term::Semicolon, Stage::Policy),
     Step(Stage::CreateView, Term::ViewKey, Stage::View),
+    Step(Stage::CreateView, Term::KeyKey, Stage::Key),
+    Step(Stage::Key, Term::CacheKey, Stage::KeyOpen),
+    Step(Stage::KeyOpen, Term::Open, Stage::KeyArguments),
+    Step(Stage::KeyArguments, Term::Close, Stage::KeyAs),
+    Step(Stage::KeyArguments, Term::Argument, Stage::ArgumentKind),
+    Step(Stage::ArgumentKind, Term::Int, Stage::ArgumentEnd),
+    Step(Stage::ArgumentKind, Term::Text, Stage::ArgumentEnd),
+    Step(Stage::ArgumentEnd, Term::Comma, Stage::Argument),
+    Step(Stage::ArgumentEnd, Term::Close, Stage::KeyAs),
+    Step(Stage::Argument, Term::Argument, Stage::ArgumentKind),
+    Step(Stage::KeyAs, Term::As, Stage::KeyWords),
+    Step(Stage::KeyWords, Term::Semicolon, Stage::Policy),
+    Step(Stage::KeyWords, Term::Any, Stage::KeyWords),
     Step(Stage::View, Term::View, Stage::ViewAs),
     Step(Stage::ViewAs, Term::As, Stage::ViewWords),
     Step(Stage::ViewWords, Term::Semicolon, Stage::Policy),

@@ -27,6 +27,40 @@ fn twice_hint(
     Ok(words.hint(bytes.len(), place, text))
 }
 
+// Where an argument has a name again: that of a parameter before its key, or of an argument of the
+// same key.
+fn argument_again(words: &Words<'_>, name: &str) -> Option<usize> {
+    let mut is_known = false;
+    for at in 0..words.taken.len() {
+        if words.is(at, Term::CacheKey) {
+            is_known = words.find(Term::Param, None, name, at).is_some();
+        }
+        if words.is(at, Term::Argument) && words.word(at) == name {
+            if is_known {
+                return Some(at);
+            }
+            is_known = true;
+        }
+    }
+    None
+}
+
+// A hint on the argument that has a name again, else on the first parameter of the name.
+fn param_hint(
+    alloc: Global,
+    bytes: &[u8],
+    words: &Words<'_>,
+    name: &str,
+) -> Result<Hint, AllocError> {
+    match argument_again(words, name) {
+        Some(at) => {
+            let text = format!(in alloc; "{name} is declared twice")?;
+            Ok(words.hint(bytes.len(), Some(at), text))
+        }
+        None => twice_hint(alloc, bytes, words, Term::Param, name),
+    }
+}
+
 /// The place of the `;` at or behind a token, or that behind the last token.
 pub fn end_of(words: &Words<'_>, from: usize) -> usize {
     for (at, token) in words.tokens.iter().enumerate().skip(from) {
@@ -37,7 +71,8 @@ pub fn end_of(words: &Words<'_>, from: usize) -> usize {
     words.tokens.len()
 }
 
-// A hint on the query of the view whose name stands at a token. The parameters that it may name are those of the policy before it.
+// A hint on the query of the view whose name stands at a token. The parameters that it may name are
+// those of the policy before it.
 fn view_hint(
     alloc: Global,
     schema: &Shared<Schema>,
@@ -79,6 +114,29 @@ fn named_view_hint(
     })
 }
 
+// A hint on the cache key of a name, one of whose queries is none.
+fn key_hint(
+    alloc: Global,
+    bytes: &[u8],
+    words: &Words<'_>,
+    name: &str,
+    fault: &ReadQueryFault,
+) -> Result<Hint, AllocError> {
+    let place = words.find(Term::CacheKey, None, name, words.taken.len());
+    let text = match fault {
+        ReadQueryFault::UnknownParam => {
+            format!(in alloc;
+                "key {name}: a query names what is neither an argument nor a parameter before the key"
+            )?
+        }
+        ReadQueryFault::Unsupported(word) => {
+            format!(in alloc; "key {name}: {word} isn't supported")?
+        }
+        _ => format!(in alloc; "key {name}: the words of one of its queries are none")?,
+    };
+    Ok(words.hint(bytes.len(), place, text))
+}
+
 // A hint on a fault of words.
 fn fault_hint(
     alloc: Global,
@@ -98,15 +156,17 @@ fn fault_hint(
             Hint::plain(alloc, "its words aren't those of a policy")
         }
         PolicyFault::Syntax => stop_hint(alloc, &POLICY, bytes, &words, &walk.state),
-        PolicyFault::DuplicateParam(name) => {
-            twice_hint(alloc, bytes, &words, Term::Param, name.as_str())
-        }
+        PolicyFault::DuplicateParam(name) => param_hint(alloc, bytes, &words, name.as_str()),
         PolicyFault::DuplicateView(name) => {
             twice_hint(alloc, bytes, &words, Term::View, name.as_str())
         }
         PolicyFault::View(name, fault) => {
             named_view_hint(alloc, schema, bytes, &words, name.as_str(), fault)
         }
+        PolicyFault::DuplicateKey(name) => {
+            twice_hint(alloc, bytes, &words, Term::CacheKey, name.as_str())
+        }
+        PolicyFault::Key(name, fault) => key_hint(alloc, bytes, &words, name.as_str(), fault),
         PolicyFault::TooMany { what, limit } => count_hint(alloc, bytes, &words, *what, *limit),
     }
 }

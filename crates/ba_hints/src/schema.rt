@@ -43,6 +43,7 @@ fn is_counted(words: &Words<'_>, what: Counted, at: usize) -> bool {
         Counted::Links => words.is(at, Term::Target),
         Counted::Rules => words.is(at, Term::RuleKey),
         Counted::Views => words.is(at, Term::View),
+        Counted::CacheKeys => words.is(at, Term::CacheKey),
         Counted::Params => words.is(at, Term::Param),
         Counted::Keys => words.is(at, Term::Primary) || words.is(at, Term::Unique),
         _ => false,
@@ -58,6 +59,8 @@ fn counted_text(what: Counted) -> &'static str {
         Counted::Keys => "keys of a table",
         Counted::Rules => "rules",
         Counted::Views => "views",
+        Counted::CacheKeys => "cache keys",
+        Counted::KeyQueries => "queries of a cache key",
         _ => "parameters",
     }
 }
@@ -218,7 +221,8 @@ fn unsupported_text(alloc: Global, word: &Str) -> Result<String, AllocError> {
     }
 }
 
-// A hint on the first of the words outside of the queries of rules that spells one that isn't supported.
+// A hint on the first of the words outside of the queries of rules that spells one that isn't
+// supported.
 fn unsupported_hint(
     alloc: Global,
     bytes: &[u8],

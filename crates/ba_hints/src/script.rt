@@ -2,7 +2,7 @@
 
 use crate::hint::{Hint, Spot, listed};
 use crate::lines::{json_text, line_at};
-use ba_model::{Counted, Failure, Kind, List, Parameter, Str};
+use ba_model::{CacheKey, Counted, Failure, Kind, List, Parameter, Str};
 use ba_place::{WORD_CHARS, shown};
 use ba_script::{
     Given, LineFault, Member, ScriptFault, ScriptLine, read_line, read_script, script_lines,
@@ -59,12 +59,16 @@ fn shape_text(alloc: Global, line: &[u8]) -> Result<String, AllocError> {
         ["ask", "query"] => {
             String::from_str(alloc, "ask takes a name of 1 to 64 bytes, and query a text")
         }
+        ["args", "key", "read"] => String::from_str(
+            alloc,
+            "read takes a name of 1 to 64 bytes, key a text, and args an object",
+        ),
         ["end"] => String::from_str(alloc, "end takes a name of 1 to 64 bytes"),
         ["publish"] => String::from_str(alloc, "publish takes a text that isn't empty"),
         _ => {
             let keys = listed(alloc, &keys)?;
             format!(in alloc;
-                "its keys are {keys}; a line has begin and context, ask and query, end alone, or publish alone"
+                "its keys are {keys}; a line has begin and context, ask and query, args, key and read, end alone, or publish alone"
             )
         }
     }
@@ -78,6 +82,7 @@ fn name_text(alloc: Global, bytes: &[u8], line: u64, found: &[u8]) -> Result<Str
     let name = match &read {
         ScriptLine::Begin { begin, .. } => begin,
         ScriptLine::Ask { ask, .. } => ask,
+        ScriptLine::Read { read, .. } => read,
         ScriptLine::End { end } => end,
         ScriptLine::Publish { publish } => publish,
     };
@@ -95,9 +100,11 @@ fn name_text(alloc: Global, bytes: &[u8], line: u64, found: &[u8]) -> Result<Str
     }
 }
 
-// Why the members are no value for a parameter.
+// Why the members are no value for a parameter of the context, or for an argument of a key: `what`
+// says of which.
 fn value_text(
     alloc: Global,
+    what: &str,
     param: &Parameter,
     members: &[Member],
 ) -> Result<Option<String>, AllocError> {
@@ -114,11 +121,11 @@ fn value_text(
                 Kind::Int => "a whole number of 64 bits, without quotes, a point or an exponent",
                 Kind::Text => "a text",
             };
-            let text = format!(in alloc; "the context's {} takes {kind}", param.name)?;
+            let text = format!(in alloc; "{what}'s {} takes {kind}", param.name)?;
             return Ok(Some(text));
         }
     }
-    let text = format!(in alloc; "the context lacks {}", param.name)?;
+    let text = format!(in alloc; "{what} lacks {}", param.name)?;
     Ok(Some(text))
 }
 
@@ -132,29 +139,64 @@ fn stranger<'a>(params: &[&str], members: &'a [Member]) -> Option<&'a Str> {
     None
 }
 
+// Why members give no values to parameters.
+fn values_text(
+    alloc: Global,
+    what: &str,
+    params: &[Parameter],
+    members: &[Member],
+) -> Result<String, AllocError> {
+    let mut names = Vec::new(alloc);
+    for param in params {
+        names.push(param.name.as_str())?;
+    }
+    if let Some(name) = stranger(&names, members) {
+        let name = shown(alloc, name.as_bytes(), WORD_CHARS)?;
+        let names = listed(alloc, &names)?;
+        return format!(in alloc; "{what}'s {name} is none of its names, which are {names}");
+    }
+    for param in params {
+        let text = value_text(alloc, what, param, members)?;
+        if let Some(text) = text {
+            return Ok(text);
+        }
+    }
+    format!(in alloc; "{what} doesn't fit the policy")
+}
+
 // Why a context gives no values to the parameters.
 fn context_text(alloc: Global, params: &[Parameter], found: &[u8]) -> Result<String, AllocError> {
     let Ok(ScriptLine::Begin { context, .. }) = read_line(alloc, found) else {
         return Err(AllocError);
     };
+    values_text(alloc, "the context", params, context.as_slice())
+}
+
+// Which keys there are, where a line reads another.
+fn key_text(alloc: Global, keys: &[CacheKey], found: &[u8]) -> Result<String, AllocError> {
+    let Ok(ScriptLine::Read { key, .. }) = read_line(alloc, found) else {
+        return Err(AllocError);
+    };
     let mut names = Vec::new(alloc);
-    for param in params {
-        names.push(param.name.as_str())?;
+    for it in keys {
+        names.push(it.name.as_str())?;
     }
-    if let Some(name) = stranger(&names, context.as_slice()) {
-        let name = shown(alloc, name.as_bytes(), WORD_CHARS)?;
-        let names = listed(alloc, &names)?;
-        return format!(in alloc;
-            "the context's {name} is no parameter; the parameters are {names}"
-        );
-    }
-    for param in params {
-        let text = value_text(alloc, param, context.as_slice())?;
-        if let Some(text) = text {
-            return Ok(text);
+    let name = shown(alloc, key.as_bytes(), WORD_CHARS)?;
+    let names = listed(alloc, &names)?;
+    format!(in alloc; "{name} is no cache key of the policy; the keys are {names}")
+}
+
+// Why a read gives no values to the arguments of its key.
+fn args_text(alloc: Global, keys: &[CacheKey], found: &[u8]) -> Result<String, AllocError> {
+    let Ok(ScriptLine::Read { key, args, .. }) = read_line(alloc, found) else {
+        return Err(AllocError);
+    };
+    for it in keys {
+        if it.name.as_str() == key.as_str() {
+            return values_text(alloc, "args", it.arguments.as_slice(), args.as_slice());
         }
     }
-    String::from_str(alloc, "the context doesn't fit the policy's parameters")
+    String::from_str(alloc, "args don't fit the cache key")
 }
 
 // What there are too many of.
@@ -170,6 +212,7 @@ fn count_text(what: Counted) -> &'static str {
 fn line_text(
     alloc: Global,
     params: &[Parameter],
+    keys: &[CacheKey],
     bytes: &[u8],
     line: u64,
     reason: LineFault,
@@ -179,21 +222,31 @@ fn line_text(
         LineFault::Json => json_text(alloc, found),
         LineFault::Shape => shape_text(alloc, found),
         LineFault::Begun | LineFault::Unbegun => name_text(alloc, bytes, line, found),
+        LineFault::Key => key_text(alloc, keys, found),
+        LineFault::Args => args_text(alloc, keys, found),
         LineFault::Context => context_text(alloc, params, found),
     }
 }
 
-/// A hint on why bytes are no script for parameters, if they are none.
+/// A hint on why bytes are no script for parameters and cache keys, if they are none.
 pub fn script_hint(
     alloc: Global,
     params: &List<Parameter>,
+    keys: &List<CacheKey>,
     bytes: &[u8],
 ) -> Result<Option<Hint>, AllocError> {
-    match read_script(alloc, params, bytes) {
+    match read_script(alloc, params, keys, bytes) {
         Ok(_) => Ok(None),
         Err(Failure::NoMemory) => Err(AllocError),
         Err(Failure::Fault(ScriptFault::BadLine { line, reason })) => {
-            let text = line_text(alloc, params.as_slice(), bytes, line, reason)?;
+            let text = line_text(
+                alloc,
+                params.as_slice(),
+                keys.as_slice(),
+                bytes,
+                line,
+                reason,
+            )?;
             let spot = Spot::Line(line);
             Ok(Some(Hint { spot, text }))
         }

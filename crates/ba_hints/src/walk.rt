@@ -169,7 +169,9 @@ fn stands(term: Term, tokens: &[Token]) -> bool {
         Term::Value | Term::Listed => is_value(lexeme),
         Term::Qualifier => is_name(lexeme, &QUERY_WORDS) && begins_with_dot(others),
         Term::Table | Term::Alias | Term::Column => is_name(lexeme, &QUERY_WORDS),
-        Term::Param | Term::View => matches!(lexeme, Lexeme::Word(_)),
+        Term::Param | Term::View | Term::CacheKey | Term::Argument => {
+            matches!(lexeme, Lexeme::Word(_))
+        }
         Term::NewTable
         | Term::NewColumn
         | Term::KeyColumn

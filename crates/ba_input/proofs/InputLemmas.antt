@@ -138,6 +138,7 @@ sets_fit schema sets more set all h kept = subst (All (IsSetOf schema)) (sym kep
 published_more : (n : ℕ) (entry : ScriptEntry) → published_by n entry ≡ n + published_by 0 entry
 published_more n (said.Begin request name context) = omega arith
 published_more n (said.Ask request name text) = omega arith
+published_more n (said.Read request name key arguments questions) = omega arith
 published_more n (said.End request name) = omega arith
 published_more n (said.Publish number set) = omega arith
 

@@ -123,6 +123,8 @@ policy_is file policy_fault.Syntax = tt
 policy_is file (policy_fault.DuplicateParam name) = tt
 policy_is file (policy_fault.DuplicateView name) = tt
 policy_is file (policy_fault.View name it) = tt
+policy_is file (policy_fault.DuplicateKey name) = tt
+policy_is file (policy_fault.Key name it) = tt
 policy_is file (policy_fault.TooMany it limit) = tt
 
 table_is : (file : List ℕ) (e : TableFault) → IsRefusal (table_refusal file e)
@@ -176,6 +178,7 @@ tables_refuses set schema =
 set_refuses : (schema : Schema) (entry : ScriptEntry) → Refuses (set_plan schema entry)
 set_refuses schema (said.Begin request name context) = tt
 set_refuses schema (said.Ask request name text) = tt
+set_refuses schema (said.Read request name key arguments questions) = tt
 set_refuses schema (said.End request name) = tt
 set_refuses schema (said.Publish number set) = then_refuses (tables_plan set schema) (λ it. done (Some it)) (tables_refuses set schema) (λ it. tt)
 
@@ -191,7 +194,7 @@ published_refuses names policy tables script =
 
 script_refuses : (names : Names) (policy : Policy) (tables : TableSet) → Refuses (script_plan names policy tables)
 script_refuses names policy tables = λ bytes.
-    then_refuses (found (widened (script_refusal names.script) (script_of policy.params bytes))) (published_plan names policy tables) (found_refuses (script_refusal names.script) (script_of policy.params bytes) (script_is names.script))
+    then_refuses (found (widened (script_refusal names.script) (script_of policy.params policy.keys bytes))) (published_plan names policy tables) (found_refuses (script_refusal names.script) (script_of policy.params policy.keys bytes) (script_is names.script))
     (published_refuses names policy tables)
 
 rest_refuses : (names : Names) (schema : Schema) (policy : Policy) → Refuses (rest_plan names schema policy)

@@ -19,15 +19,15 @@ abbrev pub RowsOfTables : List Table → List (List (List Value)) → Type 0
 RowsOfTables tables lists = AllZip (λ table list. All (RowFits table) list) tables lists
 
 -- The input belongs together: the policy fits its schema, which is well formed, the tables are of
--- that schema and conform to it, the script is one for the policy's parameters, there is a table set
--- for each of its publish lines, of that schema too, the templates to begin with are of the policy,
+-- that schema and conform to it, the script is one for the policy's parameters and cache keys, there is a
+-- table set for each of its publish lines, of that schema too, the templates to begin with are of the policy,
 -- and they, the workers and the budget are within their limits. A search is made in one order, or in
 -- two side by side.
 pub record IsInput (input : Input) : Type 0 where
   pub policy : PolicyFits input.policy
   pub schema : input.tables.schema ≡ input.policy.schema
   pub conform : Conforms input.policy.schema input.tables.rows
-  pub script : IsScript input.policy.params input.script
+  pub script : IsScript input.policy.params input.policy.keys input.script
   pub sets : All (IsSetOf input.policy.schema) input.published
   pub one_each : length input.published ≡ published input.script.entries
   pub workers : (0 < input.workers) × (input.workers ≤ most_workers)

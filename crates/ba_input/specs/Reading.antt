@@ -80,6 +80,7 @@ tables_plan set schema = do
 abbrev pub set_plan : Schema → ScriptEntry → Plan Fault (Option TableSet)
 set_plan schema (said.Begin request name context) = done None
 set_plan schema (said.Ask request name text) = done None
+set_plan schema (said.Read request name key arguments questions) = done None
 set_plan schema (said.End request name) = done None
 set_plan schema (said.Publish number set) = do
   tables ← tables_plan set schema
@@ -100,7 +101,7 @@ published_plan names policy tables script = do
 abbrev pub script_plan : Names → Policy → TableSet → Plan Fault Input
 script_plan names policy tables = do
   bytes ← file_of names.script
-  script ← found (widened (script_refusal names.script) (script_of policy.params bytes))
+  script ← found (widened (script_refusal names.script) (script_of policy.params policy.keys bytes))
   published_plan names policy tables script
 
 abbrev pub rest_plan : Names → Schema → Policy → Plan Fault Input

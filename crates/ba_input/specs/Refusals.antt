@@ -83,6 +83,8 @@ policy_refusal file policy.Syntax = text_fault file query.Syntax
 policy_refusal file (policy.DuplicateParam name) = Input file (reason.DuplicateParam name)
 policy_refusal file (policy.DuplicateView name) = Input file (reason.DuplicateView name)
 policy_refusal file (policy.View name fault) = Input file (reason.View name fault)
+policy_refusal file (policy.DuplicateKey name) = Input file (reason.DuplicateKey name)
+policy_refusal file (policy.Key name fault) = Input file (reason.CacheKey name fault)
 policy_refusal file (policy.TooMany it limit) = Limit it limit
 
 -- ---- tables

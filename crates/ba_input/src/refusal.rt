@@ -119,6 +119,8 @@ pub(crate) fn policy_refusal(file: Str, fault: PolicyFault) -> Fault
         PolicyFault::DuplicateParam(name) => Reason::DuplicateParam { name },
         PolicyFault::DuplicateView(name) => Reason::DuplicateView { name },
         PolicyFault::View(name, fault) => Reason::View { name, fault },
+        PolicyFault::DuplicateKey(name) => Reason::DuplicateKey { name },
+        PolicyFault::Key(name, fault) => Reason::CacheKey { name, fault },
         PolicyFault::TooMany { what, limit } => return Fault::Limit { what, limit },
     };
     Fault::Input { file, reason }

@@ -24,7 +24,8 @@ use crate::refusal::{
     broken_refusal, ddl_refusal, path, policy_refusal, script_refusal, table_refusal,
 };
 use ba_model::{
-    Failure, List, MAX_FILE_BYTES, Parameter, Policy, Row, RowSet, Schema, Shared, Str, Table,
+    CacheKey, Failure, List, MAX_FILE_BYTES, Parameter, Policy, Row, RowSet, Schema, Shared, Str,
+    Table,
 };
 use ba_outside::Files;
 use ba_plan::{Stop, read_file};
@@ -114,13 +115,14 @@ fn script_at(
     alloc: Global,
     file: &str,
     params: &List<Parameter>,
+    keys: &List<CacheKey>,
     bytes: &List<u8>,
 ) -> Result<Script, Stop<Fault>>
     ensures reads { Gives result
-        (widened (script_refusal file.now) (script_of params.now bytes.now)) }
-    ensures script { IfOk result (IsScript params.now) }
+        (widened (script_refusal file.now) (script_of params.now keys.now bytes.now)) }
+    ensures script { IfOk result (IsScript params.now keys.now) }
 {
-    match read_script(alloc, params, bytes.as_slice()) {
+    match read_script(alloc, params, keys, bytes.as_slice()) {
         Ok(script) => Ok(script),
         Err(Failure::Fault(fault)) => {
             let file = Str::new(alloc, file)?;
@@ -265,7 +267,7 @@ fn read_published<F: Files>(
 ) -> Result<Input, Stop<Fault>>
     requires policy { PolicyFits policy }
     requires tables { IsSetOf policy.schema tables }
-    requires script { IsScript policy.params script }
+    requires script { IsScript policy.params policy.keys script }
     requires tables_are { AreTables policy.schema.tables }
     requires rules { AreRules policy.schema }
     requires workers { (0 < named.now.workers) × (named.now.workers ≤ most_workers) }
@@ -327,7 +329,7 @@ fn read_rest<F: Files>(
     ensures rules { IfOk result (λ input. AreRules input.policy.schema) }
 {
     let bytes = read_file(alloc, files, named.script, MAX_FILE_BYTES)?;
-    let script = script_at(alloc, named.script, &policy.params, &bytes)?;
+    let script = script_at(alloc, named.script, &policy.params, &policy.keys, &bytes)?;
     read_published(alloc, files, named, policy, tables, script)
 }
 

@@ -1,6 +1,6 @@
 -- The histories that the passes of all lanes leave, once they were split off and joined.
 use Rattle.std.proofs.Common.{◌≡◌, ◌∙◌, ap, subst, ℕ, ◌+◌, ◌<◌, ◌≤◌, List, [], ◌++◌, add-one, arith}
-use Rattle.std.specs.Prelude.{count_by, slice_index_or}
+use Rattle.std.specs.Prelude.{slice_index_or, sum_by}
 use Rattle.ba_cache.specs.Passes as cache
 use Rattle.ba_cache.specs.Passes.{ClosedShelf, known_on}
 use Rattle.ba_cache.specs.Reads as shelf
@@ -11,10 +11,10 @@ use Rattle.ba_session.specs.declared.service.Passes.{Passes}
 use Rattle.ba_session.specs.declared.service.Service.{Service}
 use Rattle.ba_lanes.proofs.JoinLemmas.{joined_calls, joined_more, joined_none, joined_whole, of_lanes_same, sees_none, sees_split, sees_still, split_more}
 use Rattle.ba_lanes.proofs.LoadLemmas.{left_of, loaded_few}
-use Rattle.ba_lanes.proofs.LineLemmas.{counts_sum, total_front, total_twice}
+use Rattle.ba_lanes.proofs.LineLemmas.{counts_sum, sums_sum, total_front, total_twice}
 use Rattle.ba_lanes.specs.Lanes.{AreOfLanes, HasSplit, total}
 use Rattle.ba_lanes.specs.Legal.{HasShelf, HasShelves, HasVersions, LineDone, Load, admits_on, done_in, lane_of, made_on, versions_made}
-use Rattle.ba_lanes.specs.Serving.{AreUnused, CanServe, HasLeft, HasMade, HaveDealt, HaveJoined, HaveSplit, IsUnused, SeeLoads, SeeMore, SumUp, calls_versions, is_ask, lines_in, shelf_calls, version_calls}
+use Rattle.ba_lanes.specs.Serving.{AreUnused, CanServe, HasLeft, HasMade, HaveDealt, HaveJoined, HaveSplit, IsUnused, SeeLoads, SeeMore, SumUp, calls_versions, lines_in, questions_of, shelf_calls, version_calls}
 use Rattle.ba_input.specs.declared.input.Input.{Input}
 use Rattle.ba_turn.specs.Passes.{known_by, start_of}
 use Rattle.ba_turn.specs.declared.known.Known.{Known}
@@ -36,8 +36,8 @@ module _ (input : Input) (low : (line : ScriptEntry) → lane_of input.workers l
   shelves_sum : total (λ k. shelf_calls (lines_in input k input.script.entries)) n + shelf_calls own_lines ≤ shelf_calls input.script.entries
   shelves_sum =
       let front = total_front (λ k. shelf_calls (lines_in input k input.script.entries)) n input.workers below in
-      let twice = total_twice (λ k. count_by is_ask (lines_in input k input.script.entries)) input.workers in
-      let all = counts_sum (lane_of input.workers) is_ask input.workers input.script.entries low in
+      let twice = total_twice (λ k. sum_by questions_of (lines_in input k input.script.entries)) input.workers in
+      let all = sums_sum (lane_of input.workers) questions_of input.workers input.script.entries low in
       omega (arith, front, twice, all)
 
   can_be_split : {S E : Type 0} (opening : List E) (v : Known S E) (a : ℕ) → HasSplit opening n v → a ≤ v.left → CanBeSplit a v

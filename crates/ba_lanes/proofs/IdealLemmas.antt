@@ -4,25 +4,33 @@ use mathlib.Core.List.{map-append}
 use Rattle.std.proofs.Common.{◌≡◌, ◌∙◌, ◌⊎◌, ℕ, zero, suc, ◌+◌, ◌<◌, ◌≤◌, ◌==◌, Bool, true, false, true≢false, cond, List, [], ◌∷◌, ◌++◌, All, Contains, None, Option, Some, ap, append_assoc, append-nil, arith, filter, flat_map, inl, inr, map, refl, slice_get, subst, sym}
 use Rattle.std.proofs.Math.Logic.{∥∥₁_elim}
 use Rattle.std.proofs.lemmas.Bool.{eqb-false}
-use Rattle.std.proofs.lemmas.List.Elements.{All-append, All-cons, All-contains_itself, All-head, All-nil, All-tail, Contains-append_left, Contains-append_right}
+use Rattle.std.proofs.lemmas.List.Elements.{All-append, All-cons, All-contains, All-contains_itself, All-head, All-nil, All-tail, Contains-append_left, Contains-append_right}
 use Rattle.std.proofs.lemmas.Option.{same_Some}
 use Rattle.std.specs.Coded.{Coded-set, coded_ℕ}
 use Rattle.ba_comply.specs.declared.trace.TraceEntry.{TraceEntry}
 use Rattle.ba_input.specs.Inputs.{effort_of}
 use Rattle.ba_input.specs.declared.input.Input.{Input}
 use Rattle.ba_model.specs.Equations.{IsOfEquations}
+use Rattle.ba_model.specs.declared.policy.Context.{Context}
+use Rattle.ba_model.specs.declared.policy.Policy.{Policy}
 use Rattle.ba_model.specs.declared.query.Query.{Query}
 use Rattle.ba_refute.proofs.RefuteLemmas.{refutes}
 use Rattle.ba_refute.specs.OfEquations.{IsQuestionOfEquations}
 use Rattle.ba_script.specs.Reading.{is_publish}
 use Rattle.ba_script.specs.declared.entry.ScriptEntry.{ScriptEntry}
 use Rattle.ba_script.specs.declared.entry.ScriptEntry.TheVariants as said
-use Rattle.ba_session.specs.Asking.{Reads, Replies, answer_in}
+use Rattle.ba_session.specs.Asking.{IsCompliant, Reads, Replies, answer_in}
+use Rattle.ba_session.specs.KeyReads.{AreGrounds, KeyReads}
+use Rattle.ba_keys.specs.Literals.{key_queries}
 use Rattle.ba_session.specs.Passing.{ShelfCalls}
+use Rattle.ba_session.specs.declared.reply.By.{By}
+use Rattle.ba_session.specs.declared.reply.KeyReply.{KeyReply}
+use Rattle.ba_session.specs.declared.reply.KeyReply.TheVariants as key_reply
 use Rattle.ba_session.specs.declared.reply.Reply.{Reply}
 use Rattle.ba_session.specs.declared.reply.Reply.TheVariants.{Answer, Blocked, Unread, NoMemory}
 use Rattle.ba_session.specs.declared.reply.Why.TheVariants.{Refuted, Spent, Stuck}
 use Rattle.ba_session.specs.declared.request.Request.{Request}
+use Rattle.ba_settle.specs.Settling.{Effort}
 use Rattle.ba_tables.specs.TableSet.{TableSet}
 use Rattle.ba_tables.specs.contracts.tables.Tables as Tables
 use Rattle.ba_turn.specs.History.{calls_by, entry_of, number_of}
@@ -30,13 +38,13 @@ use Rattle.ba_versions.specs.Calls as versions
 use Rattle.ba_versions.specs.Reads.{calls_of}
 use Rattle.ba_versions.specs.declared.call.VersionCall.{VersionCall}
 use Rattle.ba_versions.specs.declared.call.VersionCall.TheVariants as call
-use Rattle.ba_lanes.proofs.HeadlineLemmas.{entry_in, pin_made, pinned_there, trace_same}
+use Rattle.ba_lanes.proofs.HeadlineLemmas.{as_many_grounds, entry_in, pin_made, pinned_there, trace_same}
 use Rattle.ba_lanes.proofs.ServeLemmas.{trace_more}
-use Rattle.ba_lanes.specs.Ideal.{AsksByEquations, IsIdeal, IsIdealAsk, IsIdealAt, IsIdealReply, IsServedFully, UsesEquations}
+use Rattle.ba_lanes.specs.Ideal.{AsksByEquations, IsIdeal, IsIdealAsk, IsIdealAt, IsIdealKeyRead, IsIdealKeyReply, IsIdealReply, IsServedFully, UsesEquations}
 use Rattle.ba_lanes.specs.Lanes.{EachAfter, of_lane}
-use Rattle.ba_lanes.specs.Legal.{AreServed, IsAsk, IsServed, Legal, LineDone, answer_of, asked, begins, done_in, lane_of, no_calls, on_versions, pin_of, trace_in, trace_of}
+use Rattle.ba_lanes.specs.Legal.{AreServed, IsAsk, IsRead, IsServed, Legal, LineDone, answer_of, asked, begins, done_in, lane_of, no_calls, on_versions, pin_of, read_as, trace_in, trace_of}
 use Rattle.ba_lanes.specs.declared.journal.Entry.{Entry}
-use Rattle.ba_lanes.specs.declared.journal.Entry.TheVariants.{Begin, Ask, End}
+use Rattle.ba_lanes.specs.declared.journal.Entry.TheVariants.{Begin, Ask, Read, End}
 use Rattle.ba_lanes.specs.declared.journal.Journal.{Journal}
 
 -- ---- lists
@@ -125,6 +133,8 @@ quiet_line input earlier (said.Begin r name context) it none (inl h) =
 quiet_line input earlier (said.Begin r name context) it none (inr h) = quiet_calls it h.made_is
 quiet_line input earlier (said.Ask r name text) it none (inl h) = subst LineIsQuiet (sym h.is) (All-nil IsQuiet)
 quiet_line input earlier (said.Ask r name text) it none (inr h) = subst LineIsQuiet (sym h.unserved) (All-nil IsQuiet)
+quiet_line input earlier (said.Read r name key args qs) it none (inl h) = subst LineIsQuiet (sym h.is) (All-nil IsQuiet)
+quiet_line input earlier (said.Read r name key args qs) it none (inr h) = subst LineIsQuiet (sym h.unserved) (All-nil IsQuiet)
 quiet_line input earlier (said.End r name) it none (inl h) = subst LineIsQuiet (sym h.is) (All-nil IsQuiet)
 quiet_line input earlier (said.End r name) it none (inr h) = subst LineIsQuiet (sym h.unserved) (All-nil IsQuiet)
 quiet_line input earlier (said.Publish n set) it none h = absurd (true≢false none)
@@ -167,6 +177,8 @@ module _ (input : Input) where
   line_of_equations past (said.Ask r name text) entry equations ideal number =
       subst (λ z. AreOfEquations (answer_of number z)) (sym ideal.is)
       (answer_of_equations number r ideal.reply (reply_of_equations ideal.asker text equations ideal.reply ideal.ideal))
+  line_of_equations past (said.Read r name key args qs) entry equations ideal number =
+      subst (λ z. AreOfEquations (answer_of number z)) (sym ideal.is) (All-nil (λ (entry : TraceEntry). IsOfEquations entry.query))
   line_of_equations past (said.End r name) entry equations ideal number =
       subst (λ z. AreOfEquations (answer_of number z)) (sym ideal) (All-nil (λ (entry : TraceEntry). IsOfEquations entry.query))
   line_of_equations past (said.Publish n set) entry equations ideal number = absurd ideal
@@ -186,6 +198,44 @@ ideal_reply input asker request version text calls equations (Blocked query (Spe
 ideal_reply input asker request version text calls equations (Blocked query (Stuck leaf clause)) h fully = absurd (h.denied.reason.beyond_equations (equations query h.reads))
 ideal_reply input asker request version text calls equations (Unread fault) h fully = (refl, h.0)
 ideal_reply input asker request version text calls equations NoMemory h fully = absurd fully
+
+-- each query with its ground is strongly compliant
+pub grounds_comply : (policy : Policy) (asker : Request) (effort : Effort) (queries : List Query) (bases : List By) (made : List ShelfCalls) → AreGrounds policy asker effort queries bases made →
+    All (IsCompliant policy asker) queries
+grounds_comply policy asker effort [] bases made h = All-nil (IsCompliant policy asker)
+grounds_comply policy asker effort (q ∷ qs) [] made h = absurd h
+grounds_comply policy asker effort (q ∷ qs) (b ∷ bs) [] h = absurd h
+grounds_comply policy asker effort (q ∷ qs) (b ∷ bs) (m ∷ ms) h = All-cons (IsCompliant policy asker) q qs h.0.1 (grounds_comply policy asker effort qs bs ms h.1)
+
+-- the reply is the entry's, and it is ideal
+abbrev IsIdealReadEntry : Input → Request → ℕ → ℕ → ℕ → List Query → KeyReply → Type 0
+IsIdealReadEntry input asker request version number queries reply =
+    (read_as request version number reply ≡ Read request version number reply) × IsIdealKeyReply input.policy asker queries reply
+
+ideal_key_reply : (input : Input) (asker : Request) (request version number : ℕ) (queries : List Query) (calls : List ShelfCalls) → ((query : Query) → Contains queries query → IsQuestionOfEquations input.policy asker.trace query) →
+    (reply : KeyReply) → KeyReads input.policy asker (effort_of input) queries calls reply → IsServedFully (read_as request version number reply) → IsIdealReadEntry input asker request version number queries reply
+ideal_key_reply input asker request version number queries calls equations (key_reply.Allowed its by) h fully =
+    (refl, record { are = h.0; compliant = grounds_comply input.policy asker (effort_of input) queries by calls h.1 })
+ideal_key_reply input asker request version number queries calls equations (key_reply.Blocked its before (Refuted pair)) h fully =
+    let it = h.1 in (
+      refl,
+      record {
+        are = h.0;
+        front = it.front;
+        query = it.query;
+        back = it.back;
+        parts = it.are;
+        index_is = as_many_grounds input.policy asker (effort_of input) it.front before it.earlier it.grounds;
+        compliant = grounds_comply input.policy asker (effort_of input) it.front before it.earlier it.grounds;
+        uncompliant = refutes input.policy asker.context asker.trace it.query pair it.denied.reason.refutes;
+      },
+    )
+ideal_key_reply input asker request version number queries calls equations (key_reply.Blocked its before (Spent steps)) h fully = absurd fully
+ideal_key_reply input asker request version number queries calls equations (key_reply.Blocked its before (Stuck leaf clause)) h fully =
+    let it = h.1 in
+    let among : Contains queries it.query = subst (λ z. Contains z it.query) (sym it.are) (Contains-append_right it.front (it.query ∷ it.back) it.query (0, omega arith, refl)) in
+    absurd (it.denied.reason.beyond_equations (equations it.query among))
+ideal_key_reply input asker request version number queries calls equations key_reply.NoMemory h fully = absurd fully
 
 module _ (input : Input) (journal : Journal) (legal : Legal input journal) (uses : UsesEquations input) where
   all_quiet : All IsQuiet (calls_of journal.histories.versions)
@@ -229,6 +279,29 @@ module _ (input : Input) (journal : Journal) (legal : Legal input journal) (uses
           ideal = ideal.1;
         }
 
+    -- a read by the request that stands there
+    ideal_read : (request : ℕ) (name : List ℕ) (number : ℕ) (args : Context) (qs : ℕ) → AsksByEquations input.policy (said.Read request name number args qs) → IsRead input earlier request number args it →
+        IsIdealKeyRead input (map entry_in earlier) request number args it.entry
+    ideal_read request name number args qs equations h =
+        let first = over_input request h.asker.version h.asker.tables (front (begins request h.asker.version h.asker.tables) h.asks.begun) in
+        let entry_is : it.entry ≡ read_as request h.asker.version number h.reply = ap entry_in h.is in
+        let queries = key_queries input.policy h.key args in
+        let is_of : (query : Query) → Contains queries query → IsQuestionOfEquations input.policy h.asker.trace query = (λ query among. record {
+          policy_is = uses.policy;
+          recorded = subst AreOfEquations (sym h.asks.trace) (known request);
+          asked = All-contains IsOfEquations queries query (equations h.key h.key_is) among;
+        }) in
+        let ideal = ideal_key_reply input h.asker request h.asker.version number queries h.calls is_of h.reply h.reads (subst IsServedFully entry_is fully) in
+        record {
+          asker = h.asker;
+          stands = record { context = h.asks.context; version = first.0; tables = first.1; trace = h.asks.trace ∙ trace_same request earlier };
+          key = h.key;
+          key_is = h.key_is;
+          reply = h.reply;
+          is = entry_is ∙ ideal.0 ∙ ap (λ version. Read request version number h.reply) first.0;
+          ideal = ideal.1;
+        }
+
     ideal_line : (line : ScriptEntry) → AsksByEquations input.policy line → is_publish line ≡ false → IsServed input earlier line it → IsIdealAt input (map entry_in earlier) line it.entry
     unfolding is_publish
     ideal_line (said.Begin r name context) equations none (inl h) =
@@ -236,6 +309,8 @@ module _ (input : Input) (journal : Journal) (legal : Legal input journal) (uses
     ideal_line (said.Begin r name context) equations none (inr h) = absurd (subst IsServedFully h.entry_is fully)
     ideal_line (said.Ask r name text) equations none (inl h) = ideal_ask r name text equations h
     ideal_line (said.Ask r name text) equations none (inr h) = absurd (subst IsServedFully (ap entry_in h.unserved) fully)
+    ideal_line (said.Read r name key args qs) equations none (inl h) = ideal_read r name key args qs equations h
+    ideal_line (said.Read r name key args qs) equations none (inr h) = absurd (subst IsServedFully (ap entry_in h.unserved) fully)
     ideal_line (said.End r name) equations none (inl h) =
         ap entry_in h.is ∙ ap (End r) (over_input r h.version h.tables (front (begins r h.version h.tables) h.begun)).0
     ideal_line (said.End r name) equations none (inr h) = absurd (subst IsServedFully (ap entry_in h.unserved) fully)

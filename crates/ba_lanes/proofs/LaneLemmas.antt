@@ -1,10 +1,10 @@
 -- What the lines of a lane make of its passes.
-use Rattle.std.proofs.Common.{◌≡◌, ◌∙◌, refl, sym, ap, subst, get_or, ℕ, suc, zero, ◌+◌, ◌*◌, ◌<◌, ◌≤◌, ◌==◌, ◌⊎◌, inl, inr, Bool, true, false, List, [], ◌∷◌, ◌++◌, length, take, cond, append_assoc, append-nil, zero-add, arith, Option, Some, None}
-use Rattle.std.proofs.lemmas.List.{length-take, take_all, take_more}
-use Rattle.std.proofs.lemmas.List.Elements.{All-head, All-tail}
-use Rattle.std.proofs.lemmas.List.Sums.{sum_by-append}
-use Rattle.std.proofs.lemmas.Option.{slice_get_read}
-use Rattle.std.specs.List.{flat_map}
+use Rattle.std.proofs.Common.{◌≡◌, ◌∙◌, refl, sym, ap, subst, get_or, ℕ, suc, zero, ◌+◌, ◌*◌, ◌<◌, ◌≤◌, ◌==◌, ◌⊎◌, inl, inr, Bool, true, false, List, [], ◌∷◌, ◌++◌, length, length-append, take, cond, append_assoc, append-nil, zero-add, arith, Option, Some, None}
+use Rattle.std.proofs.lemmas.List.{length-map, length-take, take_all, take_more}
+use Rattle.std.proofs.lemmas.List.Elements.{All-get_or, All-head, All-tail}
+use Rattle.std.proofs.lemmas.List.Sums.{sum_by-append, sum_by-cons}
+use Rattle.std.proofs.lemmas.Option.{get_or_from_slice_get, same_Some, slice_get_read, slice_get_within}
+use Rattle.std.specs.List.{AllByRecursion, flat_map}
 use Rattle.std.specs.Prelude.{All, count_by, slice_get, slice_set, vec_capacity}
 use Rattle.ba_cache.specs.Passes.{known_on}
 use Rattle.ba_input.specs.Inputs.{IsInput, effort_of}
@@ -12,6 +12,8 @@ use Rattle.ba_input.specs.Published.{IsSetOf}
 use Rattle.ba_input.specs.declared.input.Input.{Input}
 use Rattle.ba_cache.specs.declared.call.ShelfCall.{ShelfCall}
 use Rattle.ba_kernel.specs.SearchStates as kernel
+use Rattle.ba_model.specs.Fit.{ContextFits, KeyFits, kinds_of}
+use Rattle.ba_model.specs.declared.policy.CacheKey.{CacheKey}
 use Rattle.ba_model.specs.declared.policy.Context.{Context}
 use Rattle.ba_model.specs.declared.policy.Policy.{Policy}
 use Rattle.ba_model.specs.declared.query.Query.{Query}
@@ -19,21 +21,26 @@ use Rattle.ba_model.specs.declared.schema.Schema.{Schema}
 use Rattle.ba_script.specs.declared.entry.ScriptEntry.{ScriptEntry}
 use Rattle.ba_script.specs.declared.entry.ScriptEntry.TheVariants as said
 use Rattle.ba_session.proofs.PassLemmas.{more_calls, no_calls, one_call}
-use Rattle.ba_session.specs.Asking.{HasLooked, IsRequestOf, IsBegun, IsServable, IsGround, IsKept, IsLook, Replies, question}
+use Rattle.ba_session.specs.Asking.{HasBlock, HasLooked, HasNoVerdict, IsRequestOf, IsBegun, IsServable, IsGround, IsKept, IsLook, Replies, question}
+use Rattle.ba_session.specs.KeyReads.{AreGrounds, KeyReads, LetsThrough, MakesAll as KeyMakes}
+use Rattle.ba_keys.specs.Literals.{key_queries, query_with}
 use Rattle.ba_session.specs.Passing.{AreOf, HasRoom, LeavesShelves, Makes, MakesCalls, ShelfCalls, calls_on}
 use Rattle.ba_session.specs.declared.reply.By.{By}
 use Rattle.ba_session.specs.declared.reply.By.TheVariants.{Cover, Template, Proof}
 use Rattle.ba_session.specs.declared.reply.Keeping.{Keeping}
 use Rattle.ba_session.specs.declared.reply.Keeping.TheVariants as keeping
+use Rattle.ba_session.specs.declared.reply.KeyReply.{KeyReply}
+use Rattle.ba_session.specs.declared.reply.KeyReply.TheVariants as key_reply
 use Rattle.ba_session.specs.declared.reply.Reply.{Reply}
 use Rattle.ba_session.specs.declared.reply.Reply.TheVariants as replied
+use Rattle.ba_session.specs.declared.reply.Why.{Why}
 use Rattle.ba_session.specs.declared.request.Request.{Request}
 use Rattle.ba_session.specs.declared.service.Passes.{Passes}
 use Rattle.ba_session.specs.declared.service.Service.{Service}
 use Rattle.ba_settle.specs.Settling.{Effort}
 use Rattle.ba_tables.specs.TableSet.{TableSet}
-use Rattle.ba_lanes.specs.Legal.{LineCalls, LineDone, asked, begins, made_on, no_calls as nothing_made, on_shelves, on_versions, pin_of, shelf_calls_of, versions_made}
-use Rattle.ba_lanes.specs.Serving.{CanServe, Does, EndsOrLost, CanTake, MakesAll, Takes, calls_versions, is_ask, told}
+use Rattle.ba_lanes.specs.Legal.{LineCalls, LineDone, asked, begins, made_on, no_calls as nothing_made, on_each, on_shelves, on_versions, pin_of, read_as, shelf_calls_of, versions_made}
+use Rattle.ba_lanes.specs.Serving.{CanServe, Comes, Does, EndsOrLost, CanTake, MakesAll, Takes, calls_versions, questions_of, told}
 use Rattle.ba_lanes.specs.declared.lane.Lane.{Lane}
 use Rattle.ba_lanes.specs.declared.journal.Entry.{Entry}
 use Rattle.ba_lanes.specs.declared.journal.Entry.TheVariants.{Begin, Publish, Memory}
@@ -101,6 +108,61 @@ replies_most policy asker effort text made (replied.Unread fault) h = let e = ap
 replies_most policy asker effort text made replied.NoMemory (inl e) = let n = ap length e in omega (arith, n)
 replies_most policy asker effort text made replied.NoMemory (inr h) = looked_most policy asker h.0 made h.2
 
+judged_most : (policy : Policy) (asker : Request) (query : Query) (made : ShelfCalls) → HasNoVerdict policy asker query made → length made.calls ≤ 2
+judged_most policy asker query made (inl e) = let n = ap length e in omega (arith, n)
+judged_most policy asker query made (inr h) = looked_most policy asker query made h
+
+block_most : (policy : Policy) (asker : Request) (effort : Effort) (query : Query) (why : Why) (made : ShelfCalls) → HasBlock policy asker effort query why made → length made.calls ≤ 2
+block_most policy asker effort query why made h = let e = ap (λ (z : ShelfCalls). length z.calls) h.made_is in omega (arith, e)
+
+-- of several queries at most two each
+on_shelf_most : (k n : ℕ) (calls : List ShelfCalls) → AllByRecursion (λ made. length made.calls ≤ 2) calls → length calls ≤ n → length (flat_map (λ made. calls_on k made) calls) ≤ 2 * n
+on_shelf_most k n [] few h = omega (arith, h)
+on_shelf_most k n (made ∷ more) few h =
+    let front = at_most (made.shard == k) made.calls 2 few.0 in
+    let behind = on_shelf_most k (length more) more few.1 (omega arith) in
+    omega (arith, h, front, behind, length-append (calls_on k made) (flat_map (λ made. calls_on k made) more))
+
+grounds_most : (policy : Policy) (asker : Request) (effort : Effort) (queries : List Query) (bases : List By) (calls : List ShelfCalls) → AreGrounds policy asker effort queries bases calls
+    → AllByRecursion (λ made. length made.calls ≤ 2) calls × (length calls ≡ length queries)
+grounds_most policy asker effort [] [] [] h = (tt, refl)
+grounds_most policy asker effort [] [] (m ∷ ms) h = absurd h
+grounds_most policy asker effort [] (b ∷ bs) ms h = absurd h
+grounds_most policy asker effort (q ∷ qs) [] ms h = absurd h
+grounds_most policy asker effort (q ∷ qs) (b ∷ bs) [] h = absurd h
+grounds_most policy asker effort (q ∷ qs) (b ∷ bs) (m ∷ ms) h = let rest = grounds_most policy asker effort qs bs ms h.1 in ((ground_most policy asker effort q b m h.0.0, rest.0), ap suc rest.1)
+
+push_most : (calls : List ShelfCalls) (last : ShelfCalls) → AllByRecursion (λ made. length made.calls ≤ 2) calls → length last.calls ≤ 2 → AllByRecursion (λ made. length made.calls ≤ 2) (calls ++ last ∷ [])
+push_most [] last few here = (here, tt)
+push_most (m ∷ ms) last few here = (few.0, push_most ms last few.1 here)
+
+-- the calls of a read are at most two for each of its queries
+pub reads_most : (policy : Policy) (asker : Request) (effort : Effort) (queries : List Query) (calls : List ShelfCalls) (reply : KeyReply) (k : ℕ) → KeyReads policy asker effort queries calls reply
+    → length (flat_map (λ made. calls_on k made) calls) ≤ 2 * length queries
+reads_most policy asker effort queries calls (key_reply.Allowed its by) k h =
+    let all = grounds_most policy asker effort queries by calls h.1 in
+    on_shelf_most k (length queries) calls all.0 (omega (arith, all.1))
+reads_most policy asker effort queries calls (key_reply.Blocked its before why) k h =
+    let it = h.1 in
+    let earlier = grounds_most policy asker effort it.front before it.earlier it.grounds in
+    let all = push_most it.earlier it.last earlier.0 (block_most policy asker effort it.query why it.last it.denied) in
+    let size = ap length it.are in
+    subst (λ z. length (flat_map (λ made. calls_on k made) z) ≤ 2 * length queries) (sym it.made_is)
+    (on_shelf_most k (length queries) (it.earlier ++ it.last ∷ []) all (omega (arith, earlier.1, size, length-append it.earlier (it.last ∷ []), length-append it.front (it.query ∷ it.back))))
+reads_most policy asker effort queries calls key_reply.NoMemory k h =
+    let earlier = grounds_most policy asker effort h.front h.bases h.earlier h.grounds in
+    let size = ap length h.are in
+    by earlier.0 earlier.1 size h.last
+  where
+    by : AllByRecursion (λ made. length made.calls ≤ 2) h.earlier → length h.earlier ≡ length h.front → length queries ≡ length (h.front ++ h.back) → (calls ≡ h.earlier)
+        ⊎ ((query : Query) × (more : List Query) × (h.back ≡ query ∷ more) × (made : ShelfCalls) × HasNoVerdict policy asker query made × (calls ≡ h.earlier ++ made ∷ [])) → length (flat_map (λ made. calls_on k made) calls) ≤ 2 * length queries
+    by few many size (inl is) = subst (λ z. length (flat_map (λ made. calls_on k made) z) ≤ 2 * length queries) (sym is) (on_shelf_most k (length queries) h.earlier few (omega (arith, many, size, length-append h.front h.back)))
+    by few many size (inr (query, more, back, made, none, is)) =
+        let all = push_most h.earlier made few (judged_most policy asker query made none) in
+        let behind = ap length back in
+        subst (λ z. length (flat_map (λ made. calls_on k made) z) ≤ 2 * length queries) (sym is)
+        (on_shelf_most k (length queries) (h.earlier ++ made ∷ []) all (omega (arith, many, size, behind, length-append h.front h.back, length-append h.earlier (made ∷ []))))
+
 -- what a line takes of the allowances
 
 versions_most : (input : Input) (requests : List (Option Request)) (line : ScriptEntry) (it : LineDone) (later : List (Option Request)) → Does input requests line it later → length it.made.versions ≤ cond (calls_versions line) 1 0
@@ -113,6 +175,8 @@ versions_most input requests (said.Begin r name c) it later (inr (h, same)) = by
     by (inr e) = let n = ap (λ (z : LineCalls). length z.versions) e in omega (arith, n)
 versions_most input requests (said.Ask r name text) it later (inl h) = let e = ap (λ (z : LineDone). length z.made.versions) h.is in omega (arith, e)
 versions_most input requests (said.Ask r name text) it later (inr (h, same)) = let e = ap (λ (z : LineDone). length z.made.versions) h.unserved in omega (arith, e)
+versions_most input requests (said.Read r name key args qs) it later (inl h, same) = let e = ap (λ (z : LineDone). length z.made.versions) h.is in omega (arith, e)
+versions_most input requests (said.Read r name key args qs) it later (inr h, same) = let e = ap (λ (z : LineDone). length z.made.versions) h.unserved in omega (arith, e)
 versions_most input requests (said.End r name) it later (inl h, same) = let e = ap (λ (z : LineDone). length z.made.versions) h.is in omega (arith, e)
 versions_most input requests (said.End r name) it later (inr h, same) = let e = ap (λ (z : LineDone). length z.made.versions) h.unserved in omega (arith, e)
 versions_most input requests (said.Publish n set) it later (inl h, same) = let e = ap (λ (z : LineDone). length z.made.versions) h.is in omega (arith, e)
@@ -128,23 +192,34 @@ some_on k it calls e = ap (λ (z : LineCalls). flat_map (λ calls. calls_on k ca
 none_most : (k n : ℕ) (it : LineDone) (made : List VersionCall) → it.made ≡ on_versions made → length (shelf_calls_of k it) ≤ n
 none_most k n it made e = let none = ap length (none_on k it made e) in omega (arith, none)
 
-shelves_most : (input : Input) (requests : List (Option Request)) (line : ScriptEntry) (it : LineDone) (later : List (Option Request)) (k : ℕ) → Does input requests line it later → length (shelf_calls_of k it) ≤ 2 * cond (is_ask line) 1 0
-unfolding is_ask
-shelves_most input requests (said.Begin r name c) it later k (inl h) = none_most k 0 it (pin_of h.asker.version h.asker.tables ∷ []) (ap (λ (z : LineDone). z.made) h.is)
-shelves_most input requests (said.Begin r name c) it later k (inr (h, same)) = by h.made_is
+shelves_most : (input : Input) (requests : List (Option Request)) (line : ScriptEntry) (it : LineDone) (later : List (Option Request)) (k begun : ℕ) → Comes input begun line → Does input requests line it later → length (shelf_calls_of k it) ≤ 2 * questions_of line
+unfolding questions_of
+shelves_most input requests (said.Begin r name c) it later k begun comes (inl h) = none_most k 0 it (pin_of h.asker.version h.asker.tables ∷ []) (ap (λ (z : LineDone). z.made) h.is)
+shelves_most input requests (said.Begin r name c) it later k begun comes (inr (h, same)) = by h.made_is
   where
     by : (it.made ≡ nothing_made) ⊎ (it.made ≡ on_versions (Refused ∷ [])) → length (shelf_calls_of k it) ≤ 0
     by (inl e) = none_most k 0 it [] e
     by (inr e) = none_most k 0 it (Refused ∷ []) e
-shelves_most input requests (said.Ask r name text) it later k (inl h) =
+shelves_most input requests (said.Ask r name text) it later k begun comes (inl h) =
     let e = ap length (some_on k it h.calls (ap (λ (z : LineDone). z.made) h.is)) in
     let most = at_most (h.calls.shard == k) h.calls.calls 2 (replies_most input.policy h.asker (effort_of input) text h.calls h.reply h.replies) in
     omega (arith, e, most)
-shelves_most input requests (said.Ask r name text) it later k (inr (h, same)) = none_most k 2 it [] (ap (λ (z : LineDone). z.made) h.unserved)
-shelves_most input requests (said.End r name) it later k (inl h, same) = none_most k 0 it [] (ap (λ (z : LineDone). z.made) h.is)
-shelves_most input requests (said.End r name) it later k (inr h, same) = none_most k 0 it [] (ap (λ (z : LineDone). z.made) h.unserved)
-shelves_most input requests (said.Publish n set) it later k (inl h, same) = none_most k 0 it (publication h.tables h.version ∷ []) (ap (λ (z : LineDone). z.made) h.is)
-shelves_most input requests (said.Publish n set) it later k (inr h, same) = none_most k 0 it [] (ap (λ (z : LineDone). z.made) h)
+shelves_most input requests (said.Ask r name text) it later k begun comes (inr (h, same)) = none_most k 2 it [] (ap (λ (z : LineDone). z.made) h.unserved)
+shelves_most input requests (said.Read r name key args qs) it later k begun comes (inl h, same) =
+    let e = ap (λ (z : LineDone). length (flat_map (λ made. calls_on k made) z.made.shelves)) h.is in
+    let most = reads_most input.policy h.asker (effort_of input) (key_queries input.policy h.key args) h.calls h.reply k h.reads in
+    let same_key : h.key ≡ comes.1.0 = same_found (sym h.key_is ∙ comes.1.1) in
+    let many = ap (λ (z : CacheKey). length z.queries) same_key in
+    let count = comes.1.3 in
+    omega (arith, e, most, many, count, length-map h.key.queries (query_with (length input.policy.params) args.values))
+  where
+    same_found : {x y : CacheKey} → Some x ≡ Some y → x ≡ y
+    same_found e = cc
+shelves_most input requests (said.Read r name key args qs) it later k begun comes (inr h, same) = none_most k (2 * qs) it [] (ap (λ (z : LineDone). z.made) h.unserved)
+shelves_most input requests (said.End r name) it later k begun comes (inl h, same) = none_most k 0 it [] (ap (λ (z : LineDone). z.made) h.is)
+shelves_most input requests (said.End r name) it later k begun comes (inr h, same) = none_most k 0 it [] (ap (λ (z : LineDone). z.made) h.unserved)
+shelves_most input requests (said.Publish n set) it later k begun comes (inl h, same) = none_most k 0 it (publication h.tables h.version ∷ []) (ap (λ (z : LineDone). z.made) h.is)
+shelves_most input requests (said.Publish n set) it later k begun comes (inr h, same) = none_most k 0 it [] (ap (λ (z : LineDone). z.made) h)
 
 -- ---- allowances
 
@@ -154,12 +229,12 @@ count_cons p line lines = sum_by-append (λ y. cond (p y) 1 0) (line ∷ []) lin
 pub can_first : (line : ScriptEntry) (lines : List ScriptEntry) (p : Passes) → CanServe (line ∷ lines) p → CanServe (line ∷ []) p
 can_first line lines p can = record {
   versions = let v = can.versions in omega (arith, v, count_cons calls_versions line lines, count_cons calls_versions line []);
-  shelves = record { each = λ k low. let s = can.shelves.each k low in omega (arith, s, count_cons is_ask line lines, count_cons is_ask line []) };
+  shelves = record { each = λ k low. let s = can.shelves.each k low in omega (arith, s, sum_by-cons questions_of line lines, sum_by-cons questions_of line []) };
 }
 
-pub can_rest : (input : Input) (requests : List (Option Request)) (line : ScriptEntry) (lines : List ScriptEntry) (it : LineDone) (later : List (Option Request)) (old new : Passes) → Does input requests line it later →
+pub can_rest : (input : Input) (requests : List (Option Request)) (line : ScriptEntry) (lines : List ScriptEntry) (it : LineDone) (later : List (Option Request)) (old new : Passes) (begun : ℕ) → Comes input begun line → Does input requests line it later →
     CanServe (line ∷ lines) old → MakesAll (it ∷ []) old new → CanServe lines new
-can_rest input requests line lines it later old new does can makes = record {
+can_rest input requests line lines it later old new begun comes does can makes = record {
   versions =
       let v = can.versions in
       let left = makes.versions.left in
@@ -170,9 +245,9 @@ can_rest input requests line lines it later old new does can makes = record {
     each = λ k low.
         let s = can.shelves.each k low in
         let left = (makes.shelves k low).left in
-        let most = shelves_most input requests line it later k does in
+        let most = shelves_most input requests line it later k begun comes does in
         let same = ap length (append-nil (shelf_calls_of k it)) in
-        omega (arith, s, left, most, same, count_cons is_ask line lines);
+        omega (arith, s, left, most, same, sum_by-cons questions_of line lines);
   };
 }
 
@@ -180,6 +255,26 @@ can_rest input requests line lines it later old new does can makes = record {
 
 pub checked_of : (input : Input) (policy : Policy) → IsInput input → policy ≡ input.policy → IsServable policy
 checked_of input policy is same = subst IsServable (sym same) (record { fits = is.policy; tables = is.tables_are; rules = is.rules })
+
+-- what holds of all elements holds of the one at a place
+at_place : {X : Type 0} (P : X → Type 0) (xs : List X) (n : ℕ) (x : X) → All P xs → slice_get xs n ≡ Some x → P x
+at_place P xs n x all e = subst P (get_or_from_slice_get xs n x x e) (All-get_or P xs n x (slice_get_within xs n x e) all)
+
+-- A read is of a key that was checked, with a value of its kind for each argument, and counts its queries.
+pub record IsReadOf (input : Input) (args : Context) (qs : ℕ) (key : CacheKey) : Type 0 where
+  pub fits : KeyFits input.policy key
+  pub arguments : ContextFits (kinds_of key.arguments) args
+  pub many : qs ≡ length key.queries
+
+pub read_of : (input : Input) → IsInput input → (begun r : ℕ) (name : List ℕ) (number : ℕ) (args : Context) (qs : ℕ) (key : CacheKey) → Comes input begun (said.Read r name number args qs) → slice_get input.policy.keys number ≡ Some key →
+    IsReadOf input args qs key
+read_of input is begun r name number args qs key comes there =
+    let same : comes.1.0 ≡ key = same_Some comes.1.0 key (sym comes.1.1 ∙ there) in
+    record {
+      fits = at_place (KeyFits input.policy) input.policy.keys number key is.policy.keys there;
+      arguments = subst (λ (z : CacheKey). ContextFits (kinds_of z.arguments) args) same comes.1.2;
+      many = comes.1.3 ∙ ap (λ (z : CacheKey). length z.queries) same;
+    }
 
 -- a request at its place
 pub there : (requests : List (Option Request)) (n : ℕ) (place : Option Request) (asker : Request) → n < length requests → place ≡ get_or requests n place → place ≡ Some asker → slice_get requests n ≡ Some (Some asker)
@@ -203,20 +298,28 @@ unfolding calls_versions
 publish_left n set p can = let v = can.versions in omega (arith, v)
 
 pub ask_room : (r : ℕ) (name text : List ℕ) (p : Passes) → CanServe (said.Ask r name text ∷ []) p → HasRoom 2 p
-unfolding is_ask
+unfolding questions_of
 ask_room r name text p can = record { each = λ k low. let s = can.shelves.each k low in omega (arith, s) }
+
+pub read_room : (r : ℕ) (name : List ℕ) (key : ℕ) (args : Context) (qs n : ℕ) (p : Passes) → CanServe (said.Read r name key args qs ∷ []) p → qs ≡ n → HasRoom (2 * n) p
+unfolding questions_of
+read_room r name key args qs n p can many = record { each = λ k low. let s = can.shelves.each k low in omega (arith, s, many) }
 
 -- the name of a request or a table set is of no account
 pub begin_named : (input : Input) (service : Service) (lane : Lane) (r : ℕ) (c : Context) (a b : List ℕ) → CanTake input service (said.Begin r a c) lane → CanTake input service (said.Begin r b c) lane
-unfolding calls_versions is_ask
+unfolding calls_versions questions_of
 begin_named input service lane r c a b h = record { comes = h.comes; askers = h.askers; of = h.of; can = record { versions = h.can.versions; shelves = h.can.shelves }; room = h.room }
 
 pub ask_named : (input : Input) (service : Service) (lane : Lane) (r : ℕ) (text a b : List ℕ) → CanTake input service (said.Ask r a text) lane → CanTake input service (said.Ask r b text) lane
-unfolding calls_versions is_ask
+unfolding calls_versions questions_of
 ask_named input service lane r text a b h = record { comes = h.comes; askers = h.askers; of = h.of; can = record { versions = h.can.versions; shelves = h.can.shelves }; room = h.room }
 
+pub read_named : (input : Input) (service : Service) (lane : Lane) (r key : ℕ) (args : Context) (qs : ℕ) (a b : List ℕ) → CanTake input service (said.Read r a key args qs) lane → CanTake input service (said.Read r b key args qs) lane
+unfolding calls_versions questions_of
+read_named input service lane r key args qs a b h = record { comes = h.comes; askers = h.askers; of = h.of; can = record { versions = h.can.versions; shelves = h.can.shelves }; room = h.room }
+
 pub publish_named : (input : Input) (service : Service) (lane : Lane) (n : ℕ) (a b : List ℕ) → CanTake input service (said.Publish n a) lane → CanTake input service (said.Publish n b) lane
-unfolding calls_versions is_ask
+unfolding calls_versions questions_of
 publish_named input service lane n a b h = record { comes = h.comes; askers = h.askers; of = h.of; can = record { versions = h.can.versions; shelves = h.can.shelves }; room = h.room }
 
 -- a table set that was read
@@ -255,6 +358,26 @@ makes_looks old new calls it is made =
           let shelves : made_on k (it ∷ []) ≡ calls_on k calls = append-nil (shelf_calls_of k it) ∙ some_on k it calls is in
           subst (MakesCalls (known_on old.cache k) (known_on new.cache k)) (sym shelves) (made.shelves k low);
     }
+
+-- the calls of several judgements, as one list
+pub makes_reads : (old new : Passes) (calls : List ShelfCalls) → KeyMakes calls old new → (it : LineDone) → it.made ≡ on_each calls → MakesAll (it ∷ []) old new
+makes_reads old new calls made it is =
+    let versions : versions_made (it ∷ []) ≡ [] = append-nil it.made.versions ∙ ap (λ (z : LineCalls). z.versions) is in
+    record {
+      versions = subst (MakesCalls (known_by old.versions) (known_by new.versions)) (sym versions) (no_calls (known_by old.versions) (known_by new.versions) (stay calls old new made));
+      shelves = λ k low.
+          let shelves : made_on k (it ∷ []) ≡ flat_map (λ made. calls_on k made) calls = append-nil (shelf_calls_of k it) ∙ ap (λ (z : LineCalls). flat_map (λ made. calls_on k made) z.shelves) is in
+          subst (MakesCalls (known_on old.cache k) (known_on new.cache k)) (sym shelves) (all k low calls old new made);
+    }
+  where
+    stay : (calls : List ShelfCalls) (old new : Passes) → KeyMakes calls old new → known_by new.versions ≡ known_by old.versions
+    stay [] old new made = made.0
+    stay (m ∷ ms) old new (between, first, rest) = stay ms between new rest ∙ first.versions
+
+    all : (k : ℕ) → k < 8 → (calls : List ShelfCalls) (old new : Passes) → KeyMakes calls old new → MakesCalls (known_on old.cache k) (known_on new.cache k) (flat_map (λ made. calls_on k made) calls)
+    all k low [] old new made = no_calls (known_on old.cache k) (known_on new.cache k) (made.1.each k low)
+    all k low (m ∷ ms) old new (between, first, rest) =
+        more_calls (known_on old.cache k) (known_on between.cache k) (known_on new.cache k) (calls_on k m) (flat_map (λ made. calls_on k made) ms) (first.shelves k low) (all k low ms between new rest)
 
 -- ---- what becomes of a line
 
@@ -313,6 +436,30 @@ module _ (input : Input) (service : Service) (old new : Lane) (of : AreOf servic
         entries = entries;
         room = room;
       })
+
+  pub takes_read : (r : ℕ) (name : List ℕ) (number : ℕ) (args : Context) (qs : ℕ) (asker : Request) (key : CacheKey) (reply : KeyReply) → slice_get old.requests.items r ≡ Some (Some asker) → slice_get input.policy.keys number ≡ Some key →
+      new.requests.items ≡ old.requests.items → ((calls : List ShelfCalls) × KeyReads input.policy asker (effort_of input) (key_queries input.policy key args) calls reply × KeyMakes calls old.passes new.passes) →
+      LetsThrough input.policy asker reply → (entry : Entry) → entry ≡ read_as r asker.version number reply → Takes input service (said.Read r name number args qs) entry old new
+  takes_read r name number args qs asker key reply at key_is later (calls, reads, makes) through entry is =
+      subst (λ z. Takes input service (said.Read r name number args qs) z old new) (sym is) (record {
+        made = on_each calls;
+        does = (inl (record { asker = asker; there = at; key = key; key_is = key_is; reply = reply; calls = calls; reads = reads; through = through; is = refl }), later);
+        makes = makes_reads old.passes new.passes calls makes (record { entry = read_as r asker.version number reply; made = on_each calls }) refl;
+        of = of;
+        entries = entries;
+        room = room;
+      })
+
+  pub takes_unread : (r : ℕ) (name : List ℕ) (number : ℕ) (args : Context) (qs : ℕ) → slice_get old.requests.items r ≡ Some None → new.requests.items ≡ old.requests.items → new.passes ≡ old.passes → (entry : Entry) → entry ≡ Memory kinds.Read (Some r) None →
+      Takes input service (said.Read r name number args qs) entry old new
+  takes_unread r name number args qs at later same entry is = record {
+    made = nothing_made;
+    does = (inr (record { there = at; unserved = (λ i. record { entry = is i; made = nothing_made }) }), later);
+    makes = subst (MakesAll (record { entry = entry; made = nothing_made } ∷ []) old.passes) (sym same) (makes_nothing old.passes (record { entry = entry; made = nothing_made }) refl);
+    of = of;
+    entries = entries;
+    room = room;
+  }
 
   pub takes_lost : (r : ℕ) (name text : List ℕ) → slice_get old.requests.items r ≡ Some None → new.requests.items ≡ old.requests.items → new.passes ≡ old.passes → (entry : Entry) → entry ≡ Memory kinds.Ask (Some r) None →
       Takes input service (said.Ask r name text) entry old new

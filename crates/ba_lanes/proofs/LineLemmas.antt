@@ -4,7 +4,7 @@ use Rattle.std.proofs.lemmas.Bool.{eqb-false, eqb-true}
 use Rattle.std.proofs.lemmas.List.{length-take, take_more}
 use Rattle.std.proofs.lemmas.List.Elements.{filter-append}
 use Rattle.std.proofs.lemmas.List.Sums.{sum_by-cons}
-use Rattle.std.specs.Prelude.{Contains, count_by}
+use Rattle.std.specs.Prelude.{Contains, count_by, sum_by}
 use Rattle.ba_lanes.specs.Lanes.{EachAfter, lines_of, of_lane, total}
 
 -- ---- numbers
@@ -100,6 +100,15 @@ module _ {L : Type 0} (lane : L → ℕ) where
   taken_short k lines i below = let short = mine_short k (take i lines) in let long = length-take i lines in omega (arith, short, long, below)
 
   -- the lines of all lanes are all lines
+  pub sums_sum : (f : L → ℕ) (w : ℕ) (lines : List L) → ((line : L) → lane line < w) → total (λ k. sum_by f (lines_of lane k lines)) w ≡ sum_by f lines
+  sums_sum f w [] low = total_zero w
+  sums_sum f w (line ∷ lines) low =
+      let c = f line in
+      let g : ℕ → ℕ = λ k. sum_by f (lines_of lane k lines) in
+      total_more g (λ k. sum_by f (lines_of lane k (line ∷ lines))) (lane line) c w (low line)
+      (ap (sum_by f) (own_line line lines) ∙ sum_by-cons f line (lines_of lane (lane line) lines)) (λ k differ. ap (sum_by f) (other_line k line lines differ))
+      ∙ ap (λ z. c + z) (sums_sum f w lines low) ∙ sym (sum_by-cons f line lines)
+
   pub counts_sum : (p : L → Bool) (w : ℕ) (lines : List L) → ((line : L) → lane line < w) → total (λ k. count_by p (lines_of lane k lines)) w ≡ count_by p lines
   counts_sum p w [] low = total_zero w
   counts_sum p w (line ∷ lines) low =

@@ -9,8 +9,8 @@ use Rattle.ba_script.specs.declared.entry.ScriptEntry.{ScriptEntry}
 use Rattle.ba_script.specs.declared.entry.ScriptEntry.TheVariants as said
 use Rattle.ba_tables.specs.TableSet.{TableSet}
 use Rattle.ba_lanes.proofs.LineLemmas as lines
-use Rattle.ba_lanes.proofs.ServeLemmas.{BeginsNot, answers_other, asked_is_no_begin, begins_not, end_is_no_begin, entry_same, memory_is_no_begin, other_begins_not, publish_is_no_begin, same_length, trace_more}
-use Rattle.ba_lanes.specs.Legal.{AreServed, IsLost, IsServed, LineDone, answer_of, asked, begins, lane_of, number_in, trace_of}
+use Rattle.ba_lanes.proofs.ServeLemmas.{BeginsNot, answers_other, asked_is_no_begin, begins_not, end_is_no_begin, entry_same, memory_is_no_begin, other_begins_not, publish_is_no_begin, read_is_no_begin, reads_quiet, same_length, trace_more}
+use Rattle.ba_lanes.specs.Legal.{AreServed, IsLost, IsServed, LineDone, answer_of, asked, begins, lane_of, number_in, read_as, trace_of}
 use Rattle.ba_lanes.specs.Serving.{lines_in}
 use Rattle.ba_lanes.specs.Working.{AreMerged}
 use Rattle.ba_lanes.specs.declared.journal.Entry.{Entry}
@@ -29,6 +29,8 @@ quiet_other input earlier (said.Begin request name context) it number (inl h) di
 quiet_other input earlier (said.Begin request name context) it number (inr h) differ = ap (answer_of number) h.entry_is
 quiet_other input earlier (said.Ask request name text) it number (inl h) differ = ap (λ (z : LineDone). answer_of number z.entry) h.is ∙ answers_other request h.asker.version number h.reply differ
 quiet_other input earlier (said.Ask request name text) it number (inr h) differ = ap (λ (z : LineDone). answer_of number z.entry) h.unserved
+quiet_other input earlier (said.Read request name key args qs) it number (inl h) differ = ap (λ (z : LineDone). answer_of number z.entry) h.is ∙ reads_quiet request h.asker.version key number h.reply
+quiet_other input earlier (said.Read request name key args qs) it number (inr h) differ = ap (λ (z : LineDone). answer_of number z.entry) h.unserved
 quiet_other input earlier (said.End request name) it number (inl h) differ = ap (λ (z : LineDone). answer_of number z.entry) h.is
 quiet_other input earlier (said.End request name) it number (inr h) differ = ap (λ (z : LineDone). answer_of number z.entry) h.unserved
 quiet_other input earlier (said.Publish n set) it number (inl h) differ = ap (λ (z : LineDone). answer_of number z.entry) h.is
@@ -43,6 +45,9 @@ begins_no_other input earlier (said.Begin request name context) it number (inr h
 begins_no_other input earlier (said.Ask request name text) it number (inl h) differ =
     begins_not it (asked request h.asker.version h.reply) number (ap (λ (z : LineDone). z.entry) h.is) (asked_is_no_begin request h.asker.version h.reply)
 begins_no_other input earlier (said.Ask request name text) it number (inr h) differ = of_memory it kinds.Ask (Some request) None number (ap (λ (z : LineDone). z.entry) h.unserved)
+begins_no_other input earlier (said.Read request name key args qs) it number (inl h) differ =
+    begins_not it (read_as request h.asker.version key h.reply) number (ap (λ (z : LineDone). z.entry) h.is) (read_is_no_begin request h.asker.version key h.reply)
+begins_no_other input earlier (said.Read request name key args qs) it number (inr h) differ = of_memory it kinds.Read (Some request) None number (ap (λ (z : LineDone). z.entry) h.unserved)
 begins_no_other input earlier (said.End request name) it number (inl h) differ = begins_not it (End request h.version) number (ap (λ (z : LineDone). z.entry) h.is) (end_is_no_begin request h.version)
 begins_no_other input earlier (said.End request name) it number (inr h) differ = of_memory it kinds.End (Some request) None number (ap (λ (z : LineDone). z.entry) h.unserved)
 begins_no_other input earlier (said.Publish n set) it number (inl h) differ = begins_not it (Publish h.version) number (ap (λ (z : LineDone). z.entry) h.is) (publish_is_no_begin h.version)
@@ -75,6 +80,22 @@ module _ (input : Input) where
     is = h.is;
   })
   lift own all (said.Ask request name text) it sees (inr h) = inr (record { lost = sees.lost request refl h.lost; unserved = h.unserved })
+  lift own all (said.Read request name key args qs) it sees (inl h) = inl (record {
+    asker = h.asker;
+    asks = record {
+      begun = sees.begun request h.asker.version h.asker.tables refl h.asks.begun;
+      context = h.asks.context;
+      trace = h.asks.trace ∙ sym (sees.traces request refl);
+    };
+    key = h.key;
+    key_is = h.key_is;
+    reply = h.reply;
+    calls = h.calls;
+    reads = h.reads;
+    through = h.through;
+    is = h.is;
+  })
+  lift own all (said.Read request name key args qs) it sees (inr h) = inr (record { lost = sees.lost request refl h.lost; unserved = h.unserved })
   lift own all (said.End request name) it sees (inl h) = inl (record { version = h.version; tables = h.tables; begun = sees.begun request h.version h.tables refl h.begun; is = h.is })
   lift own all (said.End request name) it sees (inr h) = inr (record { lost = sees.lost request refl h.lost; unserved = h.unserved })
   lift own all (said.Publish n set) it sees h = h

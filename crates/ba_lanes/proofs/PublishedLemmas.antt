@@ -19,6 +19,7 @@ unfolding is_publish
 numbered_in n [] number set after h = omega (arith, h.0)
 numbered_in n (said.Begin r name c ∷ before) number set after h = omega (arith, numbered_in n before number set after h, published_cons (said.Begin r name c) before)
 numbered_in n (said.Ask r name text ∷ before) number set after h = omega (arith, numbered_in n before number set after h, published_cons (said.Ask r name text) before)
+numbered_in n (said.Read r name key args qs ∷ before) number set after h = omega (arith, numbered_in n before number set after h, published_cons (said.Read r name key args qs) before)
 numbered_in n (said.End r name ∷ before) number set after h = omega (arith, numbered_in n before number set after h, published_cons (said.End r name) before)
 numbered_in n (said.Publish k other ∷ before) number set after h = omega (arith, numbered_in (n + 1) before number set after h.1, published_cons (said.Publish k other) before)
 

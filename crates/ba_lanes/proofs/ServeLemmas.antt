@@ -8,11 +8,13 @@ use Rattle.std.specs.Prelude.{Contains, Vec, slice_get, slice_set, vec_capacity}
 use Rattle.ba_input.specs.Inputs.{IsInput}
 use Rattle.ba_input.specs.declared.input.Input.{Input}
 use Rattle.ba_model.specs.declared.policy.Context.{Context}
-use Rattle.ba_script.specs.Scripts.{BeginFits, NumberedFrom}
+use Rattle.ba_script.specs.Scripts.{BeginFits, NumberedFrom, ReadFits}
 use Rattle.ba_script.specs.declared.entry.ScriptEntry.{ScriptEntry}
 use Rattle.ba_script.specs.declared.entry.ScriptEntry.TheVariants as said
 use Rattle.ba_session.specs.Asking.{answer_in}
 use Rattle.ba_session.specs.Passing.{AreOf}
+use Rattle.ba_session.specs.declared.reply.KeyReply.{KeyReply}
+use Rattle.ba_session.specs.declared.reply.KeyReply.TheVariants as key_reply
 use Rattle.ba_session.specs.declared.reply.Reply.{Reply}
 use Rattle.ba_session.specs.declared.reply.Reply.TheVariants as replied
 use Rattle.ba_session.specs.declared.request.Request.{Request}
@@ -22,11 +24,11 @@ use Rattle.ba_tables.specs.TableSet.{TableSet}
 use Rattle.ba_lanes.proofs.LaneLemmas.{can_first, can_rest, makes_on, makes_start}
 use Rattle.ba_lanes.proofs.LineLemmas.{other_line, own_line}
 use Rattle.ba_lanes.proofs.PublishedLemmas.{set_there}
-use Rattle.ba_lanes.specs.Legal.{AreServed, HasContext, IsLost, IsServed, Legal, LineDone, answer_of, asked, begins, context_in, contexts_of, lane_of, trace_of}
-use Rattle.ba_lanes.specs.Serving.{AreAskers, Asks, Begins, CanServe, CanTake, Comes, Does, Ends, FindsLost, HasServed, IsStanding, MakesAll, PassesOver, Stand, StandsIn, Takes, lines_in, told}
+use Rattle.ba_lanes.specs.Legal.{AreServed, HasContext, IsLost, IsServed, Legal, LineDone, answer_of, asked, begins, context_in, contexts_of, lane_of, read_as, trace_of}
+use Rattle.ba_lanes.specs.Serving.{AreAskers, Asks, Begins, CanServe, CanTake, Comes, Does, Ends, FindsLost, HasServed, IsStanding, MakesAll, PassesOver, Reads, Stand, StandsIn, Takes, lines_in, told}
 use Rattle.ba_lanes.specs.declared.lane.Lane.{Lane}
 use Rattle.ba_lanes.specs.declared.journal.Entry.{Entry}
-use Rattle.ba_lanes.specs.declared.journal.Entry.TheVariants.{Begin, Ask, End, Publish, Memory}
+use Rattle.ba_lanes.specs.declared.journal.Entry.TheVariants.{Begin, Ask, Read, End, Publish, Memory}
 use Rattle.ba_lanes.specs.declared.journal.LineKind.{LineKind}
 use Rattle.ba_lanes.specs.declared.journal.LineKind.TheVariants as kinds
 use Rattle.ba_lanes.specs.declared.journal.Journal.{Journal}
@@ -134,6 +136,12 @@ answers_other r version number (replied.Blocked query why) differ = asks_other r
 answers_other r version number (replied.Unread fault) differ = asks_other r version number (replied.Unread fault) differ
 answers_other r version number replied.NoMemory differ = refl
 
+-- a read tells no rows
+pub reads_quiet : (r version key number : ℕ) (reply : KeyReply) → answer_of number (read_as r version key reply) ≡ []
+reads_quiet r version key number (key_reply.Allowed queries by) = refl
+reads_quiet r version key number (key_reply.Blocked queries before why) = refl
+reads_quiet r version key number key_reply.NoMemory = refl
+
 -- ---- lines that begin no request, and requests that are lost
 
 -- the line begins no request with this number
@@ -168,6 +176,14 @@ asked_is_no_begin r version (replied.Answer query rows by) = ask_is_no_begin r v
 asked_is_no_begin r version (replied.Blocked query why) = ask_is_no_begin r version (replied.Blocked query why)
 asked_is_no_begin r version (replied.Unread fault) = ask_is_no_begin r version (replied.Unread fault)
 asked_is_no_begin r version replied.NoMemory = memory_is_no_begin kinds.Ask (Some r) (Some version)
+
+allowed_is_no_begin : (r version key : ℕ) (reply : KeyReply) → IsNoBegin (Read r version key reply)
+allowed_is_no_begin r version key reply number v e = cc
+
+pub read_is_no_begin : (r version key : ℕ) (reply : KeyReply) → IsNoBegin (read_as r version key reply)
+read_is_no_begin r version key (key_reply.Allowed queries by) = allowed_is_no_begin r version key (key_reply.Allowed queries by)
+read_is_no_begin r version key (key_reply.Blocked queries before why) = allowed_is_no_begin r version key (key_reply.Blocked queries before why)
+read_is_no_begin r version key key_reply.NoMemory = memory_is_no_begin kinds.Read (Some r) (Some version)
 
 pub end_is_no_begin : (r version : ℕ) → IsNoBegin (End r version)
 end_is_no_begin r version number v e = cc
@@ -312,6 +328,14 @@ module _ (input : Input) (u n : ℕ) (earlier : List LineDone) (requests : List 
   stand_on (said.Begin request name context) it later comes (inr (h, more)) = lost_on request it later h.entry_is more
   stand_on (said.Ask request name text) it later comes (inl h) = same_many it later (asked_on request text it later h)
   stand_on (said.Ask request name text) it later comes (inr (h, same)) = unchanged it later same (memory_line it kinds.Ask (Some request) None (ap (λ (z : LineDone). z.entry) h.unserved))
+  stand_on (said.Read request name key args qs) it later comes (h, same) = unchanged it later same (by h)
+    where
+      by : Reads input requests request key args it ⊎ FindsLost requests kinds.Read request it → Stand input u n (earlier ++ it ∷ []) requests
+      by (inl e) =
+          let is = ap (λ (z : LineDone). z.entry) e.is in
+          quiet_line it (λ number. ap (answer_of number) is ∙ reads_quiet request e.asker.version key number e.reply)
+          (λ number. begins_not it (read_as request e.asker.version key e.reply) number is (read_is_no_begin request e.asker.version key e.reply))
+      by (inr e) = memory_line it kinds.Read (Some request) None (ap (λ (z : LineDone). z.entry) e.unserved)
   stand_on (said.End request name) it later comes (h, same) = unchanged it later same (by h)
     where
       by : Ends requests request it ⊎ FindsLost requests kinds.End request it → Stand input u n (earlier ++ it ∷ []) requests
@@ -337,6 +361,7 @@ module _ (input : Input) (u n : ℕ) (earlier : List LineDone) (requests : List 
       at number place (in_front there) = stand.places number place there
       at number place (is_last e same) = let many = stand.many in subst (StandsIn input u earlier number) (sym same) (λ mine. stand.unbegun number (omega (arith, many, e)))
   skipped_on (said.Ask request name text) comes = subst (λ z. Stand input u z earlier (requests ++ [])) (omega arith) (subst (Stand input u n earlier) (sym (append-nil requests)) stand)
+  skipped_on (said.Read request name key args qs) comes = subst (λ z. Stand input u z earlier (requests ++ [])) (omega arith) (subst (Stand input u n earlier) (sym (append-nil requests)) stand)
   skipped_on (said.End request name) comes = subst (λ z. Stand input u z earlier (requests ++ [])) (omega arith) (subst (Stand input u n earlier) (sym (append-nil requests)) stand)
   skipped_on (said.Publish number set) comes = subst (λ z. Stand input u z earlier (requests ++ [])) (omega arith) (subst (Stand input u n earlier) (sym (append-nil requests)) stand)
 
@@ -348,6 +373,10 @@ module _ (input : Input) (u n : ℕ) (earlier : List LineDone) (requests : List 
       let standing : IsStanding input earlier request h.asker = stand.places request (Some h.asker) h.there in
       inl (record { asker = h.asker; asks = standing.asks; reply = h.reply; calls = h.calls; replies = h.replies; is = h.is })
   served_is (said.Ask request name text) it later mine (inr (h, same)) = inr (record { lost = stand.places request None h.there mine; unserved = h.unserved })
+  served_is (said.Read request name key args qs) it later mine (inl h, same) =
+      let standing : IsStanding input earlier request h.asker = stand.places request (Some h.asker) h.there in
+      inl (record { asker = h.asker; asks = standing.asks; key = h.key; key_is = h.key_is; reply = h.reply; calls = h.calls; reads = h.reads; through = h.through; is = h.is })
+  served_is (said.Read request name key args qs) it later mine (inr h, same) = inr (record { lost = stand.places request None h.there mine; unserved = h.unserved })
   served_is (said.End request name) it later mine (inl h, same) =
       let standing : IsStanding input earlier request h.asker = stand.places request (Some h.asker) h.there in
       inl (record { version = h.asker.version; tables = h.asker.tables; begun = standing.asks.begun; is = h.is })
@@ -365,6 +394,7 @@ numbered_front n [] it after h = subst (λ z. NumberedFrom z (it ∷ after)) (om
 numbered_front n (said.Begin r name c ∷ before) it after h =
     subst (λ z. NumberedFrom z (it ∷ after)) (omega arith) (numbered_front (n + 1) before it after h.1)
 numbered_front n (said.Ask r name text ∷ before) it after h = numbered_front n before it after h.1
+numbered_front n (said.Read r name key args qs ∷ before) it after h = numbered_front n before it after h.1
 numbered_front n (said.End r name ∷ before) it after h = numbered_front n before it after h.1
 numbered_front n (said.Publish number set ∷ before) it after h = numbered_front n before it after h
 
@@ -407,6 +437,11 @@ comes_at input i (said.Ask r name text) is below at =
     let parts = split_at its i (said.Ask r name text) below at in
     let low = (numbered_front 0 (take i its) (said.Ask r name text) (drop (i + 1) its) (subst (NumberedFrom 0) parts is.script.numbered)).0 in
     omega (arith, low)
+comes_at input i (said.Read r name key args qs) is below at =
+    let its = input.script.entries in
+    let parts = split_at its i (said.Read r name key args qs) below at in
+    let low = (numbered_front 0 (take i its) (said.Read r name key args qs) (drop (i + 1) its) (subst (NumberedFrom 0) parts is.script.numbered)).0 in
+    (omega (arith, low), subst (ReadFits input.policy.keys) (sym at) (is.script.reads i (said.Read r name key args qs) below))
 comes_at input i (said.End r name) is below at =
     let its = input.script.entries in
     let parts = split_at its i (said.End r name) below at in
@@ -534,7 +569,7 @@ module _ (input : Input) (service : Service) (first : Passes) (u : ℕ) (items :
                 (subst (Stand input u (n + length (context_in line)) (served ++ it ∷ [])) (sym items_same) stand);
           };
           can = subst (CanServe (lines_in input u (drop (i + 1) items))) (sym passes)
-              (can_rest input lane.requests.items line (lines_in input u (drop (i + 1) items)) it between.requests.items lane.passes between.passes takes.does (subst (λ z. CanServe z lane.passes) own_rest after.can) takes.makes);
+              (can_rest input lane.requests.items line (lines_in input u (drop (i + 1) items)) it between.requests.items lane.passes between.passes n comes takes.does (subst (λ z. CanServe z lane.passes) own_rest after.can) takes.makes);
           requests_room =
               let room = after.requests_room in
               let many = after.has.stand.many in

@@ -13,12 +13,17 @@ use Rattle.ba_input.specs.Inputs.{IsInput, effort_of}
 use Rattle.ba_input.specs.declared.input.Input.{Input}
 use Rattle.ba_kernel.specs.SearchStates as kernel
 use Rattle.ba_model.specs.Limits.{shard_count}
+use Rattle.ba_model.specs.declared.policy.CacheKey.{CacheKey}
 use Rattle.ba_model.specs.declared.policy.Context.{Context}
 use Rattle.ba_script.specs.declared.entry.Script.{Script}
 use Rattle.ba_script.specs.declared.entry.ScriptEntry.{ScriptEntry}
 use Rattle.ba_script.specs.declared.entry.ScriptEntry.TheVariants as said
 use Rattle.ba_session.specs.Asking.{Replies, answer_in}
+use Rattle.ba_session.specs.KeyReads.{KeyReads, LetsThrough}
+use Rattle.ba_keys.specs.Literals.{key_queries}
 use Rattle.ba_session.specs.Passing.{ShelfCalls, calls_on}
+use Rattle.ba_session.specs.declared.reply.KeyReply.{KeyReply}
+use Rattle.ba_session.specs.declared.reply.KeyReply.TheVariants as key_reply
 use Rattle.ba_session.specs.declared.reply.Reply.{Reply}
 use Rattle.ba_session.specs.declared.reply.Reply.TheVariants as reply
 use Rattle.ba_session.specs.declared.request.Request.{Request}
@@ -27,7 +32,7 @@ use Rattle.ba_tables.specs.TableSet.{TableSet}
 use Rattle.ba_template.specs.Shapes.{shard_of}
 use Rattle.ba_lanes.specs.Lanes.{AreOfLanes, EachAfter, of_lane}
 use Rattle.ba_lanes.specs.declared.journal.Entry.{Entry}
-use Rattle.ba_lanes.specs.declared.journal.Entry.TheVariants.{Begin, Ask, End, Publish, Memory}
+use Rattle.ba_lanes.specs.declared.journal.Entry.TheVariants.{Begin, Ask, Read, End, Publish, Memory}
 use Rattle.ba_lanes.specs.declared.journal.Journal.{Journal}
 use Rattle.ba_lanes.specs.declared.journal.LineKind.{LineKind}
 use Rattle.ba_lanes.specs.declared.journal.LineKind.TheVariants as kinds
@@ -41,6 +46,7 @@ use Rattle.ba_versions.specs.declared.call.VersionCall.TheVariants.{Pin, Refused
 abbrev pub context_in : ScriptEntry → List Context
 context_in (said.Begin request name context) = context ∷ []
 context_in (said.Ask request name text) = []
+context_in (said.Read request name key arguments questions) = []
 context_in (said.End request name) = []
 context_in (said.Publish number set) = []
 
@@ -58,6 +64,7 @@ HasContext script number context = slice_get (contexts_of script.entries) number
 abbrev pub number_in : ScriptEntry → ℕ
 number_in (said.Begin request name context) = request
 number_in (said.Ask request name text) = request
+number_in (said.Read request name key arguments questions) = request
 number_in (said.End request name) = request
 number_in (said.Publish number set) = number
 
@@ -79,6 +86,10 @@ on_versions calls = record { versions = calls; shelves = [] }
 abbrev pub on_shelves : ShelfCalls → LineCalls
 on_shelves calls = record { versions = []; shelves = calls ∷ [] }
 
+-- of a line that judges several queries, one after the other
+abbrev pub on_each : List ShelfCalls → LineCalls
+on_each calls = record { versions = []; shelves = calls }
+
 -- a line that makes no call
 abbrev pub no_calls : LineCalls
 no_calls = on_versions []
@@ -98,6 +109,7 @@ pub record LineDone : Type 0 where
 abbrev pub answer_of : ℕ → Entry → List TraceEntry
 answer_of number (Begin request version) = []
 answer_of number (Ask request version it) = if request == number then answer_in it else []
+answer_of number (Read request version key it) = []
 answer_of number (End request version) = []
 answer_of number (Publish version) = []
 answer_of number (Memory kind request version) = []
@@ -171,6 +183,31 @@ pub record IsAsk (input : Input) (earlier : List LineDone) (request : ℕ) (text
   pub replies : Replies input.policy asker (effort_of input) text calls reply
   pub is : it ≡ record { entry = asked request asker.version reply; made = on_shelves calls }
 
+-- The entry of a read by the request, over its version, of the key with this number, with this
+-- reply. Want of memory is told as that of any other line.
+abbrev pub read_as : ℕ → ℕ → ℕ → KeyReply → Entry
+read_as request version key (key_reply.Allowed queries by) =
+    Read request version key (key_reply.Allowed queries by)
+read_as request version key (key_reply.Blocked queries before why) =
+    Read request version key (key_reply.Blocked queries before why)
+read_as request version key key_reply.NoMemory = Memory kinds.Read (Some request) (Some version)
+
+-- A read by the request of the key with this number, with the reply that it has after earlier
+-- lines: its queries are the key's, with the line's arguments as literals. Where it is let through,
+-- each of them has one answer in all databases that the user can't tell from the request's tables.
+pub record IsRead (input : Input) (earlier : List LineDone) (request number : ℕ)
+    (arguments : Context) (it : LineDone) : Type 0 where
+  pub asker : Request
+  pub asks : IsRequest input earlier request asker
+  pub key : CacheKey
+  pub key_is : slice_get input.policy.keys number ≡ Some key
+  pub reply : KeyReply
+  pub calls : List ShelfCalls
+  pub reads : KeyReads input.policy asker (effort_of input)
+      (key_queries input.policy key arguments) calls reply
+  pub through : LetsThrough input.policy asker reply
+  pub is : it ≡ record { entry = read_as request asker.version number reply; made = on_each calls }
+
 -- the request, which had begun, ends over its version
 pub record IsEnd (earlier : List LineDone) (request : ℕ) (it : LineDone) : Type 0 where
   pub version : ℕ
@@ -194,6 +231,8 @@ IsServed input earlier (said.Begin request name context) it =
     IsBegun request it ⊎ IsUnbegun request it
 IsServed input earlier (said.Ask request name text) it =
     IsAsk input earlier request text it ⊎ IsOfLost earlier kinds.Ask request it
+IsServed input earlier (said.Read request name key arguments questions) it =
+    IsRead input earlier request key arguments it ⊎ IsOfLost earlier kinds.Read request it
 IsServed input earlier (said.End request name) it =
     IsEnd earlier request it ⊎ IsOfLost earlier kinds.End request it
 IsServed input earlier (said.Publish number set) it =
@@ -268,8 +307,8 @@ pub record HasShelves (input : Input) (loads : List Load) (served : List LineDon
 -- One entry for each line of the script, in order, and the calls of these lines are the histories
 -- of the versions and of the shelves, each lane's in the order of its lines, with the number of its
 -- pass. In front of them each shelf has the admits of the loaded templates of its shard. A request
--- begins over the version that was the last one, with an empty trace, and each of its questions has
--- the reply of the request as it then stands, under the input's effort.
+-- begins over the version that was the last one, with an empty trace, and each of its questions and
+-- reads has the reply of the request as it then stands, under the input's effort.
 pub record Legal (input : Input) (journal : Journal) : Type 0 where
   pub input_fits : IsInput input
   pub loads : List Load
@@ -280,11 +319,12 @@ pub record Legal (input : Input) (journal : Journal) : Type 0 where
   pub versions : HasVersions input served journal.histories
   pub shelves : HasShelves input loads served journal.histories
 
--- Whether the entry is want of memory. A question that has this reply is such an entry too (see
--- `asked`), so the reply of an `Ask` is none in a legal journal.
+-- Whether the entry is want of memory. A question or a read that has this reply is such an entry
+-- too (see `asked` and `read_as`), so the reply of an `Ask` or a `Read` is none in a legal journal.
 unfoldable pub is_memory : Entry → Bool
 is_memory (Begin request version) = false
 is_memory (Ask request version it) = false
+is_memory (Read request version key it) = false
 is_memory (End request version) = false
 is_memory (Publish version) = false
 is_memory (Memory kind request version) = true

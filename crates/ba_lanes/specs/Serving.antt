@@ -1,22 +1,27 @@
 -- What is known between the lines of a script.
 use mathlib.Core.List.{IsPrefix}
-use Rattle.std.specs.Prelude.{◌≡◌, ◌⊎◌, ℕ, ◌+◌, ◌*◌, ◌%◌, ◌<◌, ◌≤◌, List, [], ◌∷◌, ◌++◌, Bool, true, false, Option, Some, None, count_by, length, map, slice_get, slice_set, vec_capacity}
+use Rattle.std.specs.Prelude.{◌≡◌, ◌⊎◌, ℕ, ◌+◌, ◌*◌, ◌%◌, ◌<◌, ◌≤◌, List, [], ◌∷◌, ◌++◌, Bool, true, false, Option, Some, None, count_by, length, map, sum_by, slice_get, slice_set, vec_capacity}
 use Rattle.ba_cache.specs.Passes.{known_on}
 use Rattle.ba_input.specs.Inputs.{IsInput, effort_of}
 use Rattle.ba_input.specs.declared.input.Input.{Input}
 use Rattle.ba_model.specs.Fit.{ContextFits, kinds_of}
 use Rattle.ba_model.specs.Limits.{shard_count}
+use Rattle.ba_model.specs.declared.policy.CacheKey.{CacheKey}
 use Rattle.ba_model.specs.declared.policy.Context.{Context}
+use Rattle.ba_script.specs.Scripts.{ReadFits}
 use Rattle.ba_script.specs.declared.entry.ScriptEntry.{ScriptEntry}
 use Rattle.ba_script.specs.declared.entry.ScriptEntry.TheVariants as said
 use Rattle.ba_session.specs.Asking.{IsRequestOf, IsBegun, Replies, answer_in}
+use Rattle.ba_session.specs.KeyReads.{KeyReads, LetsThrough}
+use Rattle.ba_keys.specs.Literals.{key_queries}
 use Rattle.ba_session.specs.Passing.{AreOf, HasRoom, MakesCalls, ShelfCalls}
+use Rattle.ba_session.specs.declared.reply.KeyReply.{KeyReply}
 use Rattle.ba_session.specs.declared.reply.Reply.{Reply}
 use Rattle.ba_session.specs.declared.request.Request.{Request}
 use Rattle.ba_session.specs.declared.service.Passes.{Passes}
 use Rattle.ba_session.specs.declared.service.Service.{Service}
 use Rattle.ba_lanes.specs.Lanes.{HasJoined, HasSplit, SeesFirst, lines_of, total}
-use Rattle.ba_lanes.specs.Legal.{AreLoads, AreServed, HasContext, IsLost, IsPublish, IsRequest, IsUnbegun, IsUnserved, LineCalls, LineDone, Load, admits_on, asked, begins, context_in, contexts_of, lane_of, made_on, no_calls, on_shelves, trace_of, versions_made}
+use Rattle.ba_lanes.specs.Legal.{AreLoads, AreServed, HasContext, IsLost, IsPublish, IsRequest, IsUnbegun, IsUnserved, LineCalls, LineDone, Load, admits_on, asked, begins, context_in, contexts_of, lane_of, made_on, no_calls, on_each, on_shelves, read_as, trace_of, versions_made}
 use Rattle.ba_lanes.specs.declared.lane.Lane.{Lane}
 use Rattle.ba_lanes.specs.declared.share.Share.{Share}
 use Rattle.ba_lanes.specs.declared.journal.Entry.{Entry}
@@ -33,21 +38,24 @@ use Rattle.ba_turn.specs.declared.known.Known.{Known}
 unfoldable pub calls_versions : ScriptEntry → Bool
 calls_versions (said.Begin request name context) = true
 calls_versions (said.Ask request name text) = false
+calls_versions (said.Read request name key arguments questions) = false
 calls_versions (said.End request name) = false
 calls_versions (said.Publish number set) = true
 
-unfoldable pub is_ask : ScriptEntry → Bool
-is_ask (said.Begin request name context) = false
-is_ask (said.Ask request name text) = true
-is_ask (said.End request name) = false
-is_ask (said.Publish number set) = false
+-- how many queries the line judges at most
+unfoldable pub questions_of : ScriptEntry → ℕ
+questions_of (said.Begin request name context) = 0
+questions_of (said.Ask request name text) = 1
+questions_of (said.Read request name key arguments questions) = questions
+questions_of (said.End request name) = 0
+questions_of (said.Publish number set) = 0
 
--- on the versions, and on a shelf: a look and an admit for each question
+-- on the versions, and on a shelf: a look and an admit for each query that is judged
 abbrev pub version_calls : List ScriptEntry → ℕ
 version_calls lines = count_by calls_versions lines
 
 abbrev pub shelf_calls : List ScriptEntry → ℕ
-shelf_calls lines = 2 * count_by is_ask lines
+shelf_calls lines = 2 * sum_by questions_of lines
 
 -- the passes have what these lines may take
 pub record CanServe (lines : List ScriptEntry) (p : Passes) : Type 0 where
@@ -115,6 +123,20 @@ pub record Asks (input : Input) (requests : List (Option Request)) (request : �
   pub may : IsRequestOf input.policy (told asker reply)
   pub later_is : later ≡ slice_set requests request (Some (told asker reply))
 
+-- a read gets a reply, and no request changes
+pub record Reads (input : Input) (requests : List (Option Request)) (request number : ℕ)
+    (arguments : Context) (it : LineDone) : Type 0 where
+  pub asker : Request
+  pub there : slice_get requests request ≡ Some (Some asker)
+  pub key : CacheKey
+  pub key_is : slice_get input.policy.keys number ≡ Some key
+  pub reply : KeyReply
+  pub calls : List ShelfCalls
+  pub reads : KeyReads input.policy asker (effort_of input)
+      (key_queries input.policy key arguments) calls reply
+  pub through : LetsThrough input.policy asker reply
+  pub is : it ≡ record { entry = read_as request asker.version number reply; made = on_each calls }
+
 -- the request, which has begun, ends
 pub record Ends (requests : List (Option Request)) (request : ℕ) (it : LineDone) : Type 0 where
   pub asker : Request
@@ -139,6 +161,9 @@ Does input requests (said.Begin request name context) it later =
 Does input requests (said.Ask request name text) it later =
     Asks input requests request text it later ⊎
     (FindsLost requests kinds.Ask request it × (later ≡ requests))
+Does input requests (said.Read request name key arguments questions) it later =
+    (Reads input requests request key arguments it ⊎ FindsLost requests kinds.Read request it) ×
+    (later ≡ requests)
 Does input requests (said.End request name) it later =
     EndsOrLost requests request it × (later ≡ requests)
 Does input requests (said.Publish number set) it later =
@@ -151,6 +176,9 @@ Comes input begun (said.Begin request name context) =
     (request ≡ begun) × ContextFits (kinds_of input.policy.params) context ×
     HasContext input.script request context
 Comes input begun (said.Ask request name text) = request < begun
+Comes input begun (said.Read request name key arguments questions) =
+    (request < begun) ×
+    ReadFits input.policy.keys (said.Read request name key arguments questions)
 Comes input begun (said.End request name) = request < begun
 Comes input begun (said.Publish number set) = number < length input.published
 

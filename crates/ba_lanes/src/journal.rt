@@ -3,7 +3,7 @@ ghost use Rattle.std.specs.Prelude.{◌≡◌, ◌++◌, IfOk, OnOk};
 ghost use Rattle.ba_lanes.specs.Legal.{left_templates};
 
 use ba_model::{List, Shared};
-use ba_session::{Closed, Reply};
+use ba_session::{Closed, KeyReply, Reply};
 use ba_template::Template;
 use std::alloc::{AllocError, Global};
 
@@ -14,6 +14,8 @@ pub enum LineKind {
     Begin,
     /// A request asks.
     Ask,
+    /// A request reads a cache key.
+    Read,
     /// A request ends.
     End,
     /// A table set is published.
@@ -34,6 +36,14 @@ pub enum Entry {
         request: u32,
         version: u32,
         reply: Reply,
+    },
+    /// A read by the request, over its version, of the policy's cache key with this number, and its
+    /// reply: that it is let through, or a block. Want of memory is an entry of its own.
+    Read {
+        request: u32,
+        version: u32,
+        key: usize,
+        reply: KeyReply,
     },
     /// The request ends, over its version.
     End {

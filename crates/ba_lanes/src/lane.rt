@@ -4,7 +4,7 @@ ghost use Rattle.std.specs.Prelude.{◌≡◌, ℕ, ◌+◌, ◌<◌, ◌≤◌,
 ghost use Rattle.ba_input.specs.Inputs.{IsInput};
 ghost use Rattle.ba_script.specs.declared.entry.ScriptEntry.TheVariants as line;
 ghost use Rattle.ba_session.specs.Passing.{AreOf};
-ghost use Rattle.ba_lanes.specs.Legal.{asked, context_in, contexts_of, no_calls};
+ghost use Rattle.ba_lanes.specs.Legal.{asked, context_in, contexts_of, no_calls, read_as};
 ghost use Rattle.ba_lanes.specs.declared.journal.Entry.TheVariants as entry;
 ghost use Rattle.ba_lanes.specs.Serving.{CanServe, CanTake, EndsOrLost, HasServed, PassesOver, Takes, lines_in};
 
@@ -14,7 +14,7 @@ use ba_input::Input;
 use ba_model::{Context, Duplicate, Str};
 use ba_outside::Gate;
 use ba_script::ScriptEntry;
-use ba_session::{Passes, Reply, Request, Service};
+use ba_session::{KeyReply, Passes, Reply, Request, Service};
 use ba_settle::Settle;
 use std::alloc::{AllocError, Global};
 use std::sync::Wait;
@@ -42,6 +42,26 @@ fn asked(request: u32, version: u32, reply: Reply) -> Entry
         reply => Entry::Ask {
             request,
             version,
+            reply,
+        },
+    }
+}
+
+/// The entry of a read by the request, over its version, of the key with this number, with this
+/// reply.
+fn read_as(request: u32, version: u32, key: usize, reply: KeyReply) -> Entry
+    ensures { result ≡ read_as request version key reply }
+{
+    match reply {
+        KeyReply::NoMemory => Entry::Memory {
+            kind: LineKind::Read,
+            request: Some(request),
+            version: Some(version),
+        },
+        reply => Entry::Read {
+            request,
+            version,
+            key,
             reply,
         },
     }
@@ -156,6 +176,46 @@ impl Lane {
         }
     }
 
+    /// The request reads the policy's cache key with this number.
+    fn read<R: Wait, S: Settle>(
+        &mut self,
+        rt: &R,
+        alloc: Global,
+        input: &Input,
+        service: &Service,
+        settle: &S,
+        request: u32,
+        key: usize,
+        arguments: &Context,
+    ) -> Entry
+        requires input { IsInput input.now }
+        requires policy { service.now.policy ≡ input.now.policy }
+        requires orders { S.orders settle.now ≡ input.now.orders }
+        requires can { (name : List ℕ) → (questions : ℕ) × CanTake input.now service.now
+            (line.Read request name key arguments.now questions) self.old }
+        ensures { (name : List ℕ) (questions : ℕ) → Takes input.now service.now
+            (line.Read request name key arguments.now questions) result self.old self.new }
+    {
+        let budget = input.budget;
+        let cache_key = input.policy.keys.get(key);
+        match &mut self.requests[request as usize] {
+            Some(asker) => {
+                let reply = asker.read(
+                    rt,
+                    alloc,
+                    service,
+                    &mut self.passes,
+                    settle,
+                    budget,
+                    cache_key,
+                    arguments,
+                );
+                read_as(request, asker.version, key, reply)
+            }
+            None => unserved(LineKind::Read, request),
+        }
+    }
+
     /// The request ends.
     fn end(&self, number: u32) -> Entry
         requires known { number < length self.now.requests.items }
@@ -224,6 +284,12 @@ impl Lane {
             ScriptEntry::Ask { request, query, .. } => {
                 self.ask(rt, alloc, input, service, settle, *request, query)
             }
+            ScriptEntry::Read {
+                request,
+                key,
+                arguments,
+                ..
+            } => self.read(rt, alloc, input, service, settle, *request, *key, arguments),
             ScriptEntry::End { request, .. } => self.end(*request),
             ScriptEntry::Publish { number, .. } => {
                 self.publish(rt, alloc, input, service, *number)

@@ -40,7 +40,8 @@ pub fn serve<R: Threads + Wait + Sync, G: Gate + Sync, S: Settle + Sync>(
     requires orders { S.orders settle.now ≡ input.now.orders }
     ensures legal { IfOk result (λ journal. Legal input.now journal) }
     // Each answer is its query's answer in the request's tables and in every database that the user
-    // can't tell from them, and each block has its reason.
+    // can't tell from them. So is each query's answer there behind a read that is let through. Each
+    // block of a question or a read has its reason.
     ensures headline { IfOk result (λ journal. Headline input.now journal) }
     ensures many { IfOk result (λ journal.
         length journal.entries ≡ length input.now.script.entries) }

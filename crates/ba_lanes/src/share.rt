@@ -1,10 +1,10 @@
 //! Which lines each lane carries, and what they take.
-ghost use Rattle.std.specs.Prelude.{◌≡◌, ◌+◌, ◌*◌, ◌<◌, ◌≤◌, length, cond};
+ghost use Rattle.std.specs.Prelude.{◌≡◌, ◌+◌, ◌*◌, ◌<◌, ◌≤◌, All, length, cond};
 ghost use Rattle.ba_input.specs.Inputs.{IsInput};
-ghost use Rattle.ba_model.specs.Limits.{most_lines};
+ghost use Rattle.ba_model.specs.Limits.{most_asks, most_lines};
 ghost use Rattle.ba_lanes.specs.Legal.{contexts_of, lane_of};
 ghost use Rattle.ba_lanes.specs.Lanes.{lines_of};
-ghost use Rattle.ba_lanes.specs.Serving.{IsShare, calls_versions, is_ask, shelf_calls, version_calls};
+ghost use Rattle.ba_lanes.specs.Serving.{IsShare, calls_versions, questions_of, shelf_calls, version_calls};
 
 use ba_input::Input;
 use ba_script::{Script, ScriptEntry};
@@ -26,6 +26,7 @@ pub(crate) fn lane_of(workers: u32, said: &ScriptEntry) -> u32
     let number = match said {
         ScriptEntry::Begin { request, .. }
         | ScriptEntry::Ask { request, .. }
+        | ScriptEntry::Read { request, .. }
         | ScriptEntry::End { request, .. } => *request,
         ScriptEntry::Publish { number, .. } => *number,
     };
@@ -38,42 +39,45 @@ fn calls_versions(said: &ScriptEntry) -> bool
 {
     match said {
         ScriptEntry::Begin { .. } | ScriptEntry::Publish { .. } => true,
-        ScriptEntry::Ask { .. } | ScriptEntry::End { .. } => false,
+        ScriptEntry::Ask { .. } | ScriptEntry::Read { .. } | ScriptEntry::End { .. } => false,
     }
 }
 
-#[tactic(auto, unfolding(crate::specs::Serving::is_ask))]
-fn is_ask(said: &ScriptEntry) -> bool
-    ensures { result ≡ is_ask said.now }
+/// How many queries the line judges at most.
+#[tactic(auto, unfolding(crate::specs::Serving::questions_of))]
+fn questions_of(said: &ScriptEntry) -> u32
+    ensures { result ≡ questions_of said.now }
 {
     match said {
-        ScriptEntry::Ask { .. } => true,
-        ScriptEntry::Begin { .. } | ScriptEntry::End { .. } | ScriptEntry::Publish { .. } => false,
+        ScriptEntry::Ask { .. } => 1,
+        ScriptEntry::Read { questions, .. } => *questions,
+        ScriptEntry::Begin { .. } | ScriptEntry::End { .. } | ScriptEntry::Publish { .. } => 0,
     }
 }
 
 impl Share {
-    /// One line more: a question may look and admit.
+    /// One line more: each of its queries may look and admit.
     fn add(&mut self, said: &ScriptEntry)
         requires lines { self.old.lines < most_lines }
-        requires calls { (self.old.calls ≤ self.old.lines) × (self.old.looks ≤ 2 * self.old.lines) }
+        requires few { questions_of said.now ≤ most_asks }
+        requires calls { (self.old.calls ≤ self.old.lines)
+            × (self.old.looks ≤ 2 * most_asks * self.old.lines) }
         ensures lines { self.new.lines ≡ self.old.lines + 1 }
         ensures calls { self.new.calls ≡ self.old.calls + cond (calls_versions said.now) 1 0 }
-        ensures looks { self.new.looks ≡ self.old.looks + 2 * cond (is_ask said.now) 1 0 }
+        ensures looks { self.new.looks ≡ self.old.looks + 2 * questions_of said.now }
     {
         self.lines += 1;
         if calls_versions(said) {
             self.calls += 1;
         }
-        if is_ask(said) {
-            self.looks += 2;
-        }
+        self.looks += 2 * questions_of(said);
     }
 
     /// What the lane of that number takes, of so many.
     pub(crate) fn of(script: &Script, workers: u32, number: u32) -> Share
         requires some { 0 < workers }
         requires few { length script.now.entries ≤ most_lines }
+        requires asks { All (λ said. questions_of said ≤ most_asks) script.now.entries }
         ensures { IsShare (lines_of (lane_of workers) number script.now.entries) result }
     {
         let mut share = Share {
@@ -92,6 +96,7 @@ impl Share {
     /// What all lines take.
     pub(crate) fn whole(script: &Script) -> Share
         requires few { length script.now.entries ≤ most_lines }
+        requires asks { All (λ said. questions_of said ≤ most_asks) script.now.entries }
         ensures { IsShare script.now.entries result }
     {
         let mut share = Share {

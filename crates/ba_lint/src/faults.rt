@@ -90,12 +90,20 @@ impl Named {
         Named::new("VIEW", name, false, wants_param)
     }
 
+    // The cache key that has a fault.
+    fn of_key(name: Str, fault: &ReadQueryFault) -> Option<Named> {
+        let wants_param = matches!(fault, ReadQueryFault::UnknownParam);
+        Named::new("KEY", name, false, wants_param)
+    }
+
     // The statement that a fault names, if it names one.
     fn of_fault(fault: PolicyFault) -> Option<Named> {
         match fault {
             PolicyFault::View(name, fault) => Named::of_view(name, &fault),
             PolicyFault::DuplicateView(name) => Named::new("VIEW", name, true, false),
             PolicyFault::DuplicateParam(name) => Named::new("PARAM", name, true, false),
+            PolicyFault::DuplicateKey(name) => Named::new("KEY", name, true, false),
+            PolicyFault::Key(name, fault) => Named::of_key(name, &fault),
             PolicyFault::Lex(_fault) => None,
             PolicyFault::Syntax => None,
             PolicyFault::TooMany {
@@ -158,23 +166,27 @@ fn is_word(token: &Token, name: &str) -> bool {
 }
 
 // Where a fault stands: at the second of two statements of one name, where its hint says so, or at
-// the name of its view.
+// the name of its view or key.
 fn mark_of(
     alloc: Global,
     bytes: &[u8],
     hint: &Hint,
     named: &Option<Named>,
 ) -> Result<Option<Mark>, AllocError> {
-    if !is_second(named)
-        && let Spot::Marked(mark) = hint.spot
-    {
-        return Ok(Some(mark));
-    }
-    let Some(named) = named else {
-        return Ok(None);
+    let own = match named {
+        Some(named) => {
+            let tokens = tokens_in(alloc, bytes)?;
+            named.mark(tokens.as_slice(), bytes.len())
+        }
+        None => None,
     };
-    let tokens = tokens_in(alloc, bytes)?;
-    Ok(named.mark(tokens.as_slice(), bytes.len()))
+    if is_second(named) && own.is_some() {
+        return Ok(own);
+    }
+    match hint.spot {
+        Spot::Marked(mark) => Ok(Some(mark)),
+        _ => Ok(own),
+    }
 }
 
 // Whether a fault is that a parameter isn't there which a lost statement names, and may declare.

@@ -1,29 +1,18 @@
--- The calls of a question on a shelf, and the number of the template that they add.
-use Rattle.std.proofs.Common.{◌≡◌, ◌≢◌, ◌∙◌, ℕ, zero, suc, ◌<◌, ◌==◌, ◌&&◌, true, false, cond, List, [], ◌∷◌, ◌++◌, Contains, ap, arith, get_or, inl, inr, length, refl, subst, sym, ◌⊎◌}
+-- The numbers of templates that calls on shelves added, and these calls one by one.
+use Rattle.std.proofs.Common.{◌≡◌, ◌≢◌, ◌∙◌, ℕ, zero, suc, ◌<◌, ◌==◌, ◌&&◌, Bool, true, false, cond, List, [], ◌∷◌, ◌++◌, All, Contains, ap, ap₂, arith, flat_map, inl, inr, length, map, refl, subst, sym, ◌⊎◌}
 use Rattle.std.proofs.lemmas.Bool.Decides.{eqb_tells}
+use Rattle.std.proofs.lemmas.List.Concat.{flat_map-append}
+use Rattle.std.proofs.lemmas.List.Elements.{All-append, All-cons, All-head, All-nil, All-tail}
 use Rattle.std.proofs.lemmas.List.Sums.{sum_by-cons}
 use Rattle.ba_machine_laws.specs.Shelves.{templates_of}
 use Rattle.ba_cache.specs.Rows.{count_added, is_added}
 use Rattle.ba_cache.specs.declared.call.Admit.TheVariants.{Added, Known}
-use Rattle.ba_cache.specs.declared.call.Kept.{Kept}
 use Rattle.ba_cache.specs.declared.call.ShelfCall.{ShelfCall}
 use Rattle.ba_cache.specs.declared.call.ShelfCall.TheVariants as calls
-use Rattle.ba_kernel.specs.SearchStates as kernel
-use Rattle.ba_model.specs.declared.policy.Policy.{Policy}
-use Rattle.ba_model.specs.declared.query.Query.{Query}
 use Rattle.ba_machine_laws.proofs.BetweenLemmas.{same_true}
-use Rattle.ba_machine_laws.proofs.HistoryLemmas.{on_its_shelf}
-use Rattle.ba_machine_laws.specs.OneWorker.{Addition, added_with, kept_as, place_among}
-use Rattle.ba_session.specs.Asking.{IsKept, IsLook, Replies, look_at, question}
-use Rattle.ba_session.specs.Passing.{ShelfCalls, on_shelf}
-use Rattle.ba_session.specs.declared.reply.By.TheVariants as by
-use Rattle.ba_session.specs.declared.reply.Keeping.{Keeping}
-use Rattle.ba_session.specs.declared.reply.Keeping.TheVariants as keeping
-use Rattle.ba_session.specs.declared.reply.Reply.{Reply}
-use Rattle.ba_session.specs.declared.reply.Reply.TheVariants.{Answer, Blocked, Unread, NoMemory}
-use Rattle.ba_session.specs.declared.request.Request.{Request}
-use Rattle.ba_settle.specs.Settling.{Effort}
-use Rattle.ba_template.specs.Shapes.{shape_of, shard_of}
+use Rattle.ba_machine_laws.proofs.HistoryLemmas.{OnShelf}
+use Rattle.ba_machine_laws.specs.OneWorker.{Addition, addition_by, additions_of, place_among}
+use Rattle.ba_session.specs.Passing.{ShelfCalls, calls_on}
 
 -- ---- as many as are counted
 
@@ -71,69 +60,63 @@ place_new (it ∷ its) rest shard id fresh =
     by (inl a) (inr b) = λ i. cond (a.0 i && b.0 i) zero (suc (place_among (its ++ (shard, id) ∷ rest) shard id))
     by (inr a) b = λ i. cond (a.0 i && (it.1 == id)) zero (suc (place_among (its ++ (shard, id) ∷ rest) shard id))
 
--- ---- calls of a question
+-- ---- calls, one by one
 
--- none of the calls is a look
-abbrev pub HasNoLook : List ShelfCall → Type 0
-HasNoLook made = (query : Query) (found : List Kept) → Contains made (look_at query found) → ⊥
+-- a call, with the shard of its shelf
+abbrev pub Made : Type 0
+Made = ℕ × ShelfCall
 
--- The calls are none; or a first one and others, which are no looks and add no template; or a first one and the admission of the template that the reply tells of.
-pub data QuestionCalls (shard : ℕ) (made : List ShelfCall) (reply : Reply) : Type 0 where
-  none : made ≡ [] → added_with reply ≡ [] → QuestionCalls shard made reply
-  looks : (first : ShelfCall) (rest : List ShelfCall) → shard < 8 → made ≡ first ∷ rest → templates_of made ≡ [] → added_with reply ≡ [] → HasNoLook rest → QuestionCalls shard made reply
-  adds : (query : Query) (found : List Kept) (template : kernel.Proof) (id : ℕ) → shard < 8 → made ≡ look_at query found ∷ calls.Admit (record { marker = record {}; value = template }) (Added id) ∷ [] →
-      added_with reply ≡ (shard, id) ∷ [] → QuestionCalls shard made reply
+-- the template that it added
+abbrev pub addition_at : Made → List Addition
+addition_at c = addition_by c.0 c.1
 
-no_look_in_none : HasNoLook []
-no_look_in_none query found h = let low = h.1 in omega (arith, low)
+-- the call, if it is one on the shelf k
+abbrev pub call_on : ℕ → Made → List ShelfCall
+call_on k c = cond (c.0 == k) (c.1 ∷ []) []
 
-admit_no_look : (query : Query) (found : List Kept) (c : ShelfCall) (k : ℕ) → (c ≡ look_at query found → ⊥) → k < length (c ∷ []) → get_or (c ∷ []) k (look_at query found) ≡ look_at query found → ⊥
-admit_no_look query found c zero differ low e = differ e
-admit_no_look query found c (suc k) differ low e = omega (arith, low)
+abbrev pub calls_at : ℕ → List Made → List ShelfCall
+calls_at k cs = flat_map (call_on k) cs
 
-pub one_no_look : (c : ShelfCall) → ((query : Query) (found : List Kept) → c ≡ look_at query found → ⊥) → HasNoLook (c ∷ [])
-one_no_look c differ query found h = admit_no_look query found c h.0 (differ query found) h.1 h.2
+abbrev pub each_of : ShelfCalls → List Made
+each_of made = map (λ c. (made.shard, c)) made.calls
 
-calls_in : ShelfCalls → List ShelfCall
-calls_in made = made.calls
+abbrev pub flat : List ShelfCalls → List Made
+flat its = flat_map each_of its
 
-module _ (made : ShelfCalls) (query : Query) (found : List Kept) where
-  kept_calls : (proof : kernel.Proof) (it : Keeping) (rest : List ShelfCall) (reply : Reply) → IsKept proof it rest → made ≡ on_shelf query (look_at query found ∷ rest) →
-      added_with reply ≡ kept_as (shard_of (shape_of [] query)) it → QuestionCalls made.shard made.calls reply
-  kept_calls proof (keeping.Stored (Added id)) rest reply h e told =
-      let shard : made.shard ≡ shard_of (shape_of [] query) = ap (λ (z : ShelfCalls). z.shard) e in
-      adds query found h.0 id (on_its_shelf query made (look_at query found ∷ rest) e) (ap (λ (z : ShelfCalls). z.calls) e ∙ ap (λ z. look_at query found ∷ z) h.2)
-      (told ∙ ap (λ n. (n, id) ∷ []) (sym shard))
-  kept_calls proof (keeping.Stored (Known id)) rest reply h e told =
-      let calls_are = ap (λ (z : ShelfCalls). z.calls) e ∙ ap (λ z. look_at query found ∷ z) h.2 in
-      looks (look_at query found) _ (on_its_shelf query made (look_at query found ∷ rest) e) calls_are (ap templates_of calls_are) told (one_no_look _ (λ q f d. cc))
-  kept_calls proof keeping.Wide rest reply h e told =
-      let calls_are = ap (λ (z : ShelfCalls). z.calls) e ∙ ap (λ z. look_at query found ∷ z) h.1 in
-      looks (look_at query found) [] (on_its_shelf query made (look_at query found ∷ rest) e) calls_are (ap templates_of calls_are) told no_look_in_none
-  kept_calls proof keeping.NoMemory rest reply (inl h) e told =
-      let calls_are = ap (λ (z : ShelfCalls). z.calls) e ∙ ap (λ z. look_at query found ∷ z) h in
-      looks (look_at query found) [] (on_its_shelf query made (look_at query found ∷ rest) e) calls_are (ap templates_of calls_are) told no_look_in_none
-  kept_calls proof keeping.NoMemory rest reply (inr h) e told =
-      let calls_are = ap (λ (z : ShelfCalls). z.calls) e ∙ ap (λ z. look_at query found ∷ z) h in
-      looks (look_at query found) (calls.Refused ∷ []) (on_its_shelf query made (look_at query found ∷ rest) e) calls_are (ap templates_of calls_are) told (one_no_look calls.Refused (λ q f d. cc))
+-- each is on one of the eight shelves
+abbrev pub IsLow : Made → Type 0
+IsLow c = c.0 < 8
 
-  look_calls : (reply : Reply) → made ≡ on_shelf query (look_at query found ∷ []) → added_with reply ≡ [] → QuestionCalls made.shard made.calls reply
-  look_calls reply e told =
-      let calls_are = ap (λ (z : ShelfCalls). z.calls) e in
-      looks (look_at query found) [] (on_its_shelf query made (look_at query found ∷ []) e) calls_are (ap templates_of calls_are) told no_look_in_none
+additions_each : (shard : ℕ) (made : List ShelfCall) → flat_map (addition_by shard) made ≡ flat_map addition_at (map (λ c. (shard, c)) made)
+additions_each shard [] = refl
+additions_each shard (c ∷ made) = ap (λ z. addition_by shard c ++ z) (additions_each shard made)
 
-interrupted : (made : ShelfCalls) (query : Query) (tried : List ShelfCall) → IsLook query tried → made ≡ on_shelf query tried → QuestionCalls made.shard made.calls NoMemory
-interrupted made query tried (inl refused) e =
-    let calls_are = ap (λ (z : ShelfCalls). z.calls) e ∙ refused in
-    looks calls.Refused [] (on_its_shelf query made tried e) calls_are (ap templates_of calls_are) refl no_look_in_none
-interrupted made query tried (inr (found, is)) e = look_calls made query found NoMemory (e ∙ ap (on_shelf query) is) refl
+pub additions_flat : (its : List ShelfCalls) → additions_of its ≡ flat_map addition_at (flat its)
+additions_flat [] = refl
+additions_flat (m ∷ its) = ap₂ (λ a b. a ++ b) (additions_each m.shard m.calls) (additions_flat its) ∙ sym (flat_map-append addition_at (each_of m) (flat its))
 
-pub question_calls : (policy : Policy) (asker : Request) (effort : Effort) (text : List ℕ) (made : ShelfCalls) (reply : Reply) → Replies policy asker effort text made reply → QuestionCalls made.shard made.calls reply
-question_calls policy asker effort text made (Answer query rows (by.Cover cover)) h = none h.ground.1 refl
-question_calls policy asker effort text made (Answer query rows (by.Template shard id template it)) h = look_calls made query h.ground.found (Answer query rows (by.Template shard id template it)) h.ground.made_is refl
-question_calls policy asker effort text made (Answer query rows (by.Proof steps it)) h =
-    kept_calls made query h.ground.found (record { problem = question policy asker query; steps = steps }) it h.ground.rest (Answer query rows (by.Proof steps it)) h.ground.kept_is h.ground.made_is refl
-question_calls policy asker effort text made (Blocked query why) h = look_calls made query h.denied.found (Blocked query why) h.denied.made_is refl
-question_calls policy asker effort text made (Unread fault) h = none h.1 refl
-question_calls policy asker effort text made NoMemory (inl h) = none h refl
-question_calls policy asker effort text made NoMemory (inr (query, reads, h)) = interrupted made query h.calls h.look h.made_is
+on_each : (t : Bool) (made : List ShelfCall) → cond t made [] ≡ flat_map (λ c. cond t (c ∷ []) []) made
+on_each true [] = refl
+on_each true (c ∷ made) = ap (λ z. c ∷ z) (on_each true made)
+on_each false [] = refl
+on_each false (c ∷ made) = on_each false made
+
+on_shard : (k shard : ℕ) (made : List ShelfCall) → flat_map (λ c. cond (shard == k) (c ∷ []) []) made ≡ calls_at k (map (λ c. (shard, c)) made)
+on_shard k shard [] = refl
+on_shard k shard (c ∷ made) = ap (λ z. cond (shard == k) (c ∷ []) [] ++ z) (on_shard k shard made)
+
+pub on_flat : (k : ℕ) (its : List ShelfCalls) → flat_map (λ made. calls_on k made) its ≡ calls_at k (flat its)
+on_flat k [] = refl
+on_flat k (m ∷ its) = ap₂ (λ a b. a ++ b) (on_each (m.shard == k) m.calls ∙ on_shard k m.shard m.calls) (on_flat k its) ∙ sym (flat_map-append (call_on k) (each_of m) (flat its))
+
+low_each : (shard : ℕ) (made : List ShelfCall) → shard < 8 → All IsLow (map (λ c. (shard, c)) made)
+low_each shard [] low = All-nil IsLow
+low_each shard (c ∷ made) low = All-cons IsLow (shard, c) (map (λ c. (shard, c)) made) low (low_each shard made low)
+
+low_of : (m : ShelfCalls) → OnShelf m → All IsLow (each_of m)
+low_of m (inl none) = subst (λ z. All IsLow (map (λ c. (m.shard, c)) z)) (sym none) (All-nil IsLow)
+low_of m (inr low) = low_each m.shard m.calls low
+
+pub low_flat : (its : List ShelfCalls) → All OnShelf its → All IsLow (flat its)
+low_flat [] all = All-nil IsLow
+low_flat (m ∷ its) all = All-append IsLow (each_of m) (flat its) (low_of m (All-head OnShelf m its all)) (low_flat its (All-tail OnShelf m its all))

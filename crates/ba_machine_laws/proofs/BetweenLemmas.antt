@@ -9,8 +9,8 @@ use Rattle.ba_core.specs.State.{State, opened_at}
 use Rattle.ba_core.specs.declared.opened.Opened.{Opened}
 use Rattle.ba_comply.specs.declared.trace.TraceEntry.{TraceEntry}
 use Rattle.ba_input.specs.declared.input.Input.{Input}
-use Rattle.ba_lanes.proofs.ServeLemmas.{answers_other, asked_is_no_begin, memory_is_no_begin}
-use Rattle.ba_lanes.specs.Legal.{IsRequest, LineDone, answer_of, asked, begins, context_in, contexts_of, trace_of}
+use Rattle.ba_lanes.proofs.ServeLemmas.{answers_other, asked_is_no_begin, memory_is_no_begin, read_is_no_begin, reads_quiet}
+use Rattle.ba_lanes.specs.Legal.{IsRequest, LineDone, answer_of, asked, begins, context_in, contexts_of, read_as, trace_of}
 use Rattle.ba_lanes.specs.declared.journal.Entry.{Entry}
 use Rattle.ba_lanes.specs.declared.journal.Entry.TheVariants.{Begin, End, Publish, Memory}
 use Rattle.ba_lanes.specs.declared.journal.LineKind.{LineKind}
@@ -19,6 +19,7 @@ use Rattle.ba_machine_laws.proofs.ScriptLemmas.{IsOpenAfter, Opens, WasOpen, nex
 use Rattle.ba_script.specs.Scripts.{NumberedFrom}
 use Rattle.ba_script.specs.declared.entry.ScriptEntry.{ScriptEntry}
 use Rattle.ba_session.specs.Asking.{IsRequestOf, answer_in}
+use Rattle.ba_session.specs.declared.reply.KeyReply.{KeyReply}
 use Rattle.ba_session.specs.declared.reply.Reply.{Reply}
 use Rattle.ba_session.specs.declared.reply.Reply.TheVariants as replied
 use Rattle.ba_session.specs.declared.request.Request.{Request}
@@ -96,6 +97,10 @@ quiet_reply k r version reply it is none = quiet_by k it (asked r version reply)
     told (replied.Blocked query why) e = by [] (r == k) e
     told (replied.Unread fault) e = by [] (r == k) e
     told replied.NoMemory e = refl
+
+-- a read answers no rows
+pub quiet_read : (k r version key : ℕ) (reply : KeyReply) (it : LineDone) → it.entry ≡ read_as r version key reply → IsQuiet k it
+quiet_read k r version key reply it is = quiet_by k it (read_as r version key reply) is (reads_quiet r version key k reply) (λ v e. read_is_no_begin r version key reply k v e)
 
 pub quiet_end : (k r version : ℕ) (it : LineDone) → it.entry ≡ End r version → IsQuiet k it
 quiet_end k r version it is = quiet_by k it (End r version) is refl (λ v e. apart r version k v e)

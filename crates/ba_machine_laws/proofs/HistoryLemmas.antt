@@ -30,9 +30,13 @@ use Rattle.ba_lanes.specs.Legal.{Legal, LineDone, admits_on, done_in, lane_of, p
 use Rattle.ba_lanes.specs.declared.journal.Journal.{Journal}
 use Rattle.ba_model.specs.declared.query.Query.{Query}
 use Rattle.ba_machine_laws.specs.Journals.{IsMachineOf, number_by_shelf, templates_in}
-use Rattle.ba_session.specs.Asking.{Replies, look_at}
+use Rattle.ba_session.specs.Asking.{HasNoVerdict, IsGround, Replies, look_at}
+use Rattle.ba_session.specs.KeyReads.{AreGrounds, KeyReads}
 use Rattle.ba_session.specs.Passing.{ShelfCalls, calls_on, on_shelf}
+use Rattle.ba_session.specs.declared.reply.By.{By}
 use Rattle.ba_session.specs.declared.reply.By.TheVariants as by
+use Rattle.ba_session.specs.declared.reply.KeyReply.{KeyReply}
+use Rattle.ba_session.specs.declared.reply.KeyReply.TheVariants as key_reply
 use Rattle.ba_session.specs.declared.reply.Reply.{Reply}
 use Rattle.ba_session.specs.declared.reply.Reply.TheVariants.{Answer, Blocked, Unread, NoMemory}
 use Rattle.ba_session.specs.declared.request.Request.{Request}
@@ -105,7 +109,7 @@ sound_of (shelves.next {made = made} {old = old} {new = new} it before step) =
     added (calls.Admit t (Known id)) s = All-nil Sound
     added calls.Refused s = All-nil Sound
 
-all_flat : {X A : Type 0} (P : A → Type 0) (f : X → List A) (xs : List X) → All (λ x. All P (f x)) xs → All P (flat_map f xs)
+pub all_flat : {X A : Type 0} (P : A → Type 0) (f : X → List A) (xs : List X) → All (λ x. All P (f x)) xs → All P (flat_map f xs)
 all_flat P f [] all = All-nil P
 all_flat P f (x ∷ xs) all =
     All-append P (f x) (flat_map f xs) (All-head (λ x. All P (f x)) x xs all) (all_flat P f xs (All-tail (λ x. All P (f x)) x xs all))
@@ -227,15 +231,56 @@ all_legal input journal legal =
 
 -- ---- templates that are found
 
--- the calls of a question stand on a shelf, if it makes any
-pub on_some_shelf : (policy : Policy) (asker : Request) (effort : Effort) (text : List ℕ) (made : ShelfCalls) (reply : Reply) → Replies policy asker effort text made reply → (made.calls ≡ []) ⊎ (made.shard < 8)
-on_some_shelf policy asker effort text made (Answer query rows (by.Cover cover)) h = inl h.ground.1
-on_some_shelf policy asker effort text made (Answer query rows (by.Template shard id template found)) h = inr (on_its_shelf query made _ h.ground.made_is)
-on_some_shelf policy asker effort text made (Answer query rows (by.Proof steps keeping)) h = inr (on_its_shelf query made _ h.ground.made_is)
+-- the calls stand on a shelf, if there are any
+abbrev pub OnShelf : ShelfCalls → Type 0
+OnShelf made = (made.calls ≡ []) ⊎ (made.shard < 8)
+
+ground_on_shelf : (policy : Policy) (asker : Request) (effort : Effort) (query : Query) (basis : By) (made : ShelfCalls) → IsGround policy asker effort query basis made → OnShelf made
+ground_on_shelf policy asker effort query (by.Cover cover) made h = inl h.1
+ground_on_shelf policy asker effort query (by.Template shard id template found) made h = inr (on_its_shelf query made _ h.made_is)
+ground_on_shelf policy asker effort query (by.Proof steps keeping) made h = inr (on_its_shelf query made _ h.made_is)
+
+verdict_on_shelf : (policy : Policy) (asker : Request) (query : Query) (made : ShelfCalls) → HasNoVerdict policy asker query made → OnShelf made
+verdict_on_shelf policy asker query made (inl none) = inl none
+verdict_on_shelf policy asker query made (inr h) = inr (on_its_shelf query made _ h.made_is)
+
+-- those of a question
+pub on_some_shelf : (policy : Policy) (asker : Request) (effort : Effort) (text : List ℕ) (made : ShelfCalls) (reply : Reply) → Replies policy asker effort text made reply → OnShelf made
+on_some_shelf policy asker effort text made (Answer query rows basis) h = ground_on_shelf policy asker effort query basis made h.ground
 on_some_shelf policy asker effort text made (Blocked query why) h = inr (on_its_shelf query made _ h.denied.made_is)
 on_some_shelf policy asker effort text made (Unread fault) h = inl h.1
 on_some_shelf policy asker effort text made NoMemory (inl none) = inl none
 on_some_shelf policy asker effort text made NoMemory (inr (query, reads, h)) = inr (on_its_shelf query made _ h.made_is)
+
+grounds_on_shelves : (policy : Policy) (asker : Request) (effort : Effort) (queries : List Query) (bases : List By) (made : List ShelfCalls) → AreGrounds policy asker effort queries bases made → All OnShelf made
+grounds_on_shelves policy asker effort [] [] [] h = All-nil OnShelf
+grounds_on_shelves policy asker effort [] [] (m ∷ made) h = absurd h
+grounds_on_shelves policy asker effort [] (b ∷ bases) made h = absurd h
+grounds_on_shelves policy asker effort (q ∷ queries) [] made h = absurd h
+grounds_on_shelves policy asker effort (q ∷ queries) (b ∷ bases) [] h = absurd h
+grounds_on_shelves policy asker effort (q ∷ queries) (b ∷ bases) (m ∷ made) h =
+    All-cons OnShelf m made (ground_on_shelf policy asker effort q b m h.0.0) (grounds_on_shelves policy asker effort queries bases made h.1)
+
+-- and those of a read
+pub reads_on_shelves : (policy : Policy) (asker : Request) (effort : Effort) (queries : List Query) (made : List ShelfCalls) (reply : KeyReply) → KeyReads policy asker effort queries made reply → All OnShelf made
+reads_on_shelves policy asker effort queries made (key_reply.Allowed its bases) h = grounds_on_shelves policy asker effort queries bases made h.1
+reads_on_shelves policy asker effort queries made (key_reply.Blocked its before why) h =
+    let it = h.1 in
+    subst (All OnShelf) (sym it.made_is)
+    (All-push OnShelf it.earlier it.last (grounds_on_shelves policy asker effort it.front before it.earlier it.grounds) (inr (on_its_shelf it.query it.last _ it.denied.made_is)))
+reads_on_shelves policy asker effort queries made key_reply.NoMemory h = at (grounds_on_shelves policy asker effort h.front h.bases h.earlier h.grounds) h.last
+  where
+    at : All OnShelf h.earlier → (made ≡ h.earlier)
+        ⊎ ((query : Query) × (more : List Query) × (h.back ≡ query ∷ more) × (calls : ShelfCalls) × HasNoVerdict policy asker query calls × (made ≡ h.earlier ++ calls ∷ [])) → All OnShelf made
+    at all (inl is) = subst (All OnShelf) (sym is) all
+    at all (inr (query, more, back, last, none, is)) = subst (All OnShelf) (sym is) (All-push OnShelf h.earlier last all (verdict_on_shelf policy asker query last none))
+
+-- an element of one part is one of all parts
+pub flat_among : {X A : Type 0} (f : X → List A) (xs : List X) (x : X) (a : A) → Contains xs x → Contains (f x) a → Contains (flat_map f xs) a
+flat_among f xs x a among inside = All-contains (λ y. (b : _) → Contains (f y) b → Contains (flat_map f xs) b) xs x (each_part f (Contains (flat_map f xs)) xs (λ b there. there)) among a inside
+
+pub on_itself : (made : ShelfCalls) → calls_on made.shard made ≡ made.calls
+on_itself made = ap (λ t. cond t made.calls []) (same_number made.shard)
 
 -- the shelves of a journal, each with a legal history, beside a machine for it
 module _ (input : Input) (journal : Journal) (s : State) (machine : IsMachineOf input journal s)
@@ -247,13 +292,12 @@ module _ (input : Input) (journal : Journal) (s : State) (machine : IsMachineOf 
   pub all_sound : AreSound s
   all_sound = subst (All Sound) (sym machine.templates_are) (all_flat Sound added_on its (All-weaker IsLegal (λ it. All Sound (added_on it)) (λ it h. sound_of h) its legal))
 
-  -- what the calls of a line for its query found was admitted to it
-  pub all_found : FoundIsAdmitted → (it : LineDone) → IsMade journal it → (calls : ShelfCalls) → ((k : ℕ) → shelf_calls_of k it ≡ calls_on k calls) → (calls.calls ≡ []) ⊎ (calls.shard < 8) →
-      HasFound (number_by_shelf journal) s calls
-  all_found law it made calls are (inl none) = record {
-    each = λ query found k look among. absurd (nothing (look_at query found) (subst (λ z. Contains z (look_at query found)) none look));
+  -- what the calls of a line on a shelf found was admitted to it
+  found_by : FoundIsAdmitted → (it : LineDone) → IsMade journal it → (calls : ShelfCalls) → Contains it.made.shelves calls → OnShelf calls → HasFound (number_by_shelf journal) s calls
+  found_by law it made calls among (inl none) = record {
+    each = λ query found k look inside. absurd (nothing (look_at query found) (subst (λ z. Contains z (look_at query found)) none look));
   }
-  all_found law it made calls are (inr below) =
+  found_by law it made calls among (inr below) =
       let d = some_shelf its eight in
       let k = calls.shard in
       let one = get_or its k d in
@@ -262,4 +306,9 @@ module _ (input : Input) (journal : Journal) (s : State) (machine : IsMachineOf 
         each = λ n template there. ap (λ z. slice_get z (length (templates_in (take k its)) + n)) machine.templates_are ∙ in_part added_on its k n d template low there;
       } in
       law (λ shard. length (templates_in (take shard its))) s calls (shelf.calls_of one.0) (shelf.rows_of one.0) (All-get_or IsLegal its k d low legal) has
-      (λ c there. made.shelves k d below c (subst (λ z. Contains z c) (sym (are k)) (subst (λ t. Contains (cond t calls.calls []) c) (sym (same_number k)) there)))
+      (λ c there. made.shelves k d below c (flat_among (λ (z : ShelfCalls). calls_on k z) it.made.shelves calls c among (subst (λ z. Contains z c) (sym (on_itself calls)) there)))
+
+  pub all_found : FoundIsAdmitted → (it : LineDone) → IsMade journal it → All OnShelf it.made.shelves → All (HasFound (number_by_shelf journal) s) it.made.shelves
+  all_found law it made on =
+      All-weaker (Contains it.made.shelves) (HasFound (number_by_shelf journal) s)
+      (λ calls among. found_by law it made calls among (All-contains OnShelf it.made.shelves calls on among)) it.made.shelves (All-contains_itself it.made.shelves)

@@ -1,19 +1,21 @@
 -- Two ideal journals of inputs that ask the same have the same verdicts.
-use Rattle.std.proofs.Common.{◌≡◌, ◌∙◌, ℕ, ◌==◌, cond, false, List, [], ◌∷◌, ◌++◌, All, Err, Ok, Result, Some, ap, ap₂, append-nil, flat_map, map, refl, subst, sym}
+use Rattle.std.proofs.Common.{◌≡◌, ◌∙◌, ℕ, suc, ◌==◌, cond, false, List, [], ◌∷◌, ◌++◌, All, Contains, Err, Ok, Result, Some, ap, ap₂, append-nil, arith, flat_map, length, map, refl, slice_get, subst, sym}
 use Rattle.std.proofs.lemmas.List.Concat.{flat_map-append}
+use Rattle.std.proofs.lemmas.List.Elements.{All-contains, All-head, All-tail, Contains-append_right}
 use Rattle.std.proofs.lemmas.Option.{same_Some}
 use Rattle.ba_comply.specs.declared.trace.TraceEntry.{TraceEntry}
 use Rattle.ba_input.specs.declared.input.Input.{Input}
 use Rattle.ba_lanes.proofs.IdealLemmas.{legal_is_ideal}
-use Rattle.ba_lanes.specs.Ideal.{AsksByEquations, IsIdeal, IsIdealAsk, IsIdealAt, IsIdealReply, StandsOverInput, UsesEquations}
+use Rattle.ba_lanes.specs.Ideal.{AsksByEquations, IsIdeal, IsIdealAsk, IsIdealAt, IsIdealKeyRead, IsIdealKeyReply, IsIdealReadBlock, IsIdealReply, StandsOverInput, UsesEquations}
 use Rattle.ba_lanes.specs.Lanes.{EachAfter}
 use Rattle.ba_lanes.specs.Legal.{HasContext, answer_of, contexts_of, trace_in}
 use Rattle.ba_lanes.specs.declared.journal.Entry.{Entry}
 use Rattle.ba_lanes.specs.declared.journal.Entry.TheVariants.{Ask}
 use Rattle.ba_lanes.specs.declared.journal.Journal.{Journal}
-use Rattle.ba_machine_laws.specs.Ideals.{AskTheSame, HaveSameVerdicts, IdealsAgree, LegalIsIdeal, RunsAgree, answered, unread, verdict_at, verdict_of}
+use Rattle.ba_machine_laws.specs.Ideals.{AskTheSame, HaveSameVerdicts, IdealsAgree, LegalIsIdeal, RunsAgree, answered, blocked_at, unread, verdict_at, verdict_of, verdict_of_read}
 use Rattle.ba_model.specs.Equations.{PolicyIsOfEquations}
 use Rattle.ba_model.specs.Meaning.{AnswerIsUnique, IsAnswer}
+use Rattle.ba_model.specs.declared.policy.CacheKey.{CacheKey}
 use Rattle.ba_model.specs.declared.policy.Context.{Context}
 use Rattle.ba_model.specs.declared.policy.Policy.{Policy}
 use Rattle.ba_model.specs.declared.query.Query.{Query}
@@ -23,6 +25,9 @@ use Rattle.ba_script.specs.declared.entry.Script.{Script}
 use Rattle.ba_script.specs.declared.entry.ScriptEntry.{ScriptEntry}
 use Rattle.ba_script.specs.declared.entry.ScriptEntry.TheVariants as said
 use Rattle.ba_session.specs.Asking.{HasFault, IsCompliant, Reads, answer_in}
+use Rattle.ba_keys.specs.Literals.{key_queries}
+use Rattle.ba_session.specs.declared.reply.KeyReply.{KeyReply}
+use Rattle.ba_session.specs.declared.reply.KeyReply.TheVariants as key_reply
 use Rattle.ba_session.specs.declared.reply.Reply.{Reply}
 use Rattle.ba_session.specs.declared.reply.Reply.TheVariants.{Answer, Blocked, Unread, NoMemory}
 use Rattle.ba_session.specs.declared.reply.Why.TheVariants.{Refuted, Spent, Stuck}
@@ -83,6 +88,52 @@ module _ (unique : AnswerIsUnique) (policy : Policy) (asker : Request) (text : L
   alike (Unread fault) NoMemory h k = absurd k
   alike NoMemory it h k = absurd h
 
+-- ---- reads
+
+head_is : {A : Type 0} (x y : A) (xs ys : List A) → x ∷ xs ≡ y ∷ ys → x ≡ y
+head_is x y xs ys e = cc
+
+tail_is : {A : Type 0} (x y : A) (xs ys : List A) → x ∷ xs ≡ y ∷ ys → xs ≡ ys
+tail_is x y xs ys e = cc
+
+-- there is one first element of which something doesn't hold
+one_first : {X : Type 0} (P : X → Type 0) (front other : List X) (x y : X) (back rest : List X) → front ++ x ∷ back ≡ other ++ y ∷ rest → All P front → ¬ (P x) → All P other → ¬ (P y) → length front ≡ length other
+one_first P [] [] x y back rest e a fails b lacks = refl
+one_first P [] (z ∷ other) x y back rest e a fails b lacks = absurd (fails (subst P (sym (head_is x z back (other ++ y ∷ rest) e)) (All-head P z other b)))
+one_first P (z ∷ front) [] x y back rest e a fails b lacks = absurd (lacks (subst P (head_is z y (front ++ x ∷ back) rest e) (All-head P z front a)))
+one_first P (z ∷ front) (w ∷ other) x y back rest e a fails b lacks =
+    ap suc (one_first P front other x y back rest (tail_is z w (front ++ x ∷ back) (other ++ y ∷ rest) e) (All-tail P z front a) fails (All-tail P w other b) lacks)
+
+module _ (policy : Policy) (asker : Request) (queries : List Query) where
+  abbrev Strong : Query → Type 0
+  Strong = IsCompliant policy asker
+
+  -- all are compliant, or one isn't
+  not_both : (its : List Query) (index : ℕ) → All Strong queries → IsIdealReadBlock policy asker queries its index → ⊥
+  not_both its index all h =
+      let among : Contains queries h.query = subst (λ z. Contains z h.query) (sym h.parts) (Contains-append_right h.front (h.query ∷ h.back) h.query (0, omega arith, refl)) in
+      h.uncompliant (All-contains Strong queries h.query all among)
+
+  one_index : (its others : List Query) (index other : ℕ) → IsIdealReadBlock policy asker queries its index → IsIdealReadBlock policy asker queries others other → index ≡ other
+  one_index its others index other h k =
+      h.index_is ∙ one_first Strong h.front k.front h.query k.query h.back k.back (sym h.parts ∙ k.parts) h.compliant h.uncompliant k.compliant k.uncompliant ∙ sym k.index_is
+
+  alike_read : (reply it : KeyReply) → IsIdealKeyReply policy asker queries reply → IsIdealKeyReply policy asker queries it → verdict_of_read reply ≡ verdict_of_read it
+  alike_read (key_reply.Allowed its by) (key_reply.Allowed others bases) h k = refl
+  alike_read (key_reply.Allowed its by) (key_reply.Blocked others before (Refuted pair)) h k = absurd (not_both others (length before) h.compliant k)
+  alike_read (key_reply.Allowed its by) (key_reply.Blocked others before (Spent steps)) h k = absurd k
+  alike_read (key_reply.Allowed its by) (key_reply.Blocked others before (Stuck leaf clause)) h k = absurd k
+  alike_read (key_reply.Allowed its by) key_reply.NoMemory h k = absurd k
+  alike_read (key_reply.Blocked its before (Refuted pair)) (key_reply.Allowed others bases) h k = absurd (not_both its (length before) k.compliant h)
+  alike_read (key_reply.Blocked its before (Refuted pair)) (key_reply.Blocked others earlier (Refuted pairs)) h k =
+      ap (λ n. Some (blocked_at n)) (one_index its others (length before) (length earlier) h k)
+  alike_read (key_reply.Blocked its before (Refuted pair)) (key_reply.Blocked others earlier (Spent steps)) h k = absurd k
+  alike_read (key_reply.Blocked its before (Refuted pair)) (key_reply.Blocked others earlier (Stuck leaf clause)) h k = absurd k
+  alike_read (key_reply.Blocked its before (Refuted pair)) key_reply.NoMemory h k = absurd k
+  alike_read (key_reply.Blocked its before (Spent steps)) it h k = absurd h
+  alike_read (key_reply.Blocked its before (Stuck leaf clause)) it h k = absurd h
+  alike_read key_reply.NoMemory it h k = absurd h
+
 -- ---- lines
 
 module _ (unique : AnswerIsUnique) (input other : Input) (same : AskTheSame input other) where
@@ -117,10 +168,25 @@ module _ (unique : AnswerIsUnique) (input other : Input) (same : AskTheSame inpu
         answers = λ number. ap (answer_of number) h.is ∙ ap (λ z. cond (request == number) z []) are.answer ∙ sym (ap (answer_of number) k.is);
       }
 
+  same_read : (request : ℕ) (number : ℕ) (args : Context) (past gone : List Entry) → trace_in request past ≡ trace_in request gone → (entry it : Entry) → IsIdealKeyRead input past request number args entry →
+      IsIdealKeyRead other gone request number args it → AreSame entry it
+  same_read request number args past gone told entry it h k =
+      let asker = same_asker request past gone told h.asker k.asker h.stands k.stands in
+      let key : h.key ≡ k.key = same_Some h.key k.key (sym h.key_is ∙ ap (λ (p : Policy). slice_get p.keys number) same.policy ∙ k.key_is) in
+      let second : IsIdealKeyReply input.policy h.asker (key_queries input.policy h.key args) k.reply =
+      subst (λ (z : CacheKey). IsIdealKeyReply input.policy h.asker (key_queries input.policy z args) k.reply) (sym key)
+      (subst (λ (z : Request). IsIdealKeyReply input.policy z (key_queries input.policy k.key args) k.reply) (sym asker)
+      (subst (λ (z : Policy). IsIdealKeyReply z k.asker (key_queries z k.key args) k.reply) (sym same.policy) k.ideal)) in
+      record {
+        verdict = ap verdict_at h.is ∙ alike_read input.policy h.asker (key_queries input.policy h.key args) h.reply k.reply h.ideal second ∙ sym (ap verdict_at k.is);
+        answers = λ n. ap (answer_of n) h.is ∙ sym (ap (answer_of n) k.is);
+      }
+
   same_line : (line : ScriptEntry) (past gone : List Entry) → ((number : ℕ) → trace_in number past ≡ trace_in number gone) → (entry it : Entry) → IsIdealAt input past line entry → IsIdealAt other gone line it →
       AreSame entry it
   same_line (said.Begin r name context) past gone told entry it h k = one_entry entry it (h ∙ sym k)
   same_line (said.Ask r name text) past gone told entry it h k = same_ask r text past gone (told r) entry it h k
+  same_line (said.Read r name key args qs) past gone told entry it h k = same_read r key args past gone (told r) entry it h k
   same_line (said.End r name) past gone told entry it h k = one_entry entry it (h ∙ sym k)
   same_line (said.Publish n set) past gone told entry it h k = absurd h
 

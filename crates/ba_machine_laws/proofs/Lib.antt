@@ -16,7 +16,7 @@ pub mod RequestLemmas
 pub mod OneLaneLemmas
 pub mod AdditionLemmas
 pub mod PlaceLemmas
-pub mod LoadedLemmas
+pub mod AdmissionLemmas
 pub mod OneWorkerLemmas
 pub mod StandingLemmas
 pub mod IdealLemmas

@@ -1,12 +1,13 @@
 -- What a machine does at the entry of one line.
-use Rattle.std.proofs.Common.{◌≡◌, ◌≢◌, ◌∙◌, ℕ, ◌<◌, ◌≤◌, ◌==◌, Bool, true, false, List, [], ◌∷◌, ◌++◌, Contains, Some, ap, arith, inl, inr, length, map, refl, slice_get, subst, sym, true≢false, ◌⊎◌}
+use Rattle.std.proofs.Common.{◌≡◌, ◌≢◌, ◌∙◌, ℕ, ◌<◌, ◌≤◌, ◌==◌, Bool, true, false, List, [], ◌∷◌, ◌++◌, All, Contains, Some, ap, arith, inl, inr, length, map, refl, slice_get, subst, sym, true≢false, ◌⊎◌}
 use Rattle.std.proofs.lemmas.Bool.Decides.{eqb_tells}
 use Rattle.std.proofs.lemmas.List.Elements.{All-contains, All-nil, All-push, Contains-append_right, Contains-push_cases}
 use Rattle.std.specs.Str.{bytes_eq}
 use Rattle.std.proofs.lemmas.Option.{get_or_from_slice_get, same_Some}
-use Rattle.ba_machine_laws.specs.Agreeing.{AskAgrees, BeginAgrees, EndAgrees, HasFound, HasRequest, after, opened_of}
+use Rattle.ba_machine_laws.specs.Agreeing.{AskAgrees, BeginAgrees, EndAgrees, HasFound, HasRequest, ReadAgrees, after, opened_of}
 use Rattle.ba_machine_laws.specs.Shelves.{FoundIsAdmitted}
-use Rattle.ba_machine_laws.specs.Whole.{AreSound, event_in, told_in}
+use Rattle.ba_machine_laws.specs.Whole.{AreSound, event_in, read_in, told_in, told_of_read}
+use Rattle.ba_comply.specs.Comply.{StrongComplies}
 use Rattle.ba_comply.specs.declared.trace.TraceEntry.{TraceEntry}
 use Rattle.ba_core.specs.Runs.{IsCompliant}
 use Rattle.ba_core.specs.State.{State, opened_at}
@@ -16,8 +17,9 @@ use Rattle.ba_core.specs.declared.event.Event.TheVariants as events
 use Rattle.ba_core.specs.declared.opened.Opened.{Opened}
 use Rattle.ba_input.specs.Inputs.{effort_of}
 use Rattle.ba_input.specs.declared.input.Input.{Input}
+use Rattle.ba_lanes.proofs.IdealLemmas.{grounds_comply}
 use Rattle.ba_lanes.proofs.ServeLemmas.{answers_own, asked_is_no_begin}
-use Rattle.ba_lanes.specs.Legal.{IsAsk, IsRequest, LineDone, answer_of, asked, begins, contexts_of, trace_in, trace_of}
+use Rattle.ba_lanes.specs.Legal.{IsAsk, IsRead, IsRequest, LineDone, answer_of, asked, begins, contexts_of, read_as, trace_in, trace_of}
 use Rattle.ba_lanes.specs.declared.journal.Entry.{Entry}
 use Rattle.ba_lanes.specs.declared.journal.Entry.TheVariants.{Begin, End}
 use Rattle.ba_lanes.specs.declared.journal.Journal.{Journal}
@@ -28,7 +30,8 @@ use Rattle.ba_model.specs.declared.policy.Context.{Context}
 use Rattle.ba_model.specs.declared.policy.Policy.{Policy}
 use Rattle.ba_model.specs.declared.query.Query.{Query}
 use Rattle.ba_model.specs.declared.value.Value.{Value}
-use Rattle.ba_machine_laws.proofs.BetweenLemmas.{Between, IsQuiet, Keeps, Stands, contexts_more, goes_on, kept, quiet_ask, quiet_begin, quiet_end, quiet_reply, same_request, trace_more}
+use Rattle.ba_machine_laws.proofs.AgreeLemmas.{barred_alone, read_complies}
+use Rattle.ba_machine_laws.proofs.BetweenLemmas.{Between, IsQuiet, Keeps, Stands, contexts_more, goes_on, kept, quiet_ask, quiet_begin, quiet_end, quiet_read, quiet_reply, same_request, trace_more}
 use Rattle.ba_machine_laws.proofs.ScriptLemmas.{IsOpenAfter, Opens, WasOpen, has_begun, has_context, next_number, not_apart, one_name, opened_before}
 use Rattle.ba_machine_laws.proofs.TakesLemmas.{Takes}
 use Rattle.ba_machine_laws.specs.Journals.{event_of, reply_of, standing}
@@ -37,8 +40,12 @@ use Rattle.ba_script.specs.declared.entry.ScriptEntry.{ScriptEntry}
 use Rattle.ba_script.specs.declared.entry.ScriptEntry.TheVariants as said
 use Rattle.ba_session.specs.Asking.{IsRequestOf, IsServable, IsGround, Reads, Replies, answer_in}
 use Rattle.ba_session.specs.Asking as asking
+use Rattle.ba_session.specs.KeyReads.{KeyReads}
+use Rattle.ba_keys.specs.Literals.{key_queries}
 use Rattle.ba_session.specs.Passing.{ShelfCalls}
 use Rattle.ba_session.specs.declared.reply.By.{By}
+use Rattle.ba_session.specs.declared.reply.KeyReply.{KeyReply}
+use Rattle.ba_session.specs.declared.reply.KeyReply.TheVariants as key_reply
 use Rattle.ba_session.specs.declared.reply.Reply.{Reply}
 use Rattle.ba_session.specs.declared.reply.Reply.TheVariants.{Answer, Blocked, Unread}
 use Rattle.ba_session.specs.declared.reply.Reply.TheVariants as reply
@@ -64,10 +71,12 @@ ReadingIsChecked = (policy : Policy) (text : List ℕ) (query : Query) → Reads
 pub record Laws : Type 0 where
   pub begins : BeginAgrees
   pub asks : AskAgrees
+  pub read_agrees : ReadAgrees
   pub ends : EndAgrees
   pub found : FoundIsAdmitted
   pub complies : AnswersComply
   pub reads : ReadingIsChecked
+  pub strong : StrongComplies
 
 -- ---- states
 
@@ -129,6 +138,17 @@ reply_asked r version (Blocked query why) = refl
 reply_asked r version (Unread fault) = refl
 reply_asked r version reply.NoMemory = refl
 
+event_read : (number : ℕ → ℕ → ℕ) (input : Input) (journal : Journal) (past : List Entry) (r version key : ℕ) (it : KeyReply) →
+    event_of number input journal past (read_as r version key it) ≡ read_in number input.policy r (standing input journal past r version) it
+event_read number input journal past r version key (key_reply.Allowed queries by) = refl
+event_read number input journal past r version key (key_reply.Blocked queries before why) = refl
+event_read number input journal past r version key key_reply.NoMemory = refl
+
+reply_read : (r version key : ℕ) (it : KeyReply) → reply_of (read_as r version key it) ≡ told_of_read it
+reply_read r version key (key_reply.Allowed queries by) = refl
+reply_read r version key (key_reply.Blocked queries before why) = refl
+reply_read r version key key_reply.NoMemory = refl
+
 said_ask : (r k : ℕ) (name text other : List ℕ) (context : Context) → said.Ask r name text ≡ said.Begin k other context → ⊥
 said_ask r k name text other context e = cc
 
@@ -148,7 +168,7 @@ tables_of : {r v k w : ℕ} {a b : TableSet} → begins r v a ≡ begins k w b �
 tables_of {a = a} e = ap (λ (z : LineDone). pinned_tables a z.made.versions) e
 
 module _ (laws : Laws) (number : ℕ → ℕ → ℕ) (input : Input) (journal : Journal) (chosen : ℕ → Bool)
-    (script : IsScript input.policy.params input.script) (checked : IsServable input.policy) where
+    (script : IsScript input.policy.params input.policy.keys input.script) (checked : IsServable input.policy) where
   module _ (before rest : List ScriptEntry) (earlier : List LineDone) (it : LineDone) (t : State)
       (policy_is : t.policy ≡ input.policy) (b : Between input chosen t before earlier) where
     -- the state after the line
@@ -278,6 +298,18 @@ module _ (laws : Laws) (number : ℕ → ℕ → ℕ) (input : Input) (journal :
                     }));
               }
 
+    -- the versions of the machine are those of the journal
+    abbrev pub AreLeft : Type 0
+    AreLeft = (n : ℕ) (tables : TableSet) → slice_get t.versions n ≡ Some tables → slice_get (versions_of journal.histories.versions) n ≡ Some tables
+
+    -- the request of a line is the one of the journal's entries
+    shown_as : (past : List Entry) → past ≡ map entry_in earlier → AreLeft → (r : ℕ) (asker : Request) → IsRequest input earlier r asker → Stands input t r asker → asker ≡ standing input journal past r asker.version
+    shown_as past past_is upto r asker asks stood =
+        let context = sym (get_or_from_slice_get (contexts_of input.script.entries) r asker.context (record { values = [] }) asks.context) in
+        let tables = sym (get_or_from_slice_get (versions_of journal.histories.versions) asker.version asker.tables input.tables (upto asker.version asker.tables stood.has.is_for.tables_are)) in
+        let trace : asker.trace ≡ trace_in r past = asks.trace ∙ trace_same r earlier ∙ ap (trace_in r) (sym past_is) in
+        λ i. record { context = context i; version = asker.version; tables = tables i; trace = trace i }
+
     -- ---- questions
 
     module _ (past : List Entry) (past_is : past ≡ map entry_in earlier) (r : ℕ) (name text : List ℕ) (are : input.script.entries ≡ before ++ said.Ask r name text ∷ rest)
@@ -299,18 +331,13 @@ module _ (laws : Laws) (number : ℕ → ℕ → ℕ) (input : Input) (journal :
           of_one line are t (same_itself t) r grown_ask (λ k differ. refl) (λ k differ. quiet_ask k r h.asker.version h.reply it entry_is differ)
           (λ asker chooses is_open asks. absurd (true≢false (sym chooses ∙ not)))
 
-      module _ (chooses : chosen r ≡ true) (sound : AreSound t) (found : HasFound number t h.calls)
-          (upto : (n : ℕ) (tables : TableSet) → slice_get t.versions n ≡ Some tables → slice_get (versions_of journal.histories.versions) n ≡ Some tables) where
+      module _ (chooses : chosen r ≡ true) (sound : AreSound t) (found : HasFound number t h.calls) (upto : AreLeft) where
         stood : Stands input t r h.asker
         stood = b.standing r h.asker chooses open_before h.asks
 
         -- the request is the one of the journal's entries
         shown : h.asker ≡ standing input journal past r h.asker.version
-        shown =
-            let context = sym (get_or_from_slice_get (contexts_of input.script.entries) r h.asker.context (record { values = [] }) h.asks.context) in
-            let tables = sym (get_or_from_slice_get (versions_of journal.histories.versions) h.asker.version h.asker.tables input.tables (upto h.asker.version h.asker.tables stood.has.is_for.tables_are)) in
-            let trace : h.asker.trace ≡ trace_in r past = h.asks.trace ∙ trace_same r earlier ∙ ap (trace_in r) (sym past_is) in
-            λ i. record { context = context i; version = h.asker.version; tables = tables i; trace = trace i }
+        shown = shown_as past past_is upto r h.asker h.asks stood
 
         -- the request after the line
         is_after : (asker : Request) → IsRequest input (earlier ++ it ∷ []) r asker → after h.asker h.reply ≡ asker
@@ -378,6 +405,61 @@ module _ (laws : Laws) (number : ℕ → ℕ → ℕ) (input : Input) (journal :
             let taken : Takes (Comes line) t asks (told_in h.reply) = subst (λ a. Takes (Comes line) t (event_in number input.policy r a h.reply) (told_in h.reply)) shown (reply_taken h.reply refl) in
             subst (λ es. Takes (Comes line) t es (reply_of (asked r h.asker.version h.reply))) (sym (event_asked number input journal past r h.asker.version h.reply))
             (subst (Takes (Comes line) t asks) (sym (reply_asked r h.asker.version h.reply)) taken)
+
+    -- ---- reads
+
+    module _ (past : List Entry) (past_is : past ≡ map entry_in earlier) (r : ℕ) (name : List ℕ) (key : ℕ) (args : Context) (qs : ℕ) (are : input.script.entries ≡ before ++ said.Read r name key args qs ∷ rest)
+        (h : IsRead input earlier r key args it) where
+      abbrev read_line : ScriptEntry
+      read_line = said.Read r name key args qs
+
+      read_entry : it.entry ≡ read_as r h.asker.version key h.reply
+      read_entry = ap entry_in h.is
+
+      -- a read changes nothing
+      pub read_passed : Comes read_line t
+      read_passed = quiet_all read_line are t (same_itself t) (λ k. refl) (λ k. quiet_read k r h.asker.version key h.reply it read_entry)
+
+      read_after : (u : State) → u ≡ t → Comes read_line u
+      read_after u same = subst (Comes read_line) (sym same) read_passed
+
+      module _ (open_before : IsOpenAfter before r) (chooses : chosen r ≡ true) (found : All (HasFound number t) h.calls) (upto : AreLeft) where
+        stood_there : Stands input t r h.asker
+        stood_there = b.standing r h.asker chooses open_before h.asks
+
+        abbrev queries_read : List Query
+        queries_read = key_queries input.policy h.key args
+
+        read_reply : (reply : KeyReply) → h.reply ≡ reply → Takes (Comes read_line) t (read_in number input.policy r h.asker reply) (told_of_read reply)
+        read_reply (key_reply.Allowed queries by) is =
+            let replied : KeyReads input.policy h.asker (effort_of input) queries_read h.calls (key_reply.Allowed queries by) = subst (KeyReads input.policy h.asker (effort_of input) queries_read h.calls) is h.reads in
+            let told = laws.read_agrees number input.policy t r h.asker (effort_of input) queries_read h.calls (key_reply.Allowed queries by) stood_there.has found replied in
+            let strong = subst (All (asking.IsCompliant input.policy h.asker)) (sym replied.0) (grounds_comply input.policy h.asker (effort_of input) queries_read by h.calls replied.1) in
+            record {
+              new = told.new;
+              step = record { step = told.is_reply.step; compliant = read_complies laws.strong input.policy t r h.asker queries stood_there.has stood_there.may strong };
+              only = told.is_reply.only;
+              comes_to = λ u step. read_after u step.1;
+            }
+        read_reply (key_reply.Blocked queries before_it why) is =
+            let replied : KeyReads input.policy h.asker (effort_of input) queries_read h.calls (key_reply.Blocked queries before_it why) = subst (KeyReads input.policy h.asker (effort_of input) queries_read h.calls) is h.reads in
+            let told = barred_alone number input.policy t r h.asker queries before_it why
+            (laws.read_agrees number input.policy t r h.asker (effort_of input) queries_read h.calls (key_reply.Blocked queries before_it why) stood_there.has found replied) in
+            record {
+              new = told.new;
+              step = record { step = told.is_reply.step; compliant = tt };
+              only = told.is_reply.only;
+              comes_to = λ u step. read_after u step.1;
+            }
+        read_reply key_reply.NoMemory is = read_passed
+
+        pub read_taken : Takes (Comes read_line) t (event_of number input journal past (read_as r h.asker.version key h.reply)) (reply_of (read_as r h.asker.version key h.reply))
+        read_taken =
+            let shown = shown_as past past_is upto r h.asker h.asks stood_there in
+            let reads = read_in number input.policy r (standing input journal past r h.asker.version) h.reply in
+            let taken : Takes (Comes read_line) t reads (told_of_read h.reply) = subst (λ a. Takes (Comes read_line) t (read_in number input.policy r a h.reply) (told_of_read h.reply)) shown (read_reply h.reply refl) in
+            subst (λ es. Takes (Comes read_line) t es (reply_of (read_as r h.asker.version key h.reply))) (sym (event_read number input journal past r h.asker.version key h.reply))
+            (subst (Takes (Comes read_line) t reads) (sym (reply_read r h.asker.version key h.reply)) taken)
 
     -- ---- ends
 

@@ -60,25 +60,35 @@ stays k old new event (replies.Refused fault) of h = same_stays k old new h.1
 stays k old new (events.Publish tables) (replies.Number n) of h = versions_stay k old new tables h.state
 stays k old new (events.Publish tables) replies.Begun of h = absurd h
 stays k old new (events.Publish tables) (replies.Asked it) of h = absurd h
+stays k old new (events.Publish tables) (replies.Read allowed) of h = absurd h
 stays k old new (events.Publish tables) replies.Ended of h = absurd h
 stays k old new (events.Begin j context version) (replies.Number n) of h = absurd h
 stays k old new (events.Begin j context version) replies.Begun of h =
     others_stay k j old new (Some (record { context = context; version = version; trace = [] })) (with_log old new h.rest) h.opens of
 stays k old new (events.Begin j context version) (replies.Asked it) of h = absurd h
+stays k old new (events.Begin j context version) (replies.Read allowed) of h = absurd h
 stays k old new (events.Begin j context version) replies.Ended of h = absurd h
 stays k old new (events.Ask j query why) (replies.Number n) of h = absurd h
 stays k old new (events.Ask j query why) replies.Begun of h = absurd h
 stays k old new (events.Ask j query why) (replies.Asked (asked.Answer rows)) of h =
     others_stay k j old new (Some (record h.recorded.asker { trace = h.recorded.asker.trace ++ record { query = query; rows = rows } ∷ [] })) h.recorded.rest h.recorded.trace of
 stays k old new (events.Ask j query why) (replies.Asked asked.Blocked) of h = same_stays k old new h.1
+stays k old new (events.Ask j query why) (replies.Read allowed) of h = absurd h
 stays k old new (events.Ask j query why) replies.Ended of h = absurd h
+stays k old new (events.Read j queries why) (replies.Number n) of h = absurd h
+stays k old new (events.Read j queries why) replies.Begun of h = absurd h
+stays k old new (events.Read j queries why) (replies.Asked it) of h = absurd h
+stays k old new (events.Read j queries why) (replies.Read allowed) of h = same_stays k old new h.1
+stays k old new (events.Read j queries why) replies.Ended of h = absurd h
 stays k old new (events.Admit template) (replies.Number n) of h = templates_stay k old new template h.state
 stays k old new (events.Admit template) replies.Begun of h = absurd h
 stays k old new (events.Admit template) (replies.Asked it) of h = absurd h
+stays k old new (events.Admit template) (replies.Read allowed) of h = absurd h
 stays k old new (events.Admit template) replies.Ended of h = absurd h
 stays k old new (events.End j) (replies.Number n) of h = absurd h
 stays k old new (events.End j) replies.Begun of h = absurd h
 stays k old new (events.End j) (replies.Asked it) of h = absurd h
+stays k old new (events.End j) (replies.Read allowed) of h = absurd h
 stays k old new (events.End j) replies.Ended of h = others_stay k j old new None (with_log old new h.rest) h.closes of
 
 pub others_agree : OthersAgree

@@ -2,7 +2,7 @@
 use mathlib.Core.List.{map-append}
 use Rattle.std.proofs.Common.{◌≡◌, ◌∙◌, ℕ, Bool, true, false, cond, List, [], ◌∷◌, ◌++◌, All, Contains, None, Option, Some, ap, append_assoc, arith, inl, inr, map, refl, slice_get, subst, sym}
 use Rattle.std.proofs.Math.Logic.{∥∥₁_map₂}
-use Rattle.std.proofs.lemmas.List.Elements.{All-get_or, All-head, All-tail}
+use Rattle.std.proofs.lemmas.List.Elements.{All-cons, All-get_or, All-head, All-nil, All-tail, All-weaker}
 use Rattle.std.proofs.lemmas.Option.{get_or_from_slice_get, slice_get_within}
 use Rattle.std.specs.BTreeMap.{is_at}
 use Rattle.std.specs.Map.{lookup}
@@ -16,8 +16,7 @@ use Rattle.ba_kernel.specs.Problems.{StrongAll}
 use Rattle.ba_kernel.specs.SearchStates.{Proof}
 use Rattle.ba_input.specs.Inputs.{effort_of}
 use Rattle.ba_input.specs.declared.input.Input.{Input}
-use Rattle.ba_lanes.proofs.LaneLemmas.{some_on}
-use Rattle.ba_lanes.specs.Legal.{AreServed, IsServed, Legal, LineDone, asked, pin_of}
+use Rattle.ba_lanes.specs.Legal.{AreServed, IsServed, Legal, LineDone, asked, pin_of, read_as}
 use Rattle.ba_lanes.specs.declared.journal.Entry.{Entry}
 use Rattle.ba_lanes.specs.declared.journal.Entry.TheVariants.{Begin, End, Memory}
 use Rattle.ba_lanes.specs.declared.journal.LineKind.{LineKind}
@@ -25,8 +24,8 @@ use Rattle.ba_lanes.specs.declared.journal.LineKind.TheVariants as kinds
 use Rattle.ba_lanes.specs.declared.journal.Journal.{Journal}
 use Rattle.ba_model.specs.Conform.{Conforms}
 use Rattle.ba_machine_laws.proofs.BetweenLemmas.{Between, quiet_memory, quiet_publish}
-use Rattle.ba_machine_laws.proofs.HistoryLemmas.{AreVersions, IsLegal, IsMade, all_found, all_legal, all_made, all_sound, are_versions, on_some_shelf}
-use Rattle.ba_machine_laws.proofs.LineLemmas.{AreTables, Comes, Laws, Same, ask_passed, ask_taken, begin_passed, begin_taken, end_passed, end_taken, entry_in, quiet_all, same_itself}
+use Rattle.ba_machine_laws.proofs.HistoryLemmas.{AreVersions, IsLegal, IsMade, OnShelf, all_found, all_legal, all_made, all_sound, are_versions, on_some_shelf, reads_on_shelves}
+use Rattle.ba_machine_laws.proofs.LineLemmas.{AreTables, Comes, Laws, Same, ask_passed, ask_taken, begin_passed, begin_taken, end_passed, end_taken, entry_in, quiet_all, read_passed, read_taken, same_itself}
 use Rattle.ba_machine_laws.proofs.ScriptLemmas.{IsOpenAfter}
 use Rattle.ba_machine_laws.proofs.TakesLemmas.{Takes, run_from, takes_both}
 use Rattle.ba_machine_laws.specs.Journals.{IsMachineOf, IsRunFrom, RequestsAreARun, event_of, events_after, is_of, number_by_shelf, replies_in, reply_of}
@@ -34,6 +33,9 @@ use Rattle.ba_script.specs.Scripts.{EntriesFit, EntryFits}
 use Rattle.ba_script.specs.declared.entry.ScriptEntry.{ScriptEntry}
 use Rattle.ba_script.specs.declared.entry.ScriptEntry.TheVariants as said
 use Rattle.ba_session.specs.Asking.{IsServable}
+use Rattle.ba_keys.specs.Literals.{key_queries}
+use Rattle.ba_session.specs.declared.reply.KeyReply.{KeyReply}
+use Rattle.ba_session.specs.declared.reply.KeyReply.TheVariants as key_reply
 use Rattle.ba_session.specs.declared.reply.Reply.{Reply}
 use Rattle.ba_session.specs.declared.reply.Reply.TheVariants as reply
 use Rattle.ba_tables.specs.TableSet.{TableSet}
@@ -53,6 +55,11 @@ of_asked chosen r version (reply.Answer query rows basis) = refl
 of_asked chosen r version (reply.Blocked query why) = refl
 of_asked chosen r version (reply.Unread fault) = refl
 of_asked chosen r version reply.NoMemory = refl
+
+of_read : (chosen : ℕ → Bool) (r version key : ℕ) (it : KeyReply) → is_of chosen (read_as r version key it) ≡ chosen r
+of_read chosen r version key (key_reply.Allowed queries by) = refl
+of_read chosen r version key (key_reply.Blocked queries before why) = refl
+of_read chosen r version key key_reply.NoMemory = refl
 
 pub checked_by : (input : Input) (journal : Journal) → Legal input journal → IsServable input.policy
 checked_by input journal legal = record { fits = legal.input_fits.policy; tables = legal.input_fits.tables_are; rules = legal.input_fits.rules }
@@ -98,6 +105,21 @@ module _ (laws : Laws) (input : Input) (journal : Journal) (chosen : ℕ → Boo
         (λ k. quiet_memory k kind r version it is) in
         subst (TakesEntry line) (sym is) (choice (After line) t (is_of chosen (Memory kind r version)) [] [] (λ chooses. quiet) (λ passes. quiet))
 
+    templates_same : t.templates ≡ s.templates
+    templates_same = same.templates_are
+
+    sound_here : AreSound t
+    sound_here = subst (λ ts. All (λ (template : Proof). StrongAll template.problem) ts) (sym templates_same) (all_sound input journal s machine legal.shelves.eight shelves_legal)
+
+    found_here : All OnShelf it.made.shelves → All (HasFound number t) it.made.shelves
+    found_here on =
+        All-weaker (HasFound number s) (HasFound number t)
+        (λ calls found. record { each = λ query its one look among. ap (λ ts. slice_get ts (number calls.shard one.id)) templates_same ∙ found.each query its one look among }) it.made.shelves
+        (all_found input journal s machine legal.shelves.eight shelves_legal laws.found it made on)
+
+    left_here : (n : ℕ) (tables : TableSet) → slice_get t.versions n ≡ Some tables → slice_get (versions_of journal.histories.versions) n ≡ Some tables
+    left_here n tables there = ap (λ z. slice_get z n) (sym (same.versions_are ∙ machine.versions_are)) ∙ there
+
     line_taken : (line : ScriptEntry) → input.script.entries ≡ before ++ line ∷ rest → EntryFits before line → IsServed input earlier line it → TakesEntry line it.entry
     line_taken (said.Begin r name context) are fits (inl h) =
         let among : Contains it.made.versions (pin_of h.version h.tables) = subst (λ (z : LineDone). Contains z.made.versions (pin_of h.version h.tables)) (sym h.is) (0, omega arith, refl) in
@@ -112,21 +134,28 @@ module _ (laws : Laws) (input : Input) (journal : Journal) (chosen : ℕ → Boo
     line_taken (said.Begin r name context) are fits (inr h) = memory_taken (said.Begin r name context) are kinds.Begin (Some r) None h.entry_is
     line_taken (said.Ask r name text) are fits (inl h) =
         let open_before : IsOpenAfter before r = record { name = name; asked = fits.0; is_open = fits.1 } in
-        let templates : t.templates ≡ s.templates = same.templates_are in
-        let sound : AreSound t = subst (λ ts. All (λ (template : Proof). StrongAll template.problem) ts) (sym templates) (all_sound input journal s machine legal.shelves.eight shelves_legal) in
-        let found_at : HasFound number s h.calls = all_found input journal s machine legal.shelves.eight shelves_legal laws.found it made h.calls
-        (λ k. some_on k it h.calls (ap (λ (z : LineDone). z.made) h.is)) (on_some_shelf input.policy h.asker (effort_of input) text h.calls h.reply h.replies) in
-        let found : HasFound number t h.calls = record {
-          each = λ query its one look among. ap (λ ts. slice_get ts (number h.calls.shard one.id)) templates ∙ found_at.each query its one look among;
-        } in
+        let calls_are : it.made.shelves ≡ h.calls ∷ [] = ap (λ (z : LineDone). z.made.shelves) h.is in
+        let on : All OnShelf (h.calls ∷ []) = All-cons OnShelf h.calls [] (on_some_shelf input.policy h.asker (effort_of input) text h.calls h.reply h.replies) (All-nil OnShelf) in
+        let found : HasFound number t h.calls = All-head (HasFound number t) h.calls [] (subst (All (HasFound number t)) calls_are (found_here (subst (All OnShelf) (sym calls_are) on))) in
         subst (TakesEntry (said.Ask r name text)) (sym (ap entry_in h.is))
         (subst (λ b. Takes (After (said.Ask r name text)) t (cond b (event_of number input journal past (asked r h.asker.version h.reply)) []) (cond b (reply_of (asked r h.asker.version h.reply)) []))
         (sym (of_asked chosen r h.asker.version h.reply))
         (choice (After (said.Ask r name text)) t (chosen r) (event_of number input journal past (asked r h.asker.version h.reply)) (reply_of (asked r h.asker.version h.reply))
-        (λ chooses. ask_taken laws number input journal chosen legal.input_fits.script (checked_by input journal legal) before rest earlier it t policy_is b past past_is r name text are open_before h chooses sound found
-        (λ n tables there. ap (λ z. slice_get z n) (sym (same.versions_are ∙ machine.versions_are)) ∙ there))
+        (λ chooses. ask_taken laws number input journal chosen legal.input_fits.script (checked_by input journal legal) before rest earlier it t policy_is b past past_is r name text are open_before h chooses sound_here found left_here)
         (λ passes. ask_passed laws number input journal chosen legal.input_fits.script (checked_by input journal legal) before rest earlier it t policy_is b past past_is r name text are open_before h passes)))
     line_taken (said.Ask r name text) are fits (inr h) = memory_taken (said.Ask r name text) are kinds.Ask (Some r) None (ap entry_in h.unserved)
+    line_taken (said.Read r name key args qs) are fits (inl h) =
+        let open_before : IsOpenAfter before r = record { name = name; asked = fits.0; is_open = fits.1 } in
+        let calls_are : it.made.shelves ≡ h.calls = ap (λ (z : LineDone). z.made.shelves) h.is in
+        let on : All OnShelf h.calls = reads_on_shelves input.policy h.asker (effort_of input) (key_queries input.policy h.key args) h.calls h.reply h.reads in
+        let found : All (HasFound number t) h.calls = subst (All (HasFound number t)) calls_are (found_here (subst (All OnShelf) (sym calls_are) on)) in
+        subst (TakesEntry (said.Read r name key args qs)) (sym (ap entry_in h.is))
+        (subst (λ b. Takes (After (said.Read r name key args qs)) t (cond b (event_of number input journal past (read_as r h.asker.version key h.reply)) []) (cond b (reply_of (read_as r h.asker.version key h.reply)) []))
+        (sym (of_read chosen r h.asker.version key h.reply))
+        (choice (After (said.Read r name key args qs)) t (chosen r) (event_of number input journal past (read_as r h.asker.version key h.reply)) (reply_of (read_as r h.asker.version key h.reply))
+        (λ chooses. read_taken laws number input journal chosen legal.input_fits.script (checked_by input journal legal) before rest earlier it t policy_is b past past_is r name key args qs are h open_before chooses found left_here)
+        (λ passes. read_passed laws number input journal chosen legal.input_fits.script (checked_by input journal legal) before rest earlier it t policy_is b past past_is r name key args qs are h)))
+    line_taken (said.Read r name key args qs) are fits (inr h) = memory_taken (said.Read r name key args qs) are kinds.Read (Some r) None (ap entry_in h.unserved)
     line_taken (said.End r name) are fits (inl h) =
         subst (TakesEntry (said.End r name)) (sym (ap entry_in h.is))
         (choice (After (said.End r name)) t (chosen r) (event_of number input journal past (End r h.version)) (reply_of (End r h.version))

@@ -1,14 +1,15 @@
 -- Requests by their begin lines, and those that are open after some lines of a script.
-use Rattle.std.proofs.Common.{◌≡◌, ◌∙◌, ℕ, ◌+◌, ◌<◌, false, List, [], ◌∷◌, ◌++◌, All, Some, ap, append_assoc, arith, count_by, flat_map, inl, inr, length, length-append, refl, slice_get, subst, sym, true≢false, ◌⊎◌}
+use Rattle.std.proofs.Common.{◌≡◌, ◌∙◌, ℕ, ◌+◌, ◌<◌, false, List, [], ◌∷◌, ◌++◌, All, Some, ap, append_assoc, arith, flat_map, inl, inr, length, length-append, refl, slice_get, subst, sym, true≢false, ◌⊎◌}
 use Rattle.std.proofs.lemmas.List.{same_from_push}
 use Rattle.std.proofs.lemmas.List.Concat.{flat_map-append}
 use Rattle.std.proofs.lemmas.List.Elements.{All-head, All-tail, All-cons, All-nil}
 use Rattle.std.proofs.lemmas.Option.{same_Some}
 use Rattle.std.proofs.lemmas.Slice.Eq.{bytes_eq-Decides}
+use Rattle.std.specs.Prelude.{sum_by}
 use Rattle.std.specs.Str.{bytes_eq}
 use Rattle.ba_lanes.specs.Legal.{contexts_of}
 use Rattle.ba_model.specs.declared.policy.Context.{Context}
-use Rattle.ba_script.specs.Scripts.{IsOpen, Leaves, NumberedFrom, is_ask_under}
+use Rattle.ba_script.specs.Scripts.{IsOpen, Leaves, NumberedFrom, questions_under}
 use Rattle.ba_script.specs.declared.entry.ScriptEntry.{ScriptEntry}
 use Rattle.ba_script.specs.declared.entry.ScriptEntry.TheVariants as said
 
@@ -17,6 +18,7 @@ use Rattle.ba_script.specs.declared.entry.ScriptEntry.TheVariants as said
 abbrev name_in : ScriptEntry → List (List ℕ)
 name_in (said.Begin request name context) = name ∷ []
 name_in (said.Ask request name text) = []
+name_in (said.Read request name key arguments questions) = []
 name_in (said.End request name) = []
 name_in (said.Publish number set) = []
 
@@ -37,6 +39,9 @@ numbered m (said.Begin r n c ∷ front) k name context rest h =
     let it = numbered (m + 1) front k name context rest h.1 in
     record { number = let e = it.number in omega (arith, e); context_at = it.context_at; name_at = it.name_at }
 numbered m (said.Ask r n text ∷ front) k name context rest h =
+    let it = numbered m front k name context rest h.1 in
+    record { number = it.number; context_at = it.context_at; name_at = it.name_at }
+numbered m (said.Read r n key args qs ∷ front) k name context rest h =
     let it = numbered m front k name context rest h.1 in
     record { number = it.number; context_at = it.context_at; name_at = it.name_at }
 numbered m (said.End r n ∷ front) k name context rest h =
@@ -144,7 +149,7 @@ opened_before before line k it = by (last_of it.is_open.since)
         let stay = all_but_last (Leaves it.name) ys y (subst (All (Leaves it.name)) e at.stays) in
         inr (record {
           name = it.name;
-          asked = count_by (is_ask_under it.name) ys;
+          asked = sum_by (questions_under it.name) ys;
           was = record { front = at.front; context = at.context; since = ys; begins = same.0; stays = stay.0; count = refl };
           leaves = subst (Leaves it.name) (sym same.1) stay.1;
         })

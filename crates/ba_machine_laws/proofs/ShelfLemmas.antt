@@ -20,7 +20,7 @@ get_last : {X : Type 0} (xs : List X) (x : X) → slice_get (xs ++ x ∷ []) (le
 get_last [] x = refl
 get_last (y ∷ xs) x = get_last xs x
 
-All-before : {X : Type 0} (P : X → Type 0) (xs ys : List X) → All P (xs ++ ys) → All P xs
+pub All-before : {X : Type 0} (P : X → Type 0) (xs ys : List X) → All P (xs ++ ys) → All P xs
 All-before P [] ys all = All-nil P
 All-before P (x ∷ xs) ys all = All-cons P x xs (All-head P x (xs ++ ys) all) (All-before P xs ys (All-tail P x (xs ++ ys) all))
 

@@ -5,7 +5,7 @@ use Rattle.std.proofs.lemmas.List.Elements.{All-cons, All-contains, All-map, All
 use Rattle.std.proofs.lemmas.Option.{get_or_from_slice_get}
 use Rattle.ba_input.specs.declared.input.Input.{Input}
 use Rattle.ba_lanes.proofs.HeadlineLemmas.{headline}
-use Rattle.ba_lanes.proofs.ServeLemmas.{asked_is_no_begin, memory_is_no_begin}
+use Rattle.ba_lanes.proofs.ServeLemmas.{asked_is_no_begin, memory_is_no_begin, read_is_no_begin}
 use Rattle.ba_lanes.specs.Headline.{IsAskerOf}
 use Rattle.ba_lanes.specs.Legal.{AreServed, HasContext, IsServed, Legal, LineDone, contexts_of}
 use Rattle.ba_lanes.specs.declared.journal.Entry.{Entry}
@@ -40,6 +40,8 @@ module _ (input : Input) (numbers : NumberedFrom 0 input.script.entries) where
   line_begun before rest earlier it (said.Begin r name context) are (inr h) k version e = absurd (memory_is_no_begin kinds.Begin (Some r) None k version (sym h.entry_is ∙ e))
   line_begun before rest earlier it (said.Ask r name text) are (inl h) k version e = absurd (asked_is_no_begin r h.asker.version h.reply k version (sym (ap entry_in h.is) ∙ e))
   line_begun before rest earlier it (said.Ask r name text) are (inr h) k version e = absurd (memory_is_no_begin kinds.Ask (Some r) None k version (sym (ap entry_in h.unserved) ∙ e))
+  line_begun before rest earlier it (said.Read r name key args qs) are (inl h) k version e = absurd (read_is_no_begin r h.asker.version key h.reply k version (sym (ap entry_in h.is) ∙ e))
+  line_begun before rest earlier it (said.Read r name key args qs) are (inr h) k version e = absurd (memory_is_no_begin kinds.Read (Some r) None k version (sym (ap entry_in h.unserved) ∙ e))
   line_begun before rest earlier it (said.End r name) are (inl h) k version e = let other : End r h.version ≡ Begin k version = sym (ap entry_in h.is) ∙ e in absurd (cc)
   line_begun before rest earlier it (said.End r name) are (inr h) k version e = absurd (memory_is_no_begin kinds.End (Some r) None k version (sym (ap entry_in h.unserved) ∙ e))
   line_begun before rest earlier it (said.Publish n set) are (inl h) k version e = let other : Publish h.version ≡ Begin k version = sym (ap entry_in h.is) ∙ e in absurd (cc)
@@ -89,5 +91,11 @@ askers_stand input journal legal = record {
       is_standing input journal request version before it.asker it.asks;
   blocks = λ before after request version query why e.
       let it = (headline input journal legal).blocks before after request version query why e in
+      is_standing input journal request version before it.asker it.asks;
+  reads = λ before after request version number queries bases e.
+      let it = (headline input journal legal).reads before after request version number queries bases e in
+      is_standing input journal request version before it.asker it.asks;
+  read_blocks = λ before after request version number queries bases why e.
+      let it = (headline input journal legal).read_blocks before after request version number queries bases why e in
       is_standing input journal request version before it.asker it.asks;
 }

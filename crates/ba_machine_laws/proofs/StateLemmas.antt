@@ -1,11 +1,13 @@
 -- Steps of the machine at a request's number: that each is there, and no other.
-use Rattle.std.proofs.Common.{◌≡◌, ◌≢◌, ◌∙◌, ℕ, ◌<◌, ◌≤◌, true, false, List, [], ◌∷◌, ◌++◌, None, Option, Some, ap, arith, eqb, inl, inr, is_some, length, refl, slice_get, subst, sym, true≢false, ◌⊎◌, IsSome}
+use Rattle.std.proofs.Common.{◌≡◌, ◌≢◌, ◌∙◌, ℕ, ◌<◌, ◌≤◌, Bool, true, false, List, [], ◌∷◌, ◌++◌, All, Contains, None, Option, Some, ap, arith, eqb, inl, inr, is_some, length, refl, slice_get, subst, sym, true≢false, ◌⊎◌, IsSome}
 use Rattle.std.proofs.lemmas.Bool.Decides.{eqb_tells}
+use Rattle.std.proofs.lemmas.List.Elements.{All-contains}
 use Rattle.std.proofs.lemmas.Option.{none-some, same_Some, slice_get_within}
+use Rattle.std.specs.List.{AllZip}
 use Rattle.ba_machine_laws.proofs.KeyLemmas.{one_list, with_entry, with_here, with_others, with_rises, without, without_here, without_others, without_rises}
 use Rattle.ba_machine_laws.specs.Agreeing.{AreRising, IsReplyTo}
 use Rattle.ba_core.specs.State.{ChangesOnly, State, opened_at}
-use Rattle.ba_core.specs.Steps.{Fits, HasTemplate, AnswersAsk, IsBegun, IsEnded, RefusesAsk, RefusesBegin, RefusesEnd, Steps}
+use Rattle.ba_core.specs.Steps.{Fits, HasTemplate, AnswersAsk, IsBegun, IsEnded, Reads, RefusesAsk, RefusesBegin, RefusesEnd, RefusesRead, Steps}
 use Rattle.ba_core.specs.declared.event.Asked.{Asked}
 use Rattle.ba_core.specs.declared.event.Asked.TheVariants as asked
 use Rattle.ba_core.specs.declared.event.CoreFault.{CoreFault}
@@ -71,6 +73,7 @@ module _ (s : State) (k : ℕ) (context : Context) (version : ℕ) (tables : Tab
   begun_only (replies.Number n) next h = absurd h
   begun_only replies.Begun next h = refl
   begun_only (replies.Asked it) next h = absurd h
+  begun_only (replies.Read allowed) next h = absurd h
   begun_only replies.Ended next h = absurd h
   begun_only (replies.Refused fault) next h = absurd (begun_allowed fault h.0)
 
@@ -132,6 +135,7 @@ module _ (s : State) (k : ℕ) (asker : Opened) (query : Query) (why : Ground)
     told_only (replies.Number n) next h = absurd h
     told_only replies.Begun next h = absurd h
     told_only (replies.Asked it) next h = ap replies.Asked (asked_only it next h)
+    told_only (replies.Read allowed) next h = absurd h
     told_only replies.Ended next h = absurd h
     told_only (replies.Refused fault) next h = absurd (ask_allowed fault h.0)
 
@@ -165,6 +169,7 @@ module _ (s : State) (k : ℕ) (asker : Opened) (query : Query)
   blocked_only (replies.Number n) next h = absurd h
   blocked_only replies.Begun next h = absurd h
   blocked_only (replies.Asked it) next h = ap replies.Asked (refused_only it next h)
+  blocked_only (replies.Read allowed) next h = absurd h
   blocked_only replies.Ended next h = absurd h
   blocked_only (replies.Refused fault) next h = absurd (ask_allowed s k asker query grounds.Refuse is_open fits tt fault h.0)
 
@@ -175,6 +180,51 @@ module _ (s : State) (k : ℕ) (asker : Opened) (query : Query)
     rising = λ rising. rising;
     alone = λ next h rising rises. h.1;
   }
+
+-- ---- a read
+
+module _ (s : State) (k : ℕ) (asker : Opened) (queries : List Query) (why : List Ground)
+    (is_open : opened_at s k ≡ Some asker) (fit : AllZip (Fits s.policy s.templates asker) queries why) (named : All (HasTemplate s.templates) why) where
+  read_allowed : (fault : CoreFault) → RefusesRead s k queries why fault → ⊥
+  read_allowed Taken h = h
+  read_allowed NoRequest h = none-some asker (sym h ∙ is_open)
+  read_allowed NoVersion h = h
+  read_allowed NoTemplate h = h.lacks named
+  read_allowed Unfit h = h.unfit (subst (λ a. AllZip (Fits s.policy s.templates a) queries why) (same_Some asker h.asker (sym is_open ∙ h.is_open)) fit)
+
+  read_only : (told : Bool) → ((other : Bool) → Reads s k queries why other → other ≡ told) → (other : CoreReply) (next : State) → Steps s (events.Read k queries why) other next → other ≡ replies.Read told
+  read_only told one (replies.Number n) next h = absurd h
+  read_only told one replies.Begun next h = absurd h
+  read_only told one (replies.Asked it) next h = absurd h
+  read_only told one (replies.Read other) next h = ap replies.Read (one other h.0)
+  read_only told one replies.Ended next h = absurd h
+  read_only told one (replies.Refused fault) next h = absurd (read_allowed fault h.0)
+
+  replied : (told : Bool) → Reads s k queries why told → ((other : Bool) → Reads s k queries why other → other ≡ told) → IsReplyTo s (events.Read k queries why) (replies.Read told) s
+  replied told reads one = record {
+    step = (reads, refl);
+    only = read_only told one;
+    rising = λ rising. rising;
+    alone = λ next h rising rises. h.1;
+  }
+
+  -- where no ground is a refusal, the read is let through
+  module _ (none : All (λ it. it ≢ grounds.Refuse) why) where
+    not_blocked : (other : Bool) → Reads s k queries why other → other ≡ true
+    not_blocked true h = refl
+    not_blocked false h = absurd (All-contains (λ it. it ≢ grounds.Refuse) why grounds.Refuse none h.refusal refl)
+
+    pub through_reply : IsReplyTo s (events.Read k queries why) (replies.Read true) s
+    through_reply = replied true (record { asker = asker; is_open = is_open; fit = fit; no_refusal = none }) not_blocked
+
+  -- where one is, it is blocked
+  module _ (refused : Contains why grounds.Refuse) where
+    not_through : (other : Bool) → Reads s k queries why other → other ≡ false
+    not_through true h = absurd (All-contains (λ it. it ≢ grounds.Refuse) why grounds.Refuse h.no_refusal refused refl)
+    not_through false h = refl
+
+    pub barred_reply : IsReplyTo s (events.Read k queries why) (replies.Read false) s
+    barred_reply = replied false (record { asker = asker; is_open = is_open; fit = fit; refusal = refused }) not_through
 
 -- ---- a request ends
 
@@ -199,6 +249,7 @@ module _ (s : State) (k : ℕ) (asker : Opened) (is_open : opened_at s k ≡ Som
   ended_only (replies.Number n) next h = absurd h
   ended_only replies.Begun next h = absurd h
   ended_only (replies.Asked it) next h = absurd h
+  ended_only (replies.Read allowed) next h = absurd h
   ended_only replies.Ended next h = refl
   ended_only (replies.Refused fault) next h = absurd (ended_allowed fault h.0)
 

@@ -33,6 +33,18 @@ module _ (P Q : State → Type 0) (es2 : List Event) (rs2 : List CoreReply) (lat
     comes_to = λ after step. takes_both after es rs (h.comes_to after step);
   }
 
+-- what holds of the last state may be said otherwise
+pub takes_weaker : (P Q : State → Type 0) → ((u : State) → P u → Q u) → (t : State) (es : List Event) (rs : List CoreReply) → Takes P t es rs → Takes Q t es rs
+takes_weaker P Q weaker t [] [] h = weaker t h
+takes_weaker P Q weaker t [] (reply ∷ rs) h = absurd h
+takes_weaker P Q weaker t (event ∷ es) [] h = absurd h
+takes_weaker P Q weaker t (event ∷ es) (reply ∷ rs) h = record {
+  new = h.new;
+  step = h.step;
+  only = h.only;
+  comes_to = λ after step. takes_weaker P Q weaker after es rs (h.comes_to after step);
+}
+
 -- ---- a run
 
 -- a run so far, and what is taken from its last state on

@@ -1,17 +1,17 @@
 -- The events of a whole request are a run of the machine.
 use mathlib.Core.List.{map-append}
-use Rattle.std.proofs.Common.{◌≡◌, ◌≢◌, ◌∙◌, ℕ, true, false, List, [], ◌∷◌, ◌++◌, All, None, Some, ap, append-nil, append_assoc, eqb, flat_map, inl, inr, refl, slice_get, subst, subst₂, sym, ◌⊎◌}
+use Rattle.std.proofs.Common.{◌≡◌, ◌≢◌, ◌∙◌, ℕ, Bool, true, false, List, [], ◌∷◌, ◌++◌, All, None, Some, ap, append-nil, append_assoc, eqb, flat_map, inl, inr, refl, slice_get, subst, subst₂, sym, ◌⊎◌}
 use Rattle.std.proofs.lemmas.Bool.Decides.{eqb_tells}
-use Rattle.std.proofs.lemmas.List.Elements.{All-head, All-tail}
+use Rattle.std.proofs.lemmas.List.Elements.{All-head, All-tail, All-weaker}
 use Rattle.std.proofs.lemmas.Option.{same_Some}
-use Rattle.ba_machine_laws.proofs.AgreeLemmas.{admitted, ask_agrees, begin_agrees, end_agrees}
+use Rattle.ba_machine_laws.proofs.AgreeLemmas.{admitted, ask_agrees, barred_alone, begin_agrees, end_agrees, read_agrees, read_complies}
 use Rattle.ba_machine_laws.proofs.FitLemmas.{question_fits}
 use Rattle.ba_machine_laws.proofs.KeyLemmas.{one_list}
-use Rattle.ba_machine_laws.specs.Agreeing.{AgreesOn, AreRising, CanBegin, HasFound, HasRequest, after, ground_of, opened_of}
-use Rattle.ba_machine_laws.specs.Whole.{AreSound, AreTold, Question, RequestIsARun, asks_of, event_in, events_of, logged, replies_of, told_in}
+use Rattle.ba_machine_laws.specs.Agreeing.{AgreesOn, AgreesOnRead, AreRising, CanBegin, HasFound, HasRequest, IsToldBy, after, ground_of, grounds_of, judged, judged_grounds, opened_of}
+use Rattle.ba_machine_laws.specs.Whole.{AllFound, AreSound, AreTold, Demand, RequestIsARun, asks, demands_of, event_in, events_of, logged, read_in, reads, replies_of, told_by, told_in, told_of_read}
 use Rattle.ba_comply.specs.Comply.{Complies, Strong, StrongComplies}
 use Rattle.ba_comply.specs.declared.trace.TraceEntry.{TraceEntry}
-use Rattle.ba_core.specs.Runs.{IsCompliant, IsStep, Runs, start, next}
+use Rattle.ba_core.specs.Runs.{IsCompliant, IsStep, RepliesCompliantly, Runs, start, next}
 use Rattle.ba_core.specs.State.{State, opened_at}
 use Rattle.ba_core.specs.Steps as steps
 use Rattle.ba_core.specs.Steps.{Steps}
@@ -34,6 +34,7 @@ use Rattle.ba_kernel.specs.Problems.{ProblemIsQuestion, StrongAll}
 use Rattle.ba_kernel.specs.SearchStates.{Proof}
 use Rattle.ba_kernel.specs.declared.problem.Problem.{Problem}
 use Rattle.ba_kernel.specs.declared.step.Step.{Step}
+use Rattle.ba_lanes.proofs.IdealLemmas.{grounds_comply}
 use Rattle.ba_model.specs.Conform.{Conforms}
 use Rattle.ba_model.specs.Fit.{IsQuery, kinds_of}
 use Rattle.ba_model.specs.Meaning.{AnswerIsUnique, IsAnswer}
@@ -42,9 +43,13 @@ use Rattle.ba_model.specs.declared.policy.Policy.{Policy}
 use Rattle.ba_model.specs.declared.query.Query.{Query}
 use Rattle.ba_model.specs.declared.value.Value.{Value}
 use Rattle.ba_session.specs.Asking.{IsRequestOf, IsBegun, IsServable, IsGround, Replies, question}
+use Rattle.ba_session.specs.Asking as asking
+use Rattle.ba_session.specs.KeyReads.{KeyReads}
 use Rattle.ba_session.specs.Passing.{ShelfCalls}
 use Rattle.ba_session.specs.declared.reply.By.{By}
 use Rattle.ba_session.specs.declared.reply.By.TheVariants as by
+use Rattle.ba_session.specs.declared.reply.KeyReply.{KeyReply}
+use Rattle.ba_session.specs.declared.reply.KeyReply.TheVariants as key_reply
 use Rattle.ba_session.specs.declared.reply.Reply.{Reply}
 use Rattle.ba_session.specs.declared.reply.Reply.TheVariants.{Answer, Blocked, Unread, NoMemory}
 use Rattle.ba_session.specs.declared.request.Request.{Request}
@@ -79,14 +84,14 @@ module _ (laws : Laws) (number : ℕ → ℕ → ℕ) (policy : Policy) (checked
 
   strong_by : (t : State) (asker : Request) (effort : Effort) (query : Query) (made : ShelfCalls) (basis : By) → AreSound t → HasFound number t made → IsRequestOf policy asker →
       IsQuery policy.schema (kinds_of policy.params) [] query → IsGround policy asker effort query basis made → Strong policy asker.context asker.trace query
-  strong_by t asker effort query made (by.Cover cover) sound found may asks ground =
+  strong_by t asker effort query made (by.Cover cover) sound found may checked_query ground =
       laws.covered policy asker.context asker.trace query checked.fits may.context (laws.covers policy asker.context query cover ground.0)
-  strong_by t asker effort query made (by.Template shard id template it) sound found may asks ground =
+  strong_by t asker effort query made (by.Template shard id template it) sound found may checked_query ground =
       let there = admitted number policy t asker query shard id template it made found ground in
       laws.matched template.problem policy asker.context asker.trace query it
       (All-at (λ (it : Proof). StrongAll it.problem) t.templates (number shard id) template sound there) may.context ground.first.first.is_match
-  strong_by t asker effort query made (by.Proof steps keeping) sound found may asks ground =
-      let fits : QuestionFits policy asker.context asker.trace query = question_fits laws.records policy asker query checked may asks in
+  strong_by t asker effort query made (by.Proof steps keeping) sound found may checked_query ground =
+      let fits : QuestionFits policy asker.context asker.trace query = question_fits laws.records policy asker query checked may checked_query in
       let p = question policy asker query in
       let left = proof_closes effort p (record { problem = p; steps = steps }) ground.proof in
       laws.problem policy asker.context asker.trace query may.context
@@ -200,9 +205,10 @@ module _ (policy : Policy) (s : State) (k : ℕ) where
         ∙ ap (λ (z : State). record z { requests = new.requests }) it.rest
         ∙ ap (λ requests. record s { requests = requests; log = s.log ++ logged k asker.trace }) requests_same
 
-first_may : (policy : Policy) (asker last : Request) (questions : List Question) → AreTold policy asker questions last → IsRequestOf policy asker
+first_may : (policy : Policy) (asker last : Request) (demands : List Demand) → AreTold policy asker demands last → IsRequestOf policy asker
 first_may policy asker last [] told = told.0
-first_may policy asker last (it ∷ others) told = told.0
+first_may policy asker last (asks it ∷ others) told = told.0
+first_may policy asker last (reads it ∷ others) told = told.0
 
 -- ---- the run
 
@@ -256,9 +262,34 @@ module _ (laws : Laws) (number : ℕ → ℕ → ℕ) (policy : Policy) (checked
     reply_on (Unread fault) h later agrees = same_on
     reply_on NoMemory h later agrees = same_on
 
-  all_on : (questions : List Question) (asker last : Request) (es : List Event) (rs : List CoreReply) → Reaches policy s k asker es rs → AreTold policy asker questions last →
-      All (λ (it : Question). HasFound number s it.made) questions →
-      Reaches policy s k last (es ++ asks_of number policy k asker questions) (rs ++ flat_map (λ (it : Question). told_in it.reply) questions)
+  -- a read leaves the machine as it is
+  module _ (asker : Request) (es : List Event) (rs : List CoreReply) (so_far : Reaches policy s k asker es rs) (effort : Effort) (queries : List Query) (made : List ShelfCalls) (may : IsRequestOf policy asker) where
+    read_on_by : (event : Event) (allowed : Bool) (told : IsToldBy policy so_far.at k event (replies.Read allowed) asker) → RepliesCompliantly so_far.at event (replies.Read allowed) → told.new ≡ so_far.at →
+        Reaches policy s k asker (es ++ event ∷ []) (rs ++ replies.Read allowed ∷ [])
+    read_on_by event allowed told compliant stays = record {
+      at = told.new;
+      runs = next so_far.runs (record { step = told.is_reply.step; compliant = compliant });
+      rises = told.is_reply.rising so_far.rises;
+      between = subst (Between policy s k asker) (sym stays) so_far.between;
+    }
+
+    read_on : (reply : KeyReply) → KeyReads policy asker effort queries made reply → AgreesOnRead number policy so_far.at k asker reply →
+        Reaches policy s k asker (es ++ read_in number policy k asker reply) (rs ++ told_of_read reply)
+    read_on (key_reply.Allowed its bases) h agrees =
+        let strong = subst (All (asking.IsCompliant policy asker)) (sym h.0) (grounds_comply policy asker effort queries bases made h.1) in
+        read_on_by (events.Read k its (grounds_of number policy asker its bases)) true agrees (read_complies laws.complies policy so_far.at k asker its so_far.between.has may strong) agrees.is_reply.step.1
+    read_on (key_reply.Blocked its before why) h agrees =
+        let told = barred_alone number policy so_far.at k asker its before why agrees in
+        read_on_by (events.Read k (judged its before) (judged_grounds number policy asker its before)) false told tt told.is_reply.step.1
+    read_on key_reply.NoMemory h agrees = record {
+      at = so_far.at;
+      runs = subst₂ (λ xs ys. Runs s xs ys so_far.at) (sym (append-nil es)) (sym (append-nil rs)) so_far.runs;
+      rises = so_far.rises;
+      between = so_far.between;
+    }
+
+  all_on : (demands : List Demand) (asker last : Request) (es : List Event) (rs : List CoreReply) → Reaches policy s k asker es rs → AreTold policy asker demands last → All (AllFound number s) demands →
+      Reaches policy s k last (es ++ demands_of number policy k asker demands) (rs ++ flat_map told_by demands)
   all_on [] asker last es rs so_far told found =
       let here : Reaches policy s k asker (es ++ []) (rs ++ []) = record {
         at = so_far.at;
@@ -267,27 +298,37 @@ module _ (laws : Laws) (number : ℕ → ℕ → ℕ) (policy : Policy) (checked
         between = so_far.between;
       } in
       subst (λ a. Reaches policy s k a (es ++ []) (rs ++ [])) (sym told.1) here
-  all_on (it ∷ others) asker last es rs so_far told found =
-      let found_here = All-head (λ (it : Question). HasFound number s it.made) it others found in
+  all_on (asks it ∷ others) asker last es rs so_far told found =
+      let found_here : HasFound number s it.made = All-head (AllFound number s) (asks it) others found in
       let found_there = found_between policy s k asker so_far.at so_far.between number it.made found_here in
       let agrees = ask_agrees laws.unique number policy so_far.at k asker it.effort it.text it.made it.reply so_far.between.has found_there told.1 in
       let later = first_may policy (after asker it.reply) last others told.2 in
       let one = reply_on asker es rs so_far it.effort it.text it.made found_here told.0 it.reply told.1 later agrees in
-      let rest = all_on others (after asker it.reply) last (es ++ event_in number policy k asker it.reply) (rs ++ told_in it.reply) one told.2
-      (All-tail (λ (it : Question). HasFound number s it.made) it others found) in
+      let rest = all_on others (after asker it.reply) last (es ++ event_in number policy k asker it.reply) (rs ++ told_in it.reply) one told.2 (All-tail (AllFound number s) (asks it) others found) in
       record {
         at = rest.at;
         runs = subst₂ (λ xs ys. Runs s xs ys rest.at)
-            (append_assoc es (event_in number policy k asker it.reply) (asks_of number policy k (after asker it.reply) others))
-            (append_assoc rs (told_in it.reply) (flat_map (λ (it : Question). told_in it.reply) others)) rest.runs;
+            (append_assoc es (event_in number policy k asker it.reply) (demands_of number policy k (after asker it.reply) others))
+            (append_assoc rs (told_in it.reply) (flat_map told_by others)) rest.runs;
+        rises = rest.rises;
+        between = rest.between;
+      }
+  all_on (reads it ∷ others) asker last es rs so_far told found =
+      let found_here : All (HasFound number s) it.made = All-head (AllFound number s) (reads it) others found in
+      let found_there = All-weaker (HasFound number s) (HasFound number so_far.at) (found_between policy s k asker so_far.at so_far.between number) it.made found_here in
+      let agrees = read_agrees number policy so_far.at k asker it.effort it.queries it.made it.reply so_far.between.has found_there told.1 in
+      let one = read_on asker es rs so_far it.effort it.queries it.made told.0 it.reply told.1 agrees in
+      let rest = all_on others asker last (es ++ read_in number policy k asker it.reply) (rs ++ told_of_read it.reply) one told.2 (All-tail (AllFound number s) (reads it) others found) in
+      record {
+        at = rest.at;
+        runs = subst₂ (λ xs ys. Runs s xs ys rest.at) (append_assoc es (read_in number policy k asker it.reply) (demands_of number policy k asker others)) (append_assoc rs (told_of_read it.reply) (flat_map told_by others)) rest.runs;
         rises = rest.rises;
         between = rest.between;
       }
 
-  run : (context : Context) (asker last : Request) (questions : List Question) → CanBegin policy s k asker → AreRising s → All (λ (it : Question). HasFound number s it.made) questions →
-      IsBegun context asker → AreTold policy asker questions last →
-      Runs s (events_of number policy k context asker questions) (replies_of questions) (record s { log = s.log ++ logged k last.trace })
-  run context asker last questions can rising found begun told =
+  run : (context : Context) (asker last : Request) (demands : List Demand) → CanBegin policy s k asker → AreRising s → All (AllFound number s) demands → IsBegun context asker → AreTold policy asker demands last →
+      Runs s (events_of number policy k context asker demands) (replies_of demands) (record s { log = s.log ++ logged k last.trace })
+  run context asker last demands can rising found begun told =
       let starts = begin_agrees policy s k context asker can begun in
       let step : IsStep s (events.Begin k context asker.version) replies.Begun starts.new = record { step = starts.is_reply.step; compliant = tt } in
       let so_far : Reaches policy s k asker (events.Begin k context asker.version ∷ []) (replies.Begun ∷ []) = record {
@@ -296,10 +337,10 @@ module _ (laws : Laws) (number : ℕ → ℕ → ℕ) (policy : Policy) (checked
         rises = starts.is_reply.rising rising;
         between = between_begun policy s k context asker starts.new can begun starts.is_reply.step;
       } in
-      let all = all_on questions asker last (events.Begin k context asker.version ∷ []) (replies.Begun ∷ []) so_far told found in
+      let all = all_on demands asker last (events.Begin k context asker.version ∷ []) (replies.Begun ∷ []) so_far told found in
       let ends = end_agrees policy all.at k last last.trace all.between.has refl in
       let end_step : IsStep all.at (events.End k) replies.Ended ends.new = record { step = ends.is_reply.step; compliant = tt } in
-      subst (Runs s (events_of number policy k context asker questions) (replies_of questions))
+      subst (Runs s (events_of number policy k context asker demands) (replies_of demands))
       (between_ended policy s k last all.at all.between ends.new ends.is_reply.step can.free rising (ends.is_reply.rising all.rises)) (next all.runs end_step)
 
 -- ---- no other replies
@@ -323,14 +364,13 @@ fronts s (next {events = es} {replies = rs} {event = event} {reply = reply} {old
 
 module _ (unique : AnswerIsUnique) (number : ℕ → ℕ → ℕ) (policy : Policy) (s : State) (k : ℕ) where
   -- what is left of the events, and of the replies
-  abbrev OnlyFrom : Request → List Question → State → Type 0
-  OnlyFrom asker questions t = (rs : List CoreReply) (last : State) → Fronts t (asks_of number policy k asker questions ++ events.End k ∷ []) rs last →
-      rs ≡ flat_map (λ (it : Question). told_in it.reply) questions ++ replies.Ended ∷ []
+  abbrev OnlyFrom : Request → List Demand → State → Type 0
+  OnlyFrom asker demands t = (rs : List CoreReply) (last : State) → Fronts t (demands_of number policy k asker demands ++ events.End k ∷ []) rs last → rs ≡ flat_map told_by demands ++ replies.Ended ∷ []
 
-  only_reply : (asker : Request) (t : State) (reply : Reply) (others : List Question) → Between policy s k asker t → AgreesOn number policy t k asker reply →
+  only_reply : (asker : Request) (t : State) (reply : Reply) (others : List Demand) → Between policy s k asker t → AgreesOn number policy t k asker reply →
       ((mid : State) → Between policy s k (after asker reply) mid → OnlyFrom (after asker reply) others mid) →
-      (rs : List CoreReply) (last : State) → Fronts t ((event_in number policy k asker reply ++ asks_of number policy k (after asker reply) others) ++ events.End k ∷ []) rs last →
-      rs ≡ (told_in reply ++ flat_map (λ (it : Question). told_in it.reply) others) ++ replies.Ended ∷ []
+      (rs : List CoreReply) (last : State) → Fronts t ((event_in number policy k asker reply ++ demands_of number policy k (after asker reply) others) ++ events.End k ∷ []) rs last →
+      rs ≡ (told_in reply ++ flat_map told_by others) ++ replies.Ended ∷ []
   only_reply asker t (Answer query rows basis) others between agrees later rs last (reply, mid, more, step, rest, are) =
       let event = events.Ask k query (ground_of number policy asker query basis) in
       let same = agrees.is_reply.only reply mid step in
@@ -345,29 +385,52 @@ module _ (unique : AnswerIsUnique) (number : ℕ → ℕ → ℕ) (policy : Poli
   only_reply asker t (Unread fault) others between agrees later rs last front = later t (between_same policy s k asker t between) rs last front
   only_reply asker t NoMemory others between agrees later rs last front = later t (between_same policy s k asker t between) rs last front
 
-  only_asks : (questions : List Question) (asker end : Request) (t : State) → Between policy s k asker t → AreTold policy asker questions end →
-      All (λ (it : Question). HasFound number s it.made) questions → OnlyFrom asker questions t
-  only_asks [] asker end t between told found rs last (reply, mid, more, step, rest, are) =
+  -- of an event that is a read
+  only_event : (asker : Request) (t : State) (event : Event) (allowed : Bool) (others : List Demand) → Between policy s k asker t → (told : IsToldBy policy t k event (replies.Read allowed) asker) →
+      ((mid : State) → Steps t event (replies.Read allowed) mid → mid ≡ t) → ((mid : State) → Between policy s k asker mid → OnlyFrom asker others mid) →
+      (rs : List CoreReply) (last : State) → Fronts t ((event ∷ demands_of number policy k asker others) ++ events.End k ∷ []) rs last → rs ≡ (replies.Read allowed ∷ flat_map told_by others) ++ replies.Ended ∷ []
+  only_event asker t event allowed others between told stays later rs last (reply, mid, more, step, rest, are) =
+      let same = told.is_reply.only reply mid step in
+      let there : Between policy s k asker mid = subst (Between policy s k asker) (sym (stays mid (subst (λ r. Steps t event r mid) same step))) between in
+      are ∙ (λ i. same i ∷ later mid there more last rest i)
+
+  only_read : (asker : Request) (t : State) (reply : KeyReply) (others : List Demand) → Between policy s k asker t → AgreesOnRead number policy t k asker reply →
+      ((mid : State) → Between policy s k asker mid → OnlyFrom asker others mid) →
+      (rs : List CoreReply) (last : State) → Fronts t ((read_in number policy k asker reply ++ demands_of number policy k asker others) ++ events.End k ∷ []) rs last →
+      rs ≡ (told_of_read reply ++ flat_map told_by others) ++ replies.Ended ∷ []
+  only_read asker t (key_reply.Allowed its bases) others between agrees later rs last front =
+      only_event asker t (events.Read k its (grounds_of number policy asker its bases)) true others between agrees (λ mid step. step.1) later rs last front
+  only_read asker t (key_reply.Blocked its before why) others between agrees later rs last front =
+      only_event asker t (events.Read k (judged its before) (judged_grounds number policy asker its before)) false others between (barred_alone number policy t k asker its before why agrees) (λ mid step. step.1) later rs last front
+  only_read asker t key_reply.NoMemory others between agrees later rs last front = later t between rs last front
+
+  only_demands : (demands : List Demand) (asker end : Request) (t : State) → Between policy s k asker t → AreTold policy asker demands end → All (AllFound number s) demands → OnlyFrom asker demands t
+  only_demands [] asker end t between told found rs last (reply, mid, more, step, rest, are) =
       let same = (end_agrees policy t k asker asker.trace between.has refl).is_reply.only reply mid step in
       are ∙ (λ i. same i ∷ rest.0 i)
-  only_asks (it ∷ others) asker end t between told found rs last front =
-      let found_here = All-head (λ (it : Question). HasFound number s it.made) it others found in
+  only_demands (asks it ∷ others) asker end t between told found rs last front =
+      let found_here : HasFound number s it.made = All-head (AllFound number s) (asks it) others found in
       let found_there = found_between policy s k asker t between number it.made found_here in
       let agrees = ask_agrees unique number policy t k asker it.effort it.text it.made it.reply between.has found_there told.1 in
-      let found_rest = All-tail (λ (it : Question). HasFound number s it.made) it others found in
-      only_reply asker t it.reply others between agrees (λ mid there. only_asks others (after asker it.reply) end mid there told.2 found_rest) rs last front
+      let found_rest = All-tail (AllFound number s) (asks it) others found in
+      only_reply asker t it.reply others between agrees (λ mid there. only_demands others (after asker it.reply) end mid there told.2 found_rest) rs last front
+  only_demands (reads it ∷ others) asker end t between told found rs last front =
+      let found_here : All (HasFound number s) it.made = All-head (AllFound number s) (reads it) others found in
+      let found_there = All-weaker (HasFound number s) (HasFound number t) (found_between policy s k asker t between number) it.made found_here in
+      let agrees = read_agrees number policy t k asker it.effort it.queries it.made it.reply between.has found_there told.1 in
+      let found_rest = All-tail (AllFound number s) (reads it) others found in
+      only_read asker t it.reply others between agrees (λ mid there. only_demands others asker end mid there told.2 found_rest) rs last front
 
-  only_from_start : (context : Context) (asker end : Request) (questions : List Question) → CanBegin policy s k asker → IsBegun context asker → AreTold policy asker questions end →
-      All (λ (it : Question). HasFound number s it.made) questions →
-      (rs : List CoreReply) (last : State) → Fronts s (events_of number policy k context asker questions) rs last → rs ≡ replies_of questions
-  only_from_start context asker end questions can begun told found rs last (reply, mid, more, step, rest, are) =
+  only_from_start : (context : Context) (asker end : Request) (demands : List Demand) → CanBegin policy s k asker → IsBegun context asker → AreTold policy asker demands end → All (AllFound number s) demands →
+      (rs : List CoreReply) (last : State) → Fronts s (events_of number policy k context asker demands) rs last → rs ≡ replies_of demands
+  only_from_start context asker end demands can begun told found rs last (reply, mid, more, step, rest, are) =
       let event = events.Begin k context asker.version in
       let same = (begin_agrees policy s k context asker can begun).is_reply.only reply mid step in
       let there = between_begun policy s k context asker mid can begun (subst (λ r. Steps s event r mid) same step) in
-      are ∙ (λ i. same i ∷ only_asks questions asker end mid there told found more last rest i)
+      are ∙ (λ i. same i ∷ only_demands demands asker end mid there told found more last rest i)
 
 pub request_is_a_run : Laws → RequestIsARun
-request_is_a_run laws number policy s k context asker questions last checked can rising sound found begun told = record {
-  runs = run laws number policy checked s k sound context asker last questions can rising found begun told;
-  only = λ rs end runs. only_from_start laws.unique number policy s k context asker last questions can begun told found rs end (fronts s runs);
+request_is_a_run laws number policy s k context asker demands last checked can rising sound found begun told = record {
+  runs = run laws number policy checked s k sound context asker last demands can rising found begun told;
+  only = λ rs end runs. only_from_start laws.unique number policy s k context asker last demands can begun told found rs end (fronts s runs);
 }

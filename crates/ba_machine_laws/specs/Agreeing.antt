@@ -1,12 +1,13 @@
 -- A request beside the machine that decides which questions are answered.
-use Rattle.std.specs.Prelude.{◌≡◌, ◌≢◌, ℕ, List, ◌++◌, Contains, None, Some, slice_get, ⊤}
+use Rattle.std.specs.Prelude.{◌≡◌, ◌≢◌, ℕ, ◌+◌, List, [], ◌∷◌, ◌++◌, All, Contains, None, Some, true, false, length, slice_get, take, ⊤}
+use Rattle.std.specs.List.{AllZip}
 use Rattle.std.specs.List.Sorted.{IsStrictlySortedBy}
 use Rattle.std.specs.Map.{keys_of}
 use Rattle.std.specs.Ordering.{nat_cmp}
 use Rattle.ba_cache.specs.declared.call.Kept.{Kept}
 use Rattle.ba_comply.specs.declared.trace.TraceEntry.{TraceEntry}
 use Rattle.ba_core.specs.State.{ChangesOnly, State, opened_at}
-use Rattle.ba_core.specs.Steps.{Steps}
+use Rattle.ba_core.specs.Steps.{Fits, Steps}
 use Rattle.ba_core.specs.declared.event.Asked.TheVariants as asked
 use Rattle.ba_core.specs.declared.event.CoreReply.{CoreReply}
 use Rattle.ba_core.specs.declared.event.CoreReply.TheVariants as replies
@@ -19,9 +20,12 @@ use Rattle.ba_model.specs.declared.policy.Context.{Context}
 use Rattle.ba_model.specs.declared.policy.Policy.{Policy}
 use Rattle.ba_model.specs.declared.query.Query.{Query}
 use Rattle.ba_session.specs.Asking.{IsBegun, Replies, answer_in, look_at, question}
+use Rattle.ba_session.specs.KeyReads.{KeyReads}
 use Rattle.ba_session.specs.Passing.{ShelfCalls}
 use Rattle.ba_session.specs.declared.reply.By.{By}
 use Rattle.ba_session.specs.declared.reply.By.TheVariants as by
+use Rattle.ba_session.specs.declared.reply.KeyReply.{KeyReply}
+use Rattle.ba_session.specs.declared.reply.KeyReply.TheVariants as key_reply
 use Rattle.ba_session.specs.declared.reply.Reply.{Reply}
 use Rattle.ba_session.specs.declared.reply.Reply.TheVariants.{Answer, Blocked, Unread, NoMemory}
 use Rattle.ba_session.specs.declared.request.Request.{Request}
@@ -71,6 +75,23 @@ ground_of number policy asker query (by.Template shard id template found) =
 ground_of number policy asker query (by.Proof steps keeping) =
     grounds.Proof (record { problem = question policy asker query; steps = steps })
 
+-- the grounds that the evidence of several queries is, query by query
+abbrev pub grounds_of : (ℕ → ℕ → ℕ) → Policy → Request → List Query → List By → List Ground
+grounds_of number policy asker [] bases = []
+grounds_of number policy asker (query ∷ queries) [] = []
+grounds_of number policy asker (query ∷ queries) (basis ∷ bases) =
+    ground_of number policy asker query basis ∷ grounds_of number policy asker queries bases
+
+-- Of a read that is blocked, where the queries in front have this evidence, those that were judged:
+-- these, and the one behind them.
+abbrev pub judged : List Query → List By → List Query
+judged queries before = take (length before + 1) queries
+
+-- and the grounds that their evidence is: that of the one behind is a refusal
+abbrev pub judged_grounds : (ℕ → ℕ → ℕ) → Policy → Request → List Query → List By → List Ground
+judged_grounds number policy asker queries before =
+    grounds_of number policy asker queries before ++ grounds.Refuse ∷ []
+
 -- ---- replies
 
 -- the request as it stands after a reply
@@ -111,6 +132,24 @@ AgreesOn number policy s k asker (Unread fault) =
     HasRequest policy s k (after asker (Unread fault))
 AgreesOn number policy s k asker NoMemory = HasRequest policy s k (after asker NoMemory)
 
+-- What a request's reply to a read is to a machine that has the request: where the read is let
+-- through, the machine's reply to the read with the grounds that its evidence is; where it is
+-- blocked, its reply to the read of the queries that were judged, the last of which is refused,
+-- whatever queries with grounds that fit them stand behind. Want of memory is no event. The machine
+-- then has the request as before.
+abbrev pub AgreesOnRead : (ℕ → ℕ → ℕ) → Policy → State → ℕ → Request → KeyReply → Type 0
+AgreesOnRead number policy s k asker (key_reply.Allowed queries by) =
+    IsToldBy policy s k (events.Read k queries (grounds_of number policy asker queries by))
+    (replies.Read true) asker
+AgreesOnRead number policy s k asker (key_reply.Blocked queries before why) =
+    (more : List Query) (others : List Ground) →
+    AllZip (Fits policy s.templates (opened_of asker)) more others →
+    IsToldBy policy s k
+    (events.Read k (judged queries before ++ more)
+    (judged_grounds number policy asker queries before ++ others))
+    (replies.Read false) asker
+AgreesOnRead number policy s k asker key_reply.NoMemory = HasRequest policy s k asker
+
 -- this trace is what the machine had of the request, its reply to the end is that the request
 -- ended, and no request of the number is open then
 pub record EndsWith (s : State) (k : ℕ) (trace : List TraceEntry) : Type 0 where
@@ -128,6 +167,7 @@ abbrev pub IsOfOthers : ℕ → Event → Type 0
 IsOfOthers k (events.Publish tables) = ⊤
 IsOfOthers k (events.Begin j context version) = j ≢ k
 IsOfOthers k (events.Ask j query why) = j ≢ k
+IsOfOthers k (events.Read j queries grounds) = j ≢ k
 IsOfOthers k (events.Admit template) = ⊤
 IsOfOthers k (events.End j) = j ≢ k
 
@@ -151,6 +191,13 @@ AskAgrees = (number : ℕ → ℕ → ℕ) (policy : Policy) (s : State) (k : �
     (effort : Effort) (text : List ℕ) (made : ShelfCalls) (reply : Reply) →
     HasRequest policy s k asker → HasFound number s made →
     Replies policy asker effort text made reply → AgreesOn number policy s k asker reply
+
+-- each reply of a request to a read is the machine's
+abbrev pub ReadAgrees : Type 0
+ReadAgrees = (number : ℕ → ℕ → ℕ) (policy : Policy) (s : State) (k : ℕ) (asker : Request)
+    (effort : Effort) (queries : List Query) (made : List ShelfCalls) (reply : KeyReply) →
+    HasRequest policy s k asker → All (HasFound number s) made →
+    KeyReads policy asker effort queries made reply → AgreesOnRead number policy s k asker reply
 
 -- the end of a request is the machine's step on the event that ends it
 abbrev pub EndAgrees : Type 0

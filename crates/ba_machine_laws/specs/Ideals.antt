@@ -1,23 +1,28 @@
 -- What runs where equations alone are used come to.
-use Rattle.std.specs.Prelude.{◌≡◌, List, All, Option, Some, None, map}
+use Rattle.std.specs.Prelude.{◌≡◌, ℕ, List, All, Option, Some, None, length, map}
 use Rattle.ba_input.specs.declared.input.Input.{Input}
 use Rattle.ba_lanes.specs.Ideal.{IsIdeal, IsServedFully, UsesEquations}
 use Rattle.ba_lanes.specs.Legal.{Legal}
 use Rattle.ba_lanes.specs.declared.journal.Entry.{Entry}
-use Rattle.ba_lanes.specs.declared.journal.Entry.TheVariants.{Begin, Ask, End, Publish, Memory}
+use Rattle.ba_lanes.specs.declared.journal.Entry.TheVariants.{Begin, Ask, Read, End, Publish, Memory}
 use Rattle.ba_lanes.specs.declared.journal.Journal.{Journal}
 use Rattle.ba_model.specs.declared.value.Value.{Value}
+use Rattle.ba_session.specs.declared.reply.KeyReply.{KeyReply}
+use Rattle.ba_session.specs.declared.reply.KeyReply.TheVariants as key_reply
 use Rattle.ba_session.specs.declared.reply.Reply.{Reply}
 use Rattle.ba_session.specs.declared.reply.Reply.TheVariants as reply
 use Rattle.ba_sql_query.specs.declared.fault.ReadQueryFault.{ReadQueryFault}
 
 -- ---- verdicts
 
--- on a question: it is answered by these rows, it is blocked, or it is unread for this fault
+-- On a question: it is answered by these rows, it is blocked, or it is unread for this fault. On a
+-- read: it is let through, or blocked at the query with this index.
 pub data Verdict : Type 0 where
   answered : List (List Value) → Verdict
   blocked : Verdict
   unread : ReadQueryFault → Verdict
+  let_through : Verdict
+  blocked_at : ℕ → Verdict
 
 -- the verdict that a reply tells
 abbrev pub verdict_of : Reply → Option Verdict
@@ -26,10 +31,17 @@ verdict_of (reply.Blocked query why) = Some blocked
 verdict_of (reply.Unread fault) = Some (unread fault)
 verdict_of reply.NoMemory = None
 
--- the verdict at an entry, if it is of a question
+-- the verdict that a reply to a read tells
+abbrev pub verdict_of_read : KeyReply → Option Verdict
+verdict_of_read (key_reply.Allowed queries by) = Some let_through
+verdict_of_read (key_reply.Blocked queries before why) = Some (blocked_at (length before))
+verdict_of_read key_reply.NoMemory = None
+
+-- the verdict at an entry, if it is of a question or a read
 abbrev pub verdict_at : Entry → Option Verdict
 verdict_at (Begin request version) = None
 verdict_at (Ask request version it) = verdict_of it
+verdict_at (Read request version key it) = verdict_of_read it
 verdict_at (End request version) = None
 verdict_at (Publish version) = None
 verdict_at (Memory kind request version) = None

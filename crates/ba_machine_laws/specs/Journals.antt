@@ -3,7 +3,7 @@
 use Rattle.std.specs.Prelude.{◌≡◌, ℕ, ◌+◌, List, [], ◌∷◌, ◌++◌, Bool, false, if◌then◌else◌, None, Some, length, slice_index_or, take}
 use Rattle.std.specs.List.{flat_map}
 use Rattle.ba_machine_laws.specs.Shelves.{templates_of}
-use Rattle.ba_machine_laws.specs.Whole.{IsRunOf, event_in, told_in}
+use Rattle.ba_machine_laws.specs.Whole.{IsRunOf, event_in, read_in, told_in, told_of_read}
 use Rattle.ba_cache.specs.Passes.{ClosedShelf}
 use Rattle.ba_cache.specs.Reads as shelf
 use Rattle.ba_core.specs.State.{State}
@@ -16,11 +16,12 @@ use Rattle.ba_kernel.specs.SearchStates.{Proof}
 use Rattle.ba_lanes.specs.Headline.{IsAskerOf}
 use Rattle.ba_lanes.specs.Legal.{HasContext, Legal, contexts_of, trace_in}
 use Rattle.ba_lanes.specs.declared.journal.Entry.{Entry}
-use Rattle.ba_lanes.specs.declared.journal.Entry.TheVariants.{Begin, Ask, End, Publish, Memory}
+use Rattle.ba_lanes.specs.declared.journal.Entry.TheVariants.{Begin, Ask, Read, End, Publish, Memory}
 use Rattle.ba_lanes.specs.declared.journal.Journal.{Journal}
 use Rattle.ba_model.specs.declared.query.Query.{Query}
 use Rattle.ba_model.specs.declared.value.Value.{Value}
 use Rattle.ba_session.specs.declared.reply.By.{By}
+use Rattle.ba_session.specs.declared.reply.KeyReply.TheVariants as key_reply
 use Rattle.ba_session.specs.declared.reply.Reply.TheVariants.{Answer, Blocked}
 use Rattle.ba_session.specs.declared.reply.Why.{Why}
 use Rattle.ba_session.specs.declared.request.Request.{Request}
@@ -41,14 +42,16 @@ standing input journal earlier request version = record {
 
 -- ---- entries as events
 
--- The event that an entry is, after earlier entries: a begin, a question with its evidence as
--- ground, an end. It is none where the text is unread, where there was no memory, and of tables
--- that are published.
+-- The event that an entry is, after earlier entries: a begin, a question or a read with its
+-- evidence as ground, an end. It is none where the text is unread, where there was no memory, and
+-- of tables that are published.
 abbrev pub event_of : (ℕ → ℕ → ℕ) → Input → Journal → List Entry → Entry → List Event
 event_of number input journal earlier (Begin request version) =
     events.Begin request (standing input journal earlier request version).context version ∷ []
 event_of number input journal earlier (Ask request version reply) =
     event_in number input.policy request (standing input journal earlier request version) reply
+event_of number input journal earlier (Read request version key reply) =
+    read_in number input.policy request (standing input journal earlier request version) reply
 event_of number input journal earlier (End request version) = events.End request ∷ []
 event_of number input journal earlier (Publish version) = []
 event_of number input journal earlier (Memory kind request version) = []
@@ -57,6 +60,7 @@ event_of number input journal earlier (Memory kind request version) = []
 abbrev pub reply_of : Entry → List CoreReply
 reply_of (Begin request version) = replies.Begun ∷ []
 reply_of (Ask request version reply) = told_in reply
+reply_of (Read request version key reply) = told_of_read reply
 reply_of (End request version) = replies.Ended ∷ []
 reply_of (Publish version) = []
 reply_of (Memory kind request version) = []
@@ -65,6 +69,7 @@ reply_of (Memory kind request version) = []
 abbrev pub is_of : (ℕ → Bool) → Entry → Bool
 is_of chosen (Begin request version) = chosen request
 is_of chosen (Ask request version reply) = chosen request
+is_of chosen (Read request version key reply) = chosen request
 is_of chosen (End request version) = chosen request
 is_of chosen (Publish version) = false
 is_of chosen (Memory kind None version) = false
@@ -111,8 +116,9 @@ pub record IsRunFrom (first : State) (es : List Event) (rs : List CoreReply) : T
 -- ---- the laws
 
 -- A request that begins has the context of its begin line. A question that is answered or blocked
--- is asked by the request that stands there: it has this context, the tables of the version that
--- it pinned, and the trace that earlier entries tell.
+-- is asked by the request that stands there, and a read that is let through or blocked is made by
+-- it: it has this context, the tables of the version that it pinned, and the trace that earlier
+-- entries tell.
 pub record AskersStand (input : Input) (journal : Journal) : Type 0 where
   pub begins :
       (before after : List Entry) (request version : ℕ) →
@@ -127,6 +133,20 @@ pub record AskersStand (input : Input) (journal : Journal) : Type 0 where
   pub blocks :
       (before after : List Entry) (request version : ℕ) (query : Query) (why : Why) →
       journal.entries ≡ before ++ Ask request version (Blocked query why) ∷ after →
+      IsAskerOf input journal request version before
+      (standing input journal before request version)
+  pub reads :
+      (before after : List Entry) (request version number : ℕ) (queries : List Query)
+      (bases : List By) →
+      journal.entries ≡
+      before ++ Read request version number (key_reply.Allowed queries bases) ∷ after →
+      IsAskerOf input journal request version before
+      (standing input journal before request version)
+  pub read_blocks :
+      (before after : List Entry) (request version number : ℕ) (queries : List Query)
+      (bases : List By) (why : Why) →
+      journal.entries ≡
+      before ++ Read request version number (key_reply.Blocked queries bases why) ∷ after →
       IsAskerOf input journal request version before
       (standing input journal before request version)
 

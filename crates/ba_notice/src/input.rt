@@ -129,7 +129,7 @@ impl<R: Files + AllocGlobal> Reads<'_, R> {
         let alloc = self.rt.alloc();
         if matches!(&part, Part::Script) {
             return match self.policy(schema)? {
-                Some(policy) => script_hint(alloc, &policy.params, bytes),
+                Some(policy) => script_hint(alloc, &policy.params, &policy.keys, bytes),
                 None => Ok(None),
             };
         }

@@ -14,7 +14,7 @@ fn reason_text(reason: AuditReason) -> &'static str {
             "its keys or fields are those of no line that run prints with --proofs"
         }
         AuditReason::Kind => {
-            "it isn't of the form, the number or the name of the script's line, or its request was begun without memory"
+            "it isn't of the form, the number, the name or the key of the script's line, a read has more or fewer queries than its key, or its request was begun without memory"
         }
         AuditReason::Version => {
             "its version is none that it may have, by the lines that publish and begin"
@@ -22,11 +22,11 @@ fn reason_text(reason: AuditReason) -> &'static str {
         AuditReason::Unread => {
             "whether the question's text has a reading, or which fault it has, is otherwise"
         }
-        AuditReason::By => { "an answer is by cover exactly where single views cover its question" }
-        AuditReason::Covered => "its question is blocked, and single views cover it",
+        AuditReason::By => { "an answer is by cover exactly where single views cover its query" }
+        AuditReason::Covered => "its query is blocked, and single views cover it",
         AuditReason::Rows => "its rows aren't the answer of its question",
-        AuditReason::Proof => "its proof isn't one of its question",
-        AuditReason::Pair => "its pair doesn't refute its question",
+        AuditReason::Proof => "its proof isn't one of its query",
+        AuditReason::Pair => "its pair doesn't refute its query",
         AuditReason::Summary => "its numbers aren't those of the lines before it",
     }
 }

@@ -17,7 +17,10 @@ use Rattle.ba_model.specs.declared.query.Part.{Part}
 use Rattle.ba_model.specs.declared.query.Query.{Query}
 use Rattle.ba_model.specs.declared.schema.Kind.{Kind}
 use Rattle.ba_model.specs.declared.schema.Schema.{Schema}
-use Rattle.ba_policy.specs.Meaning.{DraftFits, param_added, parameter, same_name, with_param}
+use Rattle.ba_policy.specs.Meaning.{DraftFits, KeysFit, key_added, param_added, same_name, view_added, with_param}
+use Rattle.ba_policy.specs.Statements.{parameter}
+use Rattle.ba_lex.specs.declared.token.Lexeme.{Lexeme}
+use Rattle.ba_policy.proofs.DeclareLemmas.{key_is, param_is, view_is}
 use Rattle.ba_policy.specs.declared.draft.Draft.{Draft}
 use Rattle.ba_policy.specs.declared.error.PolicyFault.{PolicyFault}
 use Rattle.ba_policy.specs.declared.error.PolicyFault.TheVariants.{DuplicateParam}
@@ -101,3 +104,20 @@ added_param_fits s d e name kind h fits = at (list_any (same_name name) d.param_
 pub param_given : (s : Schema) (d e : Draft) (name : List ℕ) (kind : Kind) (r : Result (Unit {0}) (Failure PolicyFault)) → Sees (λ u. e) r (param_added d name kind) → DraftFits s d → OnOk r (DraftFits s e)
 param_given s d e name kind (Ok u) h fits = added_param_fits s d e name kind h fits
 param_given s d e name kind (Err f) h fits = tt
+
+-- ---- what a statement leaves as it is
+
+pub param_keeps_keys : (s : Schema) (all : List Parameter) (d e : Draft) (name : List ℕ) (kind : Kind) (r : Result (Unit {0}) (Failure PolicyFault)) → Sees (λ u. e) r (param_added d name kind) → KeysFit s all d.keys → OnOk r (KeysFit s all e.keys)
+param_keeps_keys s all d e name kind (Ok u) h fits = subst (KeysFit s all) (ap (λ (x : Draft). x.keys) (param_is d e name kind h).is) fits
+param_keeps_keys s all d e name kind (Err f) h fits = tt
+
+pub view_keeps_keys : (s : Schema) (all : List Parameter) (d e : Draft) (name : List ℕ) (words : List Lexeme) (r : Result (Unit {0}) (Failure PolicyFault)) → Sees (λ u. e) r (view_added s d name words) → KeysFit s all d.keys → OnOk r (KeysFit s all e.keys)
+view_keeps_keys s all d e name words (Ok u) h fits = subst (KeysFit s all) (ap (λ (x : Draft). x.keys) (view_is s d e name words h).is) fits
+view_keeps_keys s all d e name words (Err f) h fits = tt
+
+pub key_keeps_views : (s : Schema) (all : List Parameter) (d e : Draft) (name : List ℕ) (arguments : List Parameter) (queries : List (List Lexeme)) (r : Result (Unit {0}) (Failure PolicyFault)) → Sees (λ u. e) r (key_added s all d name arguments queries) → DraftFits s d
+    → OnOk r (DraftFits s e)
+key_keeps_views s all d e name arguments queries (Ok u) h fits =
+    let k = key_is s all d e name arguments queries h in
+    subst (DraftFits s) k.is (record { views = fits.views })
+key_keeps_views s all d e name arguments queries (Err f) h fits = tt

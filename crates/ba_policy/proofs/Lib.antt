@@ -1,6 +1,7 @@
 pub mod EndLemmas
-pub mod FitLemmas
-pub mod LoopLemmas
 pub mod StatementLemmas
 pub mod DeclareLemmas
+pub mod FitLemmas
+pub mod KeyLemmas
+pub mod LoopLemmas
 pub mod ReadingLemmas

@@ -7,7 +7,7 @@ use Rattle.ba_model.specs.Readings.{◌>>=◌, widened}
 use Rattle.ba_model.specs.Limits.{most_text_bytes}
 use Rattle.ba_model.specs.declared.policy.Policy.{Policy}
 use Rattle.ba_model.specs.declared.schema.Schema.{Schema}
-use Rattle.ba_policy.specs.Meaning.{all_added, finished, nothing}
+use Rattle.ba_policy.specs.Meaning.{all_added, finished, nothing, params_in}
 use Rattle.ba_policy.specs.Reader.{statements_at}
 use Rattle.ba_policy.specs.Statements.{StatementText}
 use Rattle.ba_policy.specs.declared.error.PolicyFault.{PolicyFault}
@@ -22,7 +22,7 @@ of_grammar e = Syntax
 
 -- what statements mean, all together
 unfoldable pub policy_of_statements : Schema → List StatementText → Result Policy PolicyFault
-policy_of_statements schema statements = all_added schema nothing statements >>= finished schema
+policy_of_statements schema statements = all_added schema (params_in statements) nothing statements >>= finished schema
 
 unfoldable pub policy_of : Schema → List ℕ → Result Policy PolicyFault
 policy_of schema bytes = do

@@ -14,13 +14,18 @@ pub enum PolicyFault {
     Lex(LexFault),
     /// Not all of the words are statements.
     Syntax,
-    /// The statement declares a parameter of this name, which is declared before.
+    /// The statement declares a parameter of this name, which is declared before; or it is a key's and an argument has this name, which
+    /// is that of a parameter before it or of an argument before.
     DuplicateParam(Str),
     /// The statement makes a view of this name, which is made before.
     DuplicateView(Str),
     /// The words of the view of this name are no query.
     View(Str, ReadQueryFault),
-    /// A count is above its limit, views before parameters.
+    /// The statement makes a cache key of this name, which is made before.
+    DuplicateKey(Str),
+    /// The words of one of the queries of the cache key of this name are none. The fault is that of the first such query.
+    Key(Str, ReadQueryFault),
+    /// A count is above its limit: views, then cache keys, then the queries of a key, then parameters with the arguments of a key.
     TooMany { what: Counted, limit: u64 },
 }
 

@@ -1,6 +1,7 @@
 //! Reads a file as a policy.
 #![tactic(auto)]
 
+mod cache_key;
 mod draft;
 mod error;
 pub mod laws;

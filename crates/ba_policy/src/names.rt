@@ -32,6 +32,13 @@ impl Names {
         }
     }
 
+    /// Whether the name is one of them.
+    pub fn has(&self, name: &Str) -> bool
+        ensures { result ≡ list_any (same_name name.now) self.now }
+    {
+        self.set.contains(name)
+    }
+
     /// Adds a name, and says whether it is new.
     pub fn add(&mut self, alloc: Global, name: &Str) -> Result<bool, AllocError>
         ensures is_new { IfOk result (λ new. new ≡ not (list_any (same_name name.now) self.old)) }

@@ -21,7 +21,7 @@ use Rattle.ba_model.specs.declared.value.RowSet.{RowSet}
 use Rattle.ba_model.specs.declared.value.Value.{Value}
 use Rattle.ba_model.specs.declared.value.Value.TheVariants as value
 use Rattle.ba_direct.specs.declared.covers.PartCover.{PartCover}
-use Rattle.ba_evidence.specs.Evidence.{Evidence as Ground, answer_json, by_name as ground_name, covered, database_json, evidence_json, matched, pair_json, part_json, proved, refuted_json, with_tables}
+use Rattle.ba_evidence.specs.Evidence.{Evidence as Ground, answer_json, by_name as ground_name, covered, database_json, evidence_json, matched, name_json, pair_json, part_json, proved, read_json, refuted_json, refuted_read_json, with_tables}
 use Rattle.ba_kernel.specs.declared.step.Step.{Step}
 use Rattle.ba_proof.proofs.EntryLemmas.{all_say}
 use Rattle.ba_proof.proofs.PutLemmas.{text_itself}
@@ -34,13 +34,13 @@ use Rattle.ba_proof.specs.Written.{count as proof_count, list_json, step_json, v
 use Rattle.ba_proof.specs.declared.version.TheConstants.{LAST_VERSION}
 use Rattle.ba_refute.specs.declared.clause.Counterexample.{Counterexample}
 use Rattle.ba_script.specs.Script.{IsJson}
-use Rattle.ba_wire.specs.Printed.{Printed, begin, end, publish, answer, block, unread, memory, by_name, count, json_of, row_json, rows_json, summary_json, value_json}
+use Rattle.ba_wire.specs.Printed.{Printed, begin, end, publish, answer, block, read, read_block, unread, memory, by_name, count, json_of, row_json, rows_json, summary_json, value_json}
 use Rattle.ba_wire.specs.declared.line.Block.TheVariants as wire
 use Rattle.ba_wire.specs.declared.summary.Summary.{Summary}
 use Rattle.ba_printed.proofs.FieldLemmas.{each_zip}
 use Rattle.ba_printed.proofs.LineSaid.{prints_said}
 use Rattle.ba_printed.specs.Reading.{printed_of}
-use Rattle.ba_printed.specs.ReadBack.{AnswerReadsBack, GroundSpells, LineIsJson, PairSpells, PlainReadsBack, RefutedReadsBack, RowsSpell, SetSpells, SummaryReadsBack, meant, plain_line}
+use Rattle.ba_printed.specs.ReadBack.{AnswerReadsBack, GroundSpells, LineIsJson, PairSpells, PlainReadsBack, ReadReadsBack, RefutedReadReadsBack, RefutedReadsBack, RowsSpell, SetSpells, SummaryReadsBack, meant, plain_line}
 use Rattle.ba_printed.specs.Says.{HasTablesAlone, SaysEvidence, SaysLine, SaysOwnStep, SaysPart, SaysRow, SaysRows, SaysTables, by_of}
 use Rattle.ba_printed.specs.declared.line.PrintedBlock.TheVariants as blocked
 use Rattle.ba_printed.specs.declared.line.PrintedLine.{PrintedLine}
@@ -209,6 +209,32 @@ plain_told policy (block (wire.Spent steps) line request version) it e =
 plain_told policy (block (wire.Stuck clause) line request version) it e =
     subst (SaysLine policy (json_of (block (wire.Stuck clause) line request version))) (some_is (form.Block (blocked.Stuck clause) line request version) it e)
     (record { a = count line; b = count version; is = refl; line_is = long_told line; version_is = long_told version })
+plain_told policy (read bys key line request version) it e = cc e
+plain_told policy (read_block wire.Refuted key line query request version) it e = cc e
+plain_told policy (read_block (wire.Spent steps) key line query request version) it e =
+    subst (SaysLine policy (json_of (read_block (wire.Spent steps) key line query request version))) (some_is (form.ReadBlock (blocked.Spent steps) key line query request version) it e)
+    (record {
+      a = count line;
+      b = count query;
+      c = count steps;
+      e = count version;
+      is = refl;
+      line_is = long_told line;
+      query_is = long_told query;
+      steps_are = long_told steps;
+      version_is = long_told version;
+    })
+plain_told policy (read_block (wire.Stuck clause) key line query request version) it e =
+    subst (SaysLine policy (json_of (read_block (wire.Stuck clause) key line query request version))) (some_is (form.ReadBlock (blocked.Stuck clause) key line query request version) it e)
+    (record {
+      a = count line;
+      b = count query;
+      c = count version;
+      is = refl;
+      line_is = long_told line;
+      query_is = long_told query;
+      version_is = long_told version;
+    })
 plain_told policy (unread line request fault version) it e =
     subst (SaysLine policy (json_of (unread line request fault version))) (some_is (form.Unread line request fault version) it e)
     (record { a = count line; b = count version; is = refl; line_is = long_told line; version_is = long_told version })
@@ -250,6 +276,31 @@ answer_told policy it line request rows version apart ground spelled = record {
   version_is = long_told version;
 }
 
+-- ---- reads
+
+same_names : (its : List Ground) → map name_json its ≡ map (λ by. string (by_name by)) (map by_of (map meant its))
+same_names [] = refl
+same_names (it ∷ its) =
+    ap (λ s. string s ∷ map name_json its) (same_by it) ∙ ap (λ ds. string (by_name (by_of (meant it))) ∷ ds) (same_names its)
+
+grounds_told : (policy : Policy) (its : List Ground) → AreDistinct (map (λ q. q.name) policy.params) → AllByRecursion (GroundSpells policy) its
+    → AllZip (SaysEvidence policy) (map (evidence_json policy.params) its) (map meant its)
+grounds_told policy [] apart h = tt
+grounds_told policy (it ∷ its) apart h = (ground_told policy it apart h.0, grounds_told policy its apart h.1)
+
+read_told : (policy : Policy) (its : List Ground) (key : List ℕ) (line : ℕ) (request : List ℕ) (version : ℕ) → AreDistinct (map (λ q. q.name) policy.params) → All (GroundSpells policy) its
+    → SaysLine policy (read_json policy.params its key line request version) (form.Read (map meant its) key line request version)
+unfolding read_json
+read_told policy its key line request version apart h = record {
+  a = count line;
+  b = list_json (map (evidence_json policy.params) its);
+  c = count version;
+  is = ap (λ names. object (member (codes "by") (list_json names) (member (codes "key") (string key) (member (codes "line") (count line) (member (codes "proof") (list_json (map (evidence_json policy.params) its)) (member (codes "read") (string request) (member (codes "version") (count version) no_members))))))) (same_names its);
+  line_is = long_told line;
+  evidence_is = record { ds = map (evidence_json policy.params) its; is = refl; said = grounds_told policy its apart (recursion_from_All (GroundSpells policy) its h) };
+  version_is = long_told version;
+}
+
 refuted_told : (policy : Policy) (pair : Counterexample) (line : ℕ) (request : List ℕ) (version : ℕ) → AreDistinct (table_names policy.schema.tables) → PairSpells policy.schema.tables pair
     → SaysLine policy (refuted_json policy.schema pair line request version) (form.Block (blocked.Refuted pair) line request version)
 unfolding refuted_json pair_json
@@ -268,6 +319,30 @@ refuted_told policy pair line request version apart h = record {
     row = row_told pair.row h.row;
     two = set_told policy.schema pair.two apart h.two;
   };
+  version_is = long_told version;
+}
+
+refuted_read_told : (policy : Policy) (pair : Counterexample) (key : List ℕ) (line query : ℕ) (request : List ℕ) (version : ℕ) → AreDistinct (table_names policy.schema.tables)
+    → PairSpells policy.schema.tables pair
+    → SaysLine policy (refuted_read_json policy.schema pair key line query request version) (form.ReadBlock (blocked.Refuted pair) key line query request version)
+unfolding refuted_read_json pair_json
+refuted_read_told policy pair key line query request version apart h = record {
+  a = count line;
+  b = pair_json policy.schema pair;
+  c = count query;
+  e = count version;
+  is = refl;
+  line_is = long_told line;
+  pair_is = record {
+    a = database_json policy.schema pair.one;
+    b = row_json pair.row;
+    c = database_json policy.schema pair.two;
+    is = refl;
+    one = set_told policy.schema pair.one apart h.one;
+    row = row_told pair.row h.row;
+    two = set_told policy.schema pair.two apart h.two;
+  };
+  query_is = long_told query;
   version_is = long_told version;
 }
 
@@ -299,3 +374,13 @@ pub refuted_back : RefutedReadsBack
 refuted_back policy pair line request version text apart h is =
     prints_said policy text (form.Block (blocked.Refuted pair) line request version)
     (refuted_json policy.schema pair line request version, is, refuted_told policy pair line request version apart h)
+
+pub read_back : ReadReadsBack
+read_back policy its key line request version text apart h is =
+    prints_said policy text (form.Read (map meant its) key line request version)
+    (read_json policy.params its key line request version, is, read_told policy its key line request version apart h)
+
+pub refuted_read_back : RefutedReadReadsBack
+refuted_read_back policy pair key line query request version text apart h is =
+    prints_said policy text (form.ReadBlock (blocked.Refuted pair) key line query request version)
+    (refuted_read_json policy.schema pair key line query request version, is, refuted_read_told policy pair key line query request version apart h)

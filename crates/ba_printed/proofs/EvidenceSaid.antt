@@ -92,11 +92,11 @@ module _ (policy : Policy) where
   -- ---- evidence
 
   -- the name of the evidence, and what the items say
-  record Named (name : List ℕ) (ds : List Data) (it : Evidence) : Type 0 where
-    called : name ≡ by_name (by_of it)
-    says : SaysEvidence policy (list_json ds) it
+  pub record Named (name : List ℕ) (ds : List Data) (it : Evidence) : Type 0 where
+    pub called : name ≡ by_name (by_of it)
+    pub says : SaysEvidence policy (list_json ds) it
 
-  named_is : (name : List ℕ) (ds : List Data) (it : Evidence) → evidence_named policy.params name ds ≡ Ok it → Named name ds it
+  pub named_is : (name : List ℕ) (ds : List Data) (it : Evidence) → evidence_named policy.params name ds ≡ Ok it → Named name ds it
   unfolding evidence_named
   named_is name ds it e =
       choose (Named name ds it) (bytes_eq name (codes "cover")) _ _ it e
@@ -131,15 +131,15 @@ module _ (policy : Policy) where
         says = subst (λ x. SaysEvidence policy x it) (sym is) named.says;
       }
 
-  cover_said : (ds : List Data) (parts : List PartCover) → AllZip SaysPart ds parts → evidence_named policy.params (codes "cover") ds ≡ Ok (evidence.Cover (cover_with parts))
+  pub cover_said : (ds : List Data) (parts : List PartCover) → AllZip SaysPart ds parts → evidence_named policy.params (codes "cover") ds ≡ Ok (evidence.Cover (cover_with parts))
   unfolding evidence_named
   cover_said ds parts z = ap (λ r. r >>= λ it. Ok (evidence.Cover (cover_with it))) (zip_each part_of SaysPart part_said ds parts z)
 
-  template_said : (ds : List Data) (steps : List Step) → AllZip (SaysOwnStep policy) ds steps → evidence_named policy.params (codes "template") ds ≡ Ok (evidence.Template steps)
+  pub template_said : (ds : List Data) (steps : List Step) → AllZip (SaysOwnStep policy) ds steps → evidence_named policy.params (codes "template") ds ≡ Ok (evidence.Template steps)
   unfolding evidence_named
   template_said ds steps z = ap (λ r. r >>= λ it. Ok (evidence.Template it)) (steps_said ds steps z)
 
-  proof_said : (ds : List Data) (steps : List Step) → AllZip (SaysOwnStep policy) ds steps → evidence_named policy.params (codes "proof") ds ≡ Ok (evidence.Proof steps)
+  pub proof_said : (ds : List Data) (steps : List Step) → AllZip (SaysOwnStep policy) ds steps → evidence_named policy.params (codes "proof") ds ≡ Ok (evidence.Proof steps)
   unfolding evidence_named
   proof_said ds steps z = ap (λ r. r >>= λ it. Ok (evidence.Proof it)) (steps_said ds steps z)
 

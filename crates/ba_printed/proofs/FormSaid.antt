@@ -28,13 +28,13 @@ use Rattle.ba_printed.specs.declared.line.PrintedLine.TheVariants as form
 use Rattle.ba_printed.specs.declared.shapes.FormFault.{FormFault}
 
 -- the reading of the field's value
-via : {B : Type 0} (name : List ℕ) (d x : Data) (f : Data → Result B FormFault) (y : B) → get name d ≡ Some x → (field name d >>= f) ≡ Ok y → f x ≡ Ok y
+pub via : {B : Type 0} (name : List ℕ) (d x : Data) (f : Data → Result B FormFault) (y : B) → get name d ≡ Some x → (field name d >>= f) ≡ Ok y → f x ≡ Ok y
 via name d x f y there e =
     let found = bound (field name d) f y e in
     ap f (field_is name d x found.0 there found.1) ∙ found.2
 
 -- the text of the field, which f reads
-via_text : {B : Type 0} (name : List ℕ) (d x : Data) (f : List ℕ → Result B FormFault) (y : B) → get name d ≡ Some x → (text_in name d >>= f) ≡ Ok y
+pub via_text : {B : Type 0} (name : List ℕ) (d x : Data) (f : List ℕ → Result B FormFault) (y : B) → get name d ≡ Some x → (text_in name d >>= f) ≡ Ok y
     → (s : List ℕ) × (x ≡ string s) × (f s ≡ Ok y)
 via_text name d x f y there e =
     let found = bound (text_in name d) f y e in

@@ -4,5 +4,8 @@ pub mod RowSaid
 pub mod EvidenceSaid
 pub mod NameSaid
 pub mod FormSaid
+pub mod GroundSaid
+pub mod GroundLemmas
+pub mod ReadSaid
 pub mod LineSaid
 pub mod BackLemmas

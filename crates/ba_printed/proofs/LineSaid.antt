@@ -15,7 +15,8 @@ use Rattle.ba_wire.specs.Printed.{unsupported_in}
 use Rattle.ba_printed.proofs.FieldLemmas.{choose, formed, keys_2, keys_3, keys_4, keys_5, keys_6, keys_7, ok_is}
 use Rattle.ba_printed.proofs.FormSaid.{answer_said, answer_there, begin_said, begin_there, end_said, end_there, memory_said, memory_there, publish_said, publish_there, refuted_said, refuted_there, spent_said, spent_there, stuck_said, stuck_there, summary_said, summary_there, unread_said, unread_there, unsupported_said, unsupported_there}
 use Rattle.ba_printed.proofs.NameSaid.{unsupported_is}
-use Rattle.ba_printed.specs.Reading.{answer_keys, begin_keys, block_of, end_keys, form_of, line_at, line_or, memory_keys, other_of, printed_of, publish_keys, refuted_keys, spent_keys, stuck_keys, summary_keys, unread_keys, unsupported_keys}
+use Rattle.ba_printed.proofs.ReadSaid.{read_said, read_there, refuted_read_said, refuted_read_there, spent_read_said, spent_read_there, stuck_read_said, stuck_read_there, uneven_said}
+use Rattle.ba_printed.specs.Reading.{answer_keys, begin_keys, block_of, end_keys, form_of, line_at, line_or, memory_keys, other_of, printed_of, publish_keys, read_keys, read_of, refuted_keys, refuted_read_keys, spent_keys, spent_read_keys, stuck_keys, stuck_read_keys, summary_keys, unread_keys, unsupported_keys}
 use Rattle.ba_printed.specs.Says.{IsShapeless, Prints, PrintedIsExact, SaysLine, SaysUnread}
 use Rattle.ba_printed.specs.Shapes.{keys_are, or_form}
 use Rattle.ba_printed.specs.declared.line.LineReason.{LineReason}
@@ -29,7 +30,20 @@ use Rattle.ba_printed.specs.declared.shapes.FormFault.{FormFault}
 
 module _ (policy : Policy) where
   module _ (d : Data) (ms : Members) (it : PrintedLine) (is : d ≡ object ms) where
-    other_is : other_of d ms ≡ Ok it → SaysLine policy d it
+    read_is : read_of policy d ms ≡ Ok it → SaysLine policy d it
+    unfolding read_of
+    read_is e0 =
+        choose (SaysLine policy d it) (keys_are read_keys ms) _ _ it e0
+        (λ b h. (let keys = keys_6 (codes "by") (codes "key") (codes "line") (codes "proof") (codes "read") (codes "version") ms b in read_there policy d keys.0 keys.1 keys.2 keys.3 keys.4 keys.5 it (is ∙ ap object keys.6) h))
+        (λ e1. choose (SaysLine policy d it) (keys_are refuted_read_keys ms) _ _ it e1
+        (λ b h. (let keys = keys_7 (codes "blocked") (codes "key") (codes "line") (codes "pair") (codes "query") (codes "read") (codes "version") ms b in refuted_read_there policy d keys.0 keys.1 keys.2 keys.3 keys.4 keys.5 keys.6 it (is ∙ ap object keys.7) h))
+        (λ e2. choose (SaysLine policy d it) (keys_are spent_read_keys ms) _ _ it e2
+        (λ b h. (let keys = keys_7 (codes "blocked") (codes "key") (codes "line") (codes "query") (codes "read") (codes "steps") (codes "version") ms b in spent_read_there policy d keys.0 keys.1 keys.2 keys.3 keys.4 keys.5 keys.6 it (is ∙ ap object keys.7) h))
+        (λ e3. choose (SaysLine policy d it) (keys_are stuck_read_keys ms) _ _ it e3
+        (λ b h. (let keys = keys_7 (codes "blocked") (codes "clause") (codes "key") (codes "line") (codes "query") (codes "read") (codes "version") ms b in stuck_read_there policy d keys.0 keys.1 keys.2 keys.3 keys.4 keys.5 keys.6 it (is ∙ ap object keys.7) h))
+        (λ e4. cc e4))))
+
+    other_is : other_of policy d ms ≡ Ok it → SaysLine policy d it
     unfolding other_of
     other_is e0 =
         choose (SaysLine policy d it) (keys_are begin_keys ms) _ _ it e0
@@ -42,9 +56,9 @@ module _ (policy : Policy) where
         (λ b h. (let keys = keys_2 (codes "line") (codes "memory") ms b in memory_there policy d keys.0 keys.1 it (is ∙ ap object keys.2) h))
         (λ e4. choose (SaysLine policy d it) (keys_are summary_keys ms) _ _ it e4
         (λ b h. (let keys = keys_7 (codes "answered") (codes "blocked") (codes "lines") (codes "memory") (codes "requests") (codes "rows") (codes "unread") ms b in summary_there policy d keys.0 keys.1 keys.2 keys.3 keys.4 keys.5 keys.6 it (is ∙ ap object keys.7) h))
-        (λ e5. cc e5)))))
+        (λ e5. read_is e5)))))
 
-    block_is : block_of policy.schema.tables d ms ≡ Ok it → SaysLine policy d it
+    block_is : block_of policy d ms ≡ Ok it → SaysLine policy d it
     unfolding block_of
     block_is e0 =
         choose (SaysLine policy d it) (keys_are refuted_keys ms) _ _ it e0
@@ -87,6 +101,11 @@ module _ (policy : Policy) where
   line_said d (form.Block (blocked.Refuted pair) line request version) h = refuted_said policy d pair line request version h
   line_said d (form.Block (blocked.Spent steps) line request version) h = spent_said policy d steps line request version h
   line_said d (form.Block (blocked.Stuck clause) line request version) h = stuck_said policy d clause line request version h
+  line_said d (form.Read its key line request version) h = read_said policy d its key line request version h
+  line_said d (form.ReadBlock (blocked.Refuted pair) key line query request version) h = refuted_read_said policy d pair key line query request version h
+  line_said d (form.ReadBlock (blocked.Spent steps) key line query request version) h = spent_read_said policy d steps key line query request version h
+  line_said d (form.ReadBlock (blocked.Stuck clause) key line query request version) h = stuck_read_said policy d clause key line query request version h
+  line_said d form.UnevenRead h = uneven_said policy d h
   line_said d (form.Unread line request fault version) h = unread_by d line request fault version (unsupported_in fault) refl h
   line_said d (form.Memory line) h = memory_said policy d line h
   line_said d (form.Summary it) h = summary_said policy d it h

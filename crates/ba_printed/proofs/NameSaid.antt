@@ -1,17 +1,22 @@
--- Clauses and faults are read exactly under their names.
+-- Clauses, faults and kinds of evidence are read exactly under their names.
 use Rattle.std.proofs.Common.{◌≡◌, ◌∙◌, ℕ, List, Bool, true, false, Option, Some, None, Result, Ok, Err, refl, sym, ap, subst, codes}
 use Rattle.std.specs.Str.{bytes_eq}
+use Rattle.serde_json.specs.Data.{Data, string}
 use Rattle.ba_lex.specs.declared.token.LexFault.{LexFault}
 use Rattle.ba_lex.specs.declared.token.LexFault.TheVariants as lex
+use Rattle.ba_proof.proofs.FitLemmas.{bound}
 use Rattle.ba_proof.proofs.PutLemmas.{same_text}
 use Rattle.ba_refute.specs.declared.clause.Clause.{Clause}
 use Rattle.ba_refute.specs.declared.clause.Clause.TheVariants as clause
 use Rattle.ba_sql_query.specs.declared.fault.ReadQueryFault.{ReadQueryFault}
 use Rattle.ba_sql_query.specs.declared.fault.ReadQueryFault.TheVariants as query
 use Rattle.ba_wire.specs.Names.{fault_name}
-use Rattle.ba_wire.specs.Printed.{clause_name, unsupported_in}
-use Rattle.ba_printed.proofs.FieldLemmas.{choose, ok_is}
-use Rattle.ba_printed.specs.Reading.{clause_named, fault_named, lex_named}
+use Rattle.ba_wire.specs.Printed.{by_name, clause_name, unsupported_in}
+use Rattle.ba_wire.specs.declared.line.By.{By}
+use Rattle.ba_wire.specs.declared.line.By.TheVariants as by
+use Rattle.ba_printed.proofs.FieldLemmas.{choose, ok_is, text_of_is}
+use Rattle.ba_printed.specs.Reading.{by_at, by_named, clause_named, fault_named, lex_named}
+use Rattle.ba_printed.specs.Shapes.{text_of}
 use Rattle.ba_printed.specs.declared.shapes.FormFault.{FormFault}
 
 -- ---- clauses
@@ -109,3 +114,32 @@ unsupported_is query.TooMany word e = cc e
 pub unsupported_name : (word : List ℕ) → fault_name (query.Unsupported word) ≡ codes "unsupported"
 unfolding fault_name
 unsupported_name word = refl
+
+-- ---- kinds of evidence
+
+one_by : (s name : List ℕ) (it other : By) → bytes_eq s name ≡ true → name ≡ by_name it → ◌≡◌ {A = Result By FormFault} (Ok it) (Ok other) → s ≡ by_name other
+one_by s name it other b is e = same_text s name b ∙ (is ∙ ap by_name (ok_is {F = FormFault} it other e))
+
+by_is : (s : List ℕ) (it : By) → by_named s ≡ Ok it → s ≡ by_name it
+unfolding by_named
+by_is s it e0 =
+    choose (s ≡ by_name it) (bytes_eq s (codes "cover")) _ _ it e0 (λ b h. one_by s (codes "cover") by.Cover it b refl h)
+    (λ e1. choose (s ≡ by_name it) (bytes_eq s (codes "template")) _ _ it e1 (λ b h. one_by s (codes "template") by.Template it b refl h)
+    (λ e2. choose (s ≡ by_name it) (bytes_eq s (codes "proof")) _ _ it e2 (λ b h. one_by s (codes "proof") by.Proof it b refl h)
+    (λ e3. cc e3)))
+
+by_said : (it : By) → by_named (by_name it) ≡ Ok it
+unfolding by_named
+by_said by.Cover = refl
+by_said by.Template = refl
+by_said by.Proof = refl
+
+pub by_at_is : (d : Data) (it : By) → by_at d ≡ Ok it → d ≡ string (by_name it)
+unfolding by_at
+by_at_is d it e =
+    let name = bound (text_of d) by_named it e in
+    text_of_is d name.0 name.1 ∙ ap string (by_is name.0 it name.2)
+
+pub by_at_said : (it : By) → by_at (string (by_name it)) ≡ Ok it
+unfolding by_at
+by_at_said it = by_said it

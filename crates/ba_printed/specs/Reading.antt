@@ -1,5 +1,5 @@
 -- What a printed line is, over the reading of its bytes as JSON.
-use Rattle.std.specs.Prelude.{◌&&◌, ℕ, Bool, true, false, List, [], ◌∷◌, codes, Option, Some, None, Result, Ok, Err, ⊤, if◌then◌else◌}
+use Rattle.std.specs.Prelude.{◌&&◌, ◌==◌, ℕ, Bool, true, false, List, [], ◌∷◌, codes, length, Option, Some, None, Result, Ok, Err, ⊤, if◌then◌else◌}
 use Rattle.std.specs.List.{list_any}
 use Rattle.std.specs.Str.{bytes_eq, is_utf8}
 use Rattle.serde_json.specs.Data.{Data, Members, no_members, member}
@@ -27,6 +27,8 @@ use Rattle.ba_script.specs.declared.line.Given.{Given}
 use Rattle.ba_script.specs.declared.line.Given.TheVariants as given
 use Rattle.ba_sql_query.specs.declared.fault.ReadQueryFault.{ReadQueryFault}
 use Rattle.ba_sql_query.specs.declared.fault.ReadQueryFault.TheVariants as query
+use Rattle.ba_wire.specs.declared.line.By.{By}
+use Rattle.ba_wire.specs.declared.line.By.TheVariants as by
 use Rattle.ba_wire.specs.declared.summary.Summary.{Summary}
 use Rattle.ba_printed.specs.Shapes.{field, is_true, keys_are, list_of, long_in, long_of, longs_of, only_if, or_form, text_in, text_of, word_in}
 use Rattle.ba_printed.specs.declared.line.Evidence.{Evidence}
@@ -140,6 +142,37 @@ evidence_named params name ds =
 unfoldable pub evidence_in : List Parameter → Data → Result Evidence FormFault
 evidence_in params d = text_in (codes "by") d >>= λ name. (field (codes "proof") d >>= list_of >>= evidence_named params name)
 
+-- ---- evidence of reads
+
+-- what a query rests on, by its name and its proof
+unfoldable pub ground_of : List Parameter → Data → Data → Result Evidence FormFault
+ground_of params name proof = text_of name >>= λ s. (list_of proof >>= evidence_named params s)
+
+-- what each query rests on, one after another
+abbrev pub grounds_of : List Parameter → List Data → List Data → Result (List Evidence) FormFault
+grounds_of params [] proofs = Ok []
+grounds_of params (name ∷ names) [] = Ok []
+grounds_of params (name ∷ names) (proof ∷ proofs) =
+    ground_of params name proof >>= λ it. (grounds_of params names proofs >>= λ more. Ok (it ∷ more))
+
+unfoldable pub by_named : List ℕ → Result By FormFault
+by_named s =
+    if bytes_eq s (codes "cover") then Ok by.Cover
+    else (if bytes_eq s (codes "template") then Ok by.Template
+    else (if bytes_eq s (codes "proof") then Ok by.Proof
+    else Err NoForm))
+
+unfoldable pub by_at : Data → Result By FormFault
+by_at d = text_of d >>= by_named
+
+abbrev pub or_steps : List Parameter → List Data → Result Evidence FormFault → Result Evidence FormFault
+or_steps params ds (Ok it) = Ok it
+or_steps params ds (Err fault) = evidence_named params (codes "proof") ds
+
+-- a proof that no name stands beside
+unfoldable pub unnamed_of : List Parameter → Data → Result Evidence FormFault
+unnamed_of params d = list_of d >>= λ ds. or_steps params ds (evidence_named params (codes "cover") ds)
+
 -- ---- names
 
 unfoldable pub clause_named : List ℕ → Result Clause FormFault
@@ -208,6 +241,42 @@ stuck_from d =
     word_in (codes "stuck") (codes "blocked") d >>= λ said. (long_in (codes "line") d >>= λ number. (long_in (codes "version") d >>= λ version.
     (text_in (codes "clause") d >>= clause_named >>= λ it. (text_in (codes "request") d >>= λ request. Ok (line.Block (blocked.Stuck it) number request version)))))
 
+-- of a read whose names and proofs are not equally many
+unfoldable pub uneven_from : List Parameter → List Data → List Data → Result PrintedLine FormFault
+uneven_from params names proofs = each by_at names >>= λ bys. (each (unnamed_of params) proofs >>= λ its. Ok line.UnevenRead)
+
+unfoldable pub even_from : List Parameter → List Data → List Data → List ℕ → ℕ → List ℕ → ℕ → Result PrintedLine FormFault
+even_from params names proofs key number request version =
+    grounds_of params names proofs >>= λ its. Ok (line.Read its key number request version)
+
+unfoldable pub read_with : List Parameter → List Data → List Data → List ℕ → ℕ → List ℕ → ℕ → Result PrintedLine FormFault
+read_with params names proofs key number request version =
+    if length names == length proofs then even_from params names proofs key number request version else uneven_from params names proofs
+
+unfoldable pub read_from : List Parameter → Data → Result PrintedLine FormFault
+read_from params d =
+    long_in (codes "line") d >>= λ number. (long_in (codes "version") d >>= λ version. (text_in (codes "key") d >>= λ key.
+    (text_in (codes "read") d >>= λ request. (field (codes "by") d >>= list_of >>= λ names. (field (codes "proof") d >>= list_of >>= λ proofs.
+    read_with params names proofs key number request version)))))
+
+unfoldable pub refuted_read_from : List Table → Data → Result PrintedLine FormFault
+refuted_read_from tables d =
+    word_in (codes "refuted") (codes "blocked") d >>= λ said. (long_in (codes "line") d >>= λ number. (long_in (codes "version") d >>= λ version.
+    (long_in (codes "query") d >>= λ query. (text_in (codes "key") d >>= λ key. (text_in (codes "read") d >>= λ request.
+    (field (codes "pair") d >>= pair_of tables >>= λ pair. Ok (line.ReadBlock (blocked.Refuted pair) key number query request version)))))))
+
+unfoldable pub spent_read_from : Data → Result PrintedLine FormFault
+spent_read_from d =
+    word_in (codes "spent") (codes "blocked") d >>= λ said. (long_in (codes "line") d >>= λ number. (long_in (codes "version") d >>= λ version.
+    (long_in (codes "query") d >>= λ query. (long_in (codes "steps") d >>= λ steps. (text_in (codes "key") d >>= λ key.
+    (text_in (codes "read") d >>= λ request. Ok (line.ReadBlock (blocked.Spent steps) key number query request version)))))))
+
+unfoldable pub stuck_read_from : Data → Result PrintedLine FormFault
+stuck_read_from d =
+    word_in (codes "stuck") (codes "blocked") d >>= λ said. (long_in (codes "line") d >>= λ number. (long_in (codes "version") d >>= λ version.
+    (long_in (codes "query") d >>= λ query. (text_in (codes "clause") d >>= clause_named >>= λ it. (text_in (codes "key") d >>= λ key.
+    (text_in (codes "read") d >>= λ request. Ok (line.ReadBlock (blocked.Stuck it) key number query request version)))))))
+
 unfoldable pub unread_from : Data → Result PrintedLine FormFault
 unread_from d =
     long_in (codes "line") d >>= λ number. (long_in (codes "version") d >>= λ version.
@@ -266,30 +335,51 @@ memory_keys = codes "line" ∷ codes "memory" ∷ []
 abbrev pub summary_keys : List (List ℕ)
 summary_keys = codes "answered" ∷ codes "blocked" ∷ codes "lines" ∷ codes "memory" ∷ codes "requests" ∷ codes "rows" ∷ codes "unread" ∷ []
 
--- of a line that isn't a question's; the forms of reads of cache keys have their place below
-unfoldable pub other_of : Data → Members → Result PrintedLine FormFault
-other_of d members =
+abbrev pub read_keys : List (List ℕ)
+read_keys = codes "by" ∷ codes "key" ∷ codes "line" ∷ codes "proof" ∷ codes "read" ∷ codes "version" ∷ []
+
+abbrev pub refuted_read_keys : List (List ℕ)
+refuted_read_keys = codes "blocked" ∷ codes "key" ∷ codes "line" ∷ codes "pair" ∷ codes "query" ∷ codes "read" ∷ codes "version" ∷ []
+
+abbrev pub spent_read_keys : List (List ℕ)
+spent_read_keys = codes "blocked" ∷ codes "key" ∷ codes "line" ∷ codes "query" ∷ codes "read" ∷ codes "steps" ∷ codes "version" ∷ []
+
+abbrev pub stuck_read_keys : List (List ℕ)
+stuck_read_keys = codes "blocked" ∷ codes "clause" ∷ codes "key" ∷ codes "line" ∷ codes "query" ∷ codes "read" ∷ codes "version" ∷ []
+
+-- of a read of a cache key
+unfoldable pub read_of : Policy → Data → Members → Result PrintedLine FormFault
+read_of policy d members =
+    if keys_are read_keys members then read_from policy.params d
+    else (if keys_are refuted_read_keys members then refuted_read_from policy.schema.tables d
+    else (if keys_are spent_read_keys members then spent_read_from d
+    else (if keys_are stuck_read_keys members then stuck_read_from d
+    else Err NoForm)))
+
+-- of a line that isn't a question's
+unfoldable pub other_of : Policy → Data → Members → Result PrintedLine FormFault
+other_of policy d members =
     if keys_are begin_keys members then begin_from d
     else (if keys_are end_keys members then end_from d
     else (if keys_are publish_keys members then publish_from d
     else (if keys_are memory_keys members then memory_from d
     else (if keys_are summary_keys members then summary_from d
-    else Err NoForm))))
+    else read_of policy d members))))
 
 -- of a block
-unfoldable pub block_of : List Table → Data → Members → Result PrintedLine FormFault
-block_of tables d members =
-    if keys_are refuted_keys members then refuted_from tables d
+unfoldable pub block_of : Policy → Data → Members → Result PrintedLine FormFault
+block_of policy d members =
+    if keys_are refuted_keys members then refuted_from policy.schema.tables d
     else (if keys_are spent_keys members then spent_from d
     else (if keys_are stuck_keys members then stuck_from d
-    else other_of d members))
+    else other_of policy d members))
 
 unfoldable pub form_of : Policy → Data → Members → Result PrintedLine FormFault
 form_of policy d members =
     if keys_are answer_keys members then answer_from policy.params d
     else (if keys_are unread_keys members then unread_from d
     else (if keys_are unsupported_keys members then unsupported_from d
-    else block_of policy.schema.tables d members))
+    else block_of policy d members))
 
 abbrev pub line_at : Policy → Data → Result PrintedLine FormFault
 line_at policy d = or_form (as_object d) >>= form_of policy d

@@ -1,5 +1,5 @@
 -- What a printed line says, apart from how it is read.
-use Rattle.std.specs.Prelude.{◌≡◌, ◌≢◌, ◌↔◌, ℕ, List, [], ◌∷◌, All, codes, true, Some, None, Ok, Err}
+use Rattle.std.specs.Prelude.{◌≡◌, ◌≢◌, ◌↔◌, ℕ, List, [], ◌∷◌, All, codes, length, map, true, Some, None, Ok, Err}
 use Rattle.std.specs.List.{AllZip, Any}
 use Rattle.serde_json.specs.Data.{Data, Members, boolean, string, object, no_members, member}
 use Rattle.ba_direct.specs.declared.covers.PartCover.{PartCover}
@@ -10,13 +10,14 @@ use Rattle.ba_model.specs.declared.schema.Table.{Table}
 use Rattle.ba_model.specs.declared.value.RowSet.{RowSet}
 use Rattle.ba_model.specs.declared.value.Value.{Value}
 use Rattle.ba_proof.specs.Says.{HasField, SaysEach, SaysLong, SaysStep, SaysValue}
+use Rattle.ba_proof.specs.Written.{list_json}
 use Rattle.ba_proof.specs.declared.version.TheConstants.{LAST_VERSION}
 use Rattle.ba_refute.specs.declared.clause.Clause.{Clause}
 use Rattle.ba_refute.specs.declared.clause.Counterexample.{Counterexample}
 use Rattle.ba_script.specs.Script.{IsJson}
 use Rattle.ba_sql_query.specs.declared.fault.ReadQueryFault.{ReadQueryFault}
 use Rattle.ba_wire.specs.Names.{fault_name}
-use Rattle.ba_wire.specs.Printed.{by_name, clause_name, unsupported_in, word_member}
+use Rattle.ba_wire.specs.Printed.{by_name, clause_name, names_json, unsupported_in, word_member}
 use Rattle.ba_wire.specs.declared.line.By.{By}
 use Rattle.ba_wire.specs.declared.line.By.TheVariants as by
 use Rattle.ba_wire.specs.declared.summary.Summary.{Summary}
@@ -27,7 +28,7 @@ use Rattle.ba_printed.specs.declared.line.LineReason.TheVariants.{Json, Shape}
 use Rattle.ba_printed.specs.declared.line.PrintedBlock.{PrintedBlock}
 use Rattle.ba_printed.specs.declared.line.PrintedBlock.TheVariants as blocked
 use Rattle.ba_printed.specs.declared.line.PrintedLine.{PrintedLine}
-use Rattle.ba_printed.specs.declared.line.PrintedLine.TheVariants.{Begin, End, Publish, Answer, Block, Unread, Memory, Summary as SummaryLine}
+use Rattle.ba_printed.specs.declared.line.PrintedLine.TheVariants.{Begin, End, Publish, Answer, Block, Read, ReadBlock, UnevenRead, Unread, Memory, Summary as SummaryLine}
 
 -- ---- rows
 
@@ -168,6 +169,102 @@ SaysBlock policy d (blocked.Refuted pair) line request version = SaysRefuted pol
 SaysBlock policy d (blocked.Spent steps) line request version = SaysSpent d steps line request version
 SaysBlock policy d (blocked.Stuck clause) line request version = SaysStuck d clause line request version
 
+-- the names under `by` are those of the evidence that stands under `proof`, place by place
+pub record SaysRead (policy : Policy) (d : Data) (its : List Evidence) (key : List ℕ) (line : ℕ) (request : List ℕ) (version : ℕ) : Type 0 where
+  pub a : Data
+  pub b : Data
+  pub c : Data
+  pub is :
+      d ≡ object (member (codes "by") (names_json (map by_of its))
+      (member (codes "key") (string key)
+      (member (codes "line") a
+      (member (codes "proof") b
+      (member (codes "read") (string request)
+      (member (codes "version") c no_members))))))
+  pub line_is : SaysLong a line
+  pub evidence_is : SaysEach (SaysEvidence policy) b its
+  pub version_is : SaysLong c version
+
+-- there are more or fewer names than evidence
+pub record SaysUneven (policy : Policy) (d : Data) : Type 0 where
+  pub bys : List By
+  pub its : List Evidence
+  pub key : List ℕ
+  pub line : ℕ
+  pub request : List ℕ
+  pub version : ℕ
+  pub a : Data
+  pub b : Data
+  pub c : Data
+  pub is :
+      d ≡ object (member (codes "by") (names_json bys)
+      (member (codes "key") (string key)
+      (member (codes "line") a
+      (member (codes "proof") b
+      (member (codes "read") (string request)
+      (member (codes "version") c no_members))))))
+  pub uneven : length bys ≢ length its
+  pub line_is : SaysLong a line
+  pub evidence_is : SaysEach (SaysEvidence policy) b its
+  pub version_is : SaysLong c version
+
+pub record SaysRefutedRead (policy : Policy) (d : Data) (pair : Counterexample) (key : List ℕ) (line query : ℕ) (request : List ℕ) (version : ℕ) : Type 0 where
+  pub a : Data
+  pub b : Data
+  pub c : Data
+  pub e : Data
+  pub is :
+      d ≡ object (member (codes "blocked") (string (codes "refuted"))
+      (member (codes "key") (string key)
+      (member (codes "line") a
+      (member (codes "pair") b
+      (member (codes "query") c
+      (member (codes "read") (string request)
+      (member (codes "version") e no_members)))))))
+  pub line_is : SaysLong a line
+  pub pair_is : SaysPair policy.schema.tables b pair
+  pub query_is : SaysLong c query
+  pub version_is : SaysLong e version
+
+pub record SaysSpentRead (d : Data) (steps : ℕ) (key : List ℕ) (line query : ℕ) (request : List ℕ) (version : ℕ) : Type 0 where
+  pub a : Data
+  pub b : Data
+  pub c : Data
+  pub e : Data
+  pub is :
+      d ≡ object (member (codes "blocked") (string (codes "spent"))
+      (member (codes "key") (string key)
+      (member (codes "line") a
+      (member (codes "query") b
+      (member (codes "read") (string request)
+      (member (codes "steps") c
+      (member (codes "version") e no_members)))))))
+  pub line_is : SaysLong a line
+  pub query_is : SaysLong b query
+  pub steps_are : SaysLong c steps
+  pub version_is : SaysLong e version
+
+pub record SaysStuckRead (d : Data) (clause : Clause) (key : List ℕ) (line query : ℕ) (request : List ℕ) (version : ℕ) : Type 0 where
+  pub a : Data
+  pub b : Data
+  pub c : Data
+  pub is :
+      d ≡ object (member (codes "blocked") (string (codes "stuck"))
+      (member (codes "clause") (string (clause_name clause))
+      (member (codes "key") (string key)
+      (member (codes "line") a
+      (member (codes "query") b
+      (member (codes "read") (string request)
+      (member (codes "version") c no_members)))))))
+  pub line_is : SaysLong a line
+  pub query_is : SaysLong b query
+  pub version_is : SaysLong c version
+
+abbrev pub SaysReadBlock : Policy → Data → PrintedBlock → List ℕ → ℕ → ℕ → List ℕ → ℕ → Type 0
+SaysReadBlock policy d (blocked.Refuted pair) key line query request version = SaysRefutedRead policy d pair key line query request version
+SaysReadBlock policy d (blocked.Spent steps) key line query request version = SaysSpentRead d steps key line query request version
+SaysReadBlock policy d (blocked.Stuck clause) key line query request version = SaysStuckRead d clause key line query request version
+
 -- what isn't supported has a key of its own, `word`
 pub record SaysUnread (d : Data) (line : ℕ) (request : List ℕ) (fault : ReadQueryFault) (version : ℕ) : Type 0 where
   pub a : Data
@@ -209,13 +306,16 @@ pub record SaysSummary (d : Data) (it : Summary) : Type 0 where
   pub rows_are : SaysLong g it.rows
   pub unread_is : SaysLong h it.unread
 
--- the value says the line; the forms of reads of cache keys have their place here
+-- the value says the line
 abbrev pub SaysLine : Policy → Data → PrintedLine → Type 0
 SaysLine policy d (Begin begin line version) = SaysBegin d begin line version
 SaysLine policy d (End end line) = SaysEnd d end line
 SaysLine policy d (Publish line publish version) = SaysPublish d line publish version
 SaysLine policy d (Answer it line request rows version) = SaysAnswer policy d it line request rows version
 SaysLine policy d (Block it line request version) = SaysBlock policy d it line request version
+SaysLine policy d (Read its key line request version) = SaysRead policy d its key line request version
+SaysLine policy d (ReadBlock it key line query request version) = SaysReadBlock policy d it key line query request version
+SaysLine policy d UnevenRead = SaysUneven policy d
 SaysLine policy d (Unread line request fault version) = SaysUnread d line request fault version
 SaysLine policy d (Memory line) = SaysMemory d line
 SaysLine policy d (SummaryLine it) = SaysSummary d it

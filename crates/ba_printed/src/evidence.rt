@@ -2,10 +2,12 @@
 ghost use Rattle.std.specs.Prelude.{◌≡◌, map};
 ghost use Rattle.serde_json.specs.View.{members_view, view};
 ghost use Rattle.ba_model.specs.Readings.{Gives, each};
-ghost use Rattle.ba_printed.specs.Reading.{evidence_in, evidence_named, part_form, part_from, part_of, steps_of};
+ghost use Rattle.ba_printed.specs.Reading.{evidence_in, evidence_named, ground_of, part_form, part_from, part_of, steps_of, unnamed_of};
 
 use crate::line::Evidence;
-use crate::shapes::{FormFault, field, keys_are, list_of, long_in, longs_of, no_form, text_in};
+use crate::shapes::{
+    FormFault, field, keys_are, list_of, long_in, longs_of, no_form, text_in, text_of,
+};
 use ba_direct::{Cover, PartCover};
 use ba_kernel::Step;
 use ba_model::{Failure, List, Parameter};
@@ -111,4 +113,36 @@ pub(crate) fn evidence_in(
     let found = field(value, "proof")?;
     let items = list_of(found)?;
     evidence_named(alloc, params, name, items)
+}
+
+/// What a query rests on, by its name and its proof.
+#[tactic(auto, unfolding(crate::specs::Reading::ground_of))]
+pub(crate) fn ground_of(
+    alloc: Global,
+    params: &[Parameter],
+    name: &Value,
+    proof: &Value,
+) -> Result<Evidence, Failure<FormFault>>
+    ensures { Gives result (ground_of params.now (view name.now) (view proof.now)) }
+{
+    let name = text_of(name)?;
+    let items = list_of(proof)?;
+    evidence_named(alloc, params, name, items)
+}
+
+/// A proof that no name stands beside: views of a cover, else steps.
+#[tactic(auto, unfolding(crate::specs::Reading::unnamed_of))]
+pub(crate) fn unnamed_of(
+    alloc: Global,
+    params: &[Parameter],
+    proof: &Value,
+) -> Result<Evidence, Failure<FormFault>>
+    ensures { Gives result (unnamed_of params.now (view proof.now)) }
+{
+    let items = list_of(proof)?;
+    match evidence_named(alloc, params, "cover", items) {
+        Ok(evidence) => Ok(evidence),
+        Err(Failure::NoMemory) => Err(Failure::NoMemory),
+        Err(Failure::Fault(_)) => evidence_named(alloc, params, "proof", items),
+    }
 }

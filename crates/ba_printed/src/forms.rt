@@ -6,6 +6,7 @@ ghost use Rattle.ba_printed.specs.Reading.{answer_from, begin_from, block_of, en
 use crate::evidence::evidence_in;
 use crate::line::{PrintedBlock, PrintedLine};
 use crate::names::{clause_named, fault_named};
+use crate::reads::read_of;
 use crate::rows::{pair_of, rows_of};
 use crate::shapes::{
     FormFault, field, is_true, keys_are, long_in, name_in, no_form, text_in, word_in,
@@ -206,10 +207,12 @@ fn summary_from(value: &Value) -> Result<PrintedLine, Failure<FormFault>>
 #[tactic(auto, unfolding(crate::specs::Reading::other_of))]
 fn other_of(
     alloc: Global,
+    policy: &Policy,
     value: &Value,
     members: &Map<String, Value>,
 ) -> Result<PrintedLine, Failure<FormFault>>
-    ensures { Gives result (other_of (view value.now) (members_view members.now.entries)) }
+    ensures { Gives result
+        (other_of policy.now (view value.now) (members_view members.now.entries)) }
 {
     if keys_are(&["begin", "line", "version"], members) {
         begin_from(alloc, value)
@@ -227,22 +230,22 @@ fn other_of(
     ) {
         summary_from(value)
     } else {
-        no_form()
+        read_of(alloc, policy, value, members)
     }
 }
 
 #[tactic(auto, unfolding(crate::specs::Reading::block_of))]
 fn block_of(
     alloc: Global,
-    tables: &[Table],
+    policy: &Policy,
     value: &Value,
     members: &Map<String, Value>,
 ) -> Result<PrintedLine, Failure<FormFault>>
     ensures { Gives result
-        (block_of tables.now (view value.now) (members_view members.now.entries)) }
+        (block_of policy.now (view value.now) (members_view members.now.entries)) }
 {
     if keys_are(&["blocked", "line", "pair", "request", "version"], members) {
-        refuted_from(alloc, tables, value)
+        refuted_from(alloc, policy.schema.tables.as_slice(), value)
     } else if keys_are(&["blocked", "line", "request", "steps", "version"], members) {
         spent_from(alloc, value)
     } else if keys_are(
@@ -251,7 +254,7 @@ fn block_of(
     ) {
         stuck_from(alloc, value)
     } else {
-        other_of(alloc, value, members)
+        other_of(alloc, policy, value, members)
     }
 }
 
@@ -275,7 +278,7 @@ fn form_of(
     } else if keys_are(&["line", "request", "unread", "version", "word"], members) {
         unsupported_from(alloc, value)
     } else {
-        block_of(alloc, policy.schema.tables.as_slice(), value, members)
+        block_of(alloc, policy, value, members)
     }
 }
 

@@ -10,6 +10,7 @@ pub mod laws;
 mod line;
 mod names;
 mod read;
+mod reads;
 mod rows;
 mod shapes;
 

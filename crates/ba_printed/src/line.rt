@@ -74,6 +74,27 @@ pub enum PrintedLine {
         request: Str,
         version: u64,
     },
+    /// The request may read the cache key: what each of the key's queries is said to rest on, in
+    /// order.
+    Read {
+        evidence: List<Evidence>,
+        key: Str,
+        line: u64,
+        read: Str,
+        version: u64,
+    },
+    /// The request may not read the cache key, for its query of this number, from 0.
+    ReadBlock {
+        blocked: PrintedBlock,
+        key: Str,
+        line: u64,
+        query: u64,
+        read: Str,
+        version: u64,
+    },
+    /// A read that is allowed, with more or fewer names under `"by"` than proofs under `"proof"`. No
+    /// key has so many queries as both, so nothing else of it is kept.
+    UnevenRead,
     /// A question that has no reading.
     Unread {
         line: u64,

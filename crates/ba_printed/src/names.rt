@@ -1,12 +1,15 @@
-//! Clauses and faults by their printed names.
+//! Clauses, faults and kinds of evidence by their printed names.
 ghost use Rattle.ba_model.specs.Readings.{Gives};
-ghost use Rattle.ba_printed.specs.Reading.{clause_named, fault_named, lex_named};
+ghost use Rattle.ba_printed.specs.Reading.{by_at, by_named, clause_named, fault_named, lex_named};
+ghost use Rattle.serde_json.specs.View.{view};
 
-use crate::shapes::{FormFault, no_form};
+use crate::shapes::{FormFault, no_form, text_of};
 use ba_lex::LexFault;
 use ba_model::Failure;
 use ba_refute::Clause;
 use ba_sql_query::ReadQueryFault;
+use ba_wire::By;
+use serde_json::Value;
 
 /// The clause of the name.
 #[tactic(auto, unfolding(crate::specs::Reading::clause_named))]
@@ -75,4 +78,28 @@ pub(crate) fn fault_named(name: &str) -> Result<ReadQueryFault, Failure<FormFaul
     } else {
         lex_named(name)
     }
+}
+
+#[tactic(auto, unfolding(crate::specs::Reading::by_named))]
+fn by_named(name: &str) -> Result<By, Failure<FormFault>>
+    ensures { Gives result (by_named name.now) }
+{
+    if name == "cover" {
+        Ok(By::Cover)
+    } else if name == "template" {
+        Ok(By::Template)
+    } else if name == "proof" {
+        Ok(By::Proof)
+    } else {
+        no_form()
+    }
+}
+
+/// What a query is said to rest on.
+#[tactic(auto, unfolding(crate::specs::Reading::by_at))]
+pub(crate) fn by_at(value: &Value) -> Result<By, Failure<FormFault>>
+    ensures { Gives result (by_at (view value.now)) }
+{
+    let name = text_of(value)?;
+    by_named(name)
 }

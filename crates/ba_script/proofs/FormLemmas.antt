@@ -8,10 +8,10 @@ use Rattle.ba_model.specs.Readings.{◌>>=◌}
 use Rattle.ba_model.specs.Limits.{most_name_bytes}
 use Rattle.ba_script.specs.declared.line.Member.{Member}
 use Rattle.ba_script.specs.declared.line.ScriptLine.{ScriptLine}
-use Rattle.ba_script.specs.declared.line.ScriptLine.TheVariants.{Begin, Ask, End, Publish}
+use Rattle.ba_script.specs.declared.line.ScriptLine.TheVariants.{Begin, Ask, Read, End, Publish}
 use Rattle.ba_script.specs.declared.fault.LineFault.{LineFault}
 use Rattle.ba_script.specs.declared.fault.LineFault.TheVariants.{Json, Shape}
-use Rattle.ba_script.specs.Script.{IsName, Spells, context_at, form_at, given_members, if_name, if_some, line_at, name_at, one_at, set_at, text_at, two_at}
+use Rattle.ba_script.specs.Script.{IsName, Spells, context_at, form_at, given_members, if_name, if_some, line_at, name_at, one_at, set_at, text_at, three_at, two_at}
 
 bind_ok : {A B : Type 0} (r : Result A LineFault) (f : A → Result B LineFault) (y : B) → (r >>= f) ≡ Ok y → (x : A) × (r ≡ Ok x) × (f x ≡ Ok y)
 bind_ok (Ok x) f y e = (x, refl, e)
@@ -115,6 +115,22 @@ begin_is k l d e it key other h =
     subst (Spells (object (member k d (member l e no_members)))) form
     (name.0, (context.0, context.1, two_keys k (codes "begin") d (string found.0) l (codes "context") e (object context.0) key name.1 other context.2))
 
+three_keys : (k l : List ℕ) (d e : Data) (m n : List ℕ) (f g : Data) (o p : List ℕ) (h i : Data) → k ≡ l → d ≡ e → m ≡ n → f ≡ g → o ≡ p → h ≡ i
+    → object (member k d (member m f (member o h no_members))) ≡ object (member l e (member n g (member p i no_members)))
+three_keys k l d e m n f g o p h i a b c x y z = rw (a, b, c, x, y, z) refl
+
+read_is : (k l m : List ℕ) (d e f : Data) (it : ScriptLine) → k ≡ codes "args" → l ≡ codes "key" → m ≡ codes "read" → (context_at d >>= λ args. text_at e >>= λ key. name_at f >>= λ name. Ok (Read name key args)) ≡ Ok it
+    → Spells (object (member k d (member l e (member m f no_members)))) it
+read_is k l m d e f it first second third h =
+    let args = bind_ok (context_at d) (λ args. text_at e >>= λ key. name_at f >>= λ name. Ok (Read name key args)) it h in
+    let key = bind_ok (text_at e) (λ key. name_at f >>= λ name. Ok (Read name key args.0)) it args.2 in
+    let found = bind_ok (name_at f) (λ name. Ok (Read name key.0 args.0)) it key.2 in
+    let context = context_is d args.0 args.1 in
+    let name = name_is f found.0 found.1 in
+    let form : Read found.0 key.0 args.0 ≡ it = cc found.2 in
+    subst (Spells (object (member k d (member l e (member m f no_members))))) form
+    (name.0, (context.0, context.1, three_keys k (codes "args") d (object context.0) l (codes "key") e (string key.0) m (codes "read") f (string found.0) first context.2 second (text_is e key.0 key.1) third name.1))
+
 publish_is : (k : List ℕ) (d : Data) (it : ScriptLine) → k ≡ codes "publish" → (set_at d >>= λ set. Ok (Publish set)) ≡ Ok it → Spells (object (member k d no_members)) it
 publish_is k d it key e =
     let found = bind_ok (set_at d) (λ set. Ok (Publish set)) it e in
@@ -153,11 +169,25 @@ two_is k d l e it h = by (bytes_eq k (codes "ask") && bytes_eq l (codes "query")
     by true t h = let keys = both _ _ t in ask_is k l d e it (same_text _ _ keys.0) (same_text _ _ keys.1) h
     by false t h = begin_or_none k l d e it (bytes_eq k (codes "begin") && bytes_eq l (codes "context")) refl h
 
+three_is : (k : List ℕ) (d : Data) (l : List ℕ) (e : Data) (m : List ℕ) (f : Data) (it : ScriptLine) → three_at k d l e m f ≡ Ok it → Spells (object (member k d (member l e (member m f no_members)))) it
+unfolding three_at
+three_is k d l e m f it h = by (bytes_eq k (codes "args") && (bytes_eq l (codes "key") && bytes_eq m (codes "read"))) refl h
+  where
+    by : (b : Bool) → (bytes_eq k (codes "args") && (bytes_eq l (codes "key") && bytes_eq m (codes "read"))) ≡ b
+        → cond b (context_at d >>= λ args. text_at e >>= λ key. name_at f >>= λ name. Ok (Read name key args)) (Err Shape) ≡ Ok it
+        → Spells (object (member k d (member l e (member m f no_members)))) it
+    by true t h =
+        let keys = both (bytes_eq k (codes "args")) (bytes_eq l (codes "key") && bytes_eq m (codes "read")) t in
+        let more = both (bytes_eq l (codes "key")) (bytes_eq m (codes "read")) keys.1 in
+        read_is k l m d e f it (same_text _ _ keys.0) (same_text _ _ more.0) (same_text _ _ more.1) h
+    by false t h = cc h
+
 members_are : (ms : Members) (it : ScriptLine) → form_at ms ≡ Ok it → Spells (object ms) it
 members_are no_members it e = cc e
 members_are (member k d no_members) it e = one_is k d it e
 members_are (member k d (member l e no_members)) it h = two_is k d l e it h
-members_are (member k d (member l e (member m f more))) it h = cc h
+members_are (member k d (member l e (member m f no_members))) it h = three_is k d l e m f it h
+members_are (member k d (member l e (member m f (member o g more)))) it h = cc h
 
 pub line_is : (d : Data) (it : ScriptLine) → line_at d ≡ Ok it → Spells d it
 line_is null it e = cc e
@@ -170,10 +200,12 @@ line_is (object ms) it e = members_are ms it e
 -- ---- what is spelled is read
 
 pub spelled : (d : Data) (it : ScriptLine) → Spells d it → line_at d ≡ Ok it
-unfolding one_at two_at
+unfolding one_at three_at two_at
 spelled d (Begin name context) h =
     ap line_at h.1.2 ∙ ap (λ (r : Result (List ℕ) LineFault). r >>= λ n. Ok (Begin n (given_members h.1.0))) (name_reads name h.0) ∙ ap (λ (c : List Member). Ok (Begin name c)) (sym h.1.1)
 spelled d (Ask name query) h = ap line_at h.1 ∙ ap (λ (r : Result (List ℕ) LineFault). r >>= λ n. Ok (Ask n query)) (name_reads name h.0)
+spelled d (Read name key args) h =
+    ap line_at h.1.2 ∙ ap (λ (r : Result (List ℕ) LineFault). r >>= λ n. Ok (Read n key (given_members h.1.0))) (name_reads name h.0) ∙ ap (λ (c : List Member). Ok (Read name key c)) (sym h.1.1)
 spelled d (End name) h = ap line_at h.1 ∙ ap (λ (r : Result (List ℕ) LineFault). r >>= λ n. Ok (End n)) (name_reads name h.0)
 spelled d (Publish set) h = ap line_at h.1 ∙ ap (λ (r : Result (List ℕ) LineFault). r >>= λ s. Ok (Publish s)) (set_reads set h.0)
 
@@ -237,11 +269,21 @@ unfolding two_at
 two_shape k d l e = cond_shape (bytes_eq k (codes "ask") && bytes_eq l (codes "query")) _ _ (ask_shape d e)
     (cond_shape (bytes_eq k (codes "begin") && bytes_eq l (codes "context")) _ _ (begin_shape d e) (λ f e. cc e))
 
+read_shape : (d e f : Data) → OnlyShape (context_at d >>= λ args. text_at e >>= λ key. name_at f >>= λ name. Ok (Read name key args))
+read_shape d e f = bind_shape (context_at d) (λ args. text_at e >>= λ key. name_at f >>= λ name. Ok (Read name key args)) (context_shape d)
+    (λ args. bind_shape (text_at e) (λ key. name_at f >>= λ name. Ok (Read name key args)) (text_shape e)
+    (λ key. bind_shape (name_at f) (λ name. Ok (Read name key args)) (name_shape f) (λ name g h. cc h)))
+
+three_shape : (k : List ℕ) (d : Data) (l : List ℕ) (e : Data) (m : List ℕ) (f : Data) → OnlyShape (three_at k d l e m f)
+unfolding three_at
+three_shape k d l e m f = cond_shape (bytes_eq k (codes "args") && (bytes_eq l (codes "key") && bytes_eq m (codes "read"))) _ _ (read_shape d e f) (λ g h. cc h)
+
 members_shape : (ms : Members) → OnlyShape (form_at ms)
 members_shape no_members g e = cc e
 members_shape (member k d no_members) g e = one_shape k d g e
 members_shape (member k d (member l e no_members)) g h = two_shape k d l e g h
-members_shape (member k d (member l e (member m f more))) g h = cc h
+members_shape (member k d (member l e (member m f no_members))) g h = three_shape k d l e m f g h
+members_shape (member k d (member l e (member m f (member o i more)))) g h = cc h
 
 pub only_shape : (d : Data) (f : LineFault) → line_at d ≡ Err f → f ≡ Shape
 only_shape null f e = cc e

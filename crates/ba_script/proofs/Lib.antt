@@ -1,6 +1,7 @@
 pub mod ContextLemmas
 pub mod FitLemmas
 pub mod FormLemmas
+pub mod KeyLemmas
 pub mod LineLemmas
 pub mod MeaningLemmas
 pub mod NullLemmas

@@ -67,5 +67,5 @@ no_values members (p ∷ ps) zero param (v ∷ vs) at given h =
 no_values members (p ∷ ps) (suc number) param (v ∷ vs) at given h = no_values members ps number param vs at given h.1
 
 pub null_no_context : NullIsNoContext
-null_no_context params before n number param name members at given free =
+null_no_context params keys before n number param name members at given free =
     no_context free (λ context is. no_values (given_members members) params number param context.values at (given_member param.name members null given) is.values)

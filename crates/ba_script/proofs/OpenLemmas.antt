@@ -5,8 +5,8 @@ use Rattle.std.specs.Str.{bytes_eq}
 use Rattle.std.proofs.lemmas.List.Elements.{All-from_recursion, recursion_from_All}
 use Rattle.std.proofs.lemmas.Slice.Eq.{bytes_eq-Decides}
 use Rattle.ba_model.specs.declared.policy.Context.{Context}
-use Rattle.ba_script.specs.Reading.{asked, open_after, open_by, open_from}
-use Rattle.ba_script.specs.Scripts.{IsFree, IsOpen, Leaves, is_ask_under}
+use Rattle.ba_script.specs.Reading.{asked, asked_more, open_after, open_by, open_from}
+use Rattle.ba_script.specs.Scripts.{IsFree, IsOpen, Leaves, questions_under}
 use Rattle.ba_script.specs.declared.entry.ScriptEntry.{ScriptEntry}
 use Rattle.ba_script.specs.declared.entry.ScriptEntry.TheVariants as entry
 use Rattle.ba_script.specs.declared.requests.Opened.{Opened}
@@ -16,7 +16,7 @@ held request asks = record { request = request; asks = asks }
 
 -- a count of questions with those of more entries
 abbrev counted : List ℕ → ℕ → List ScriptEntry → ℕ
-counted name n es = fold (λ m e. m + cond (is_ask_under name e) 1 0) n es
+counted name n es = fold (λ m e. m + questions_under name e) n es
 
 -- ---- from what is open
 
@@ -24,18 +24,23 @@ asked_by : (b : Bool) (request n : ℕ) → cond b (Some (held request (n + 1)))
 asked_by true request n = refl
 asked_by false request n = ap (λ m. Some (held request m)) (sym (add-zero n))
 
-stays_by : (name : List ℕ) (request n : ℕ) (e : ScriptEntry) → Leaves name e → open_by name (Some (held request n)) e ≡ Some (held request (n + cond (is_ask_under name e) 1 0))
-unfolding is_ask_under
+read_by : (b : Bool) (request n more : ℕ) → cond b (Some (held request (n + more))) (Some (held request n)) ≡ Some (held request (n + cond b more 0))
+read_by true request n more = refl
+read_by false request n more = ap (λ m. Some (held request m)) (sym (add-zero n))
+
+stays_by : (name : List ℕ) (request n : ℕ) (e : ScriptEntry) → Leaves name e → open_by name (Some (held request n)) e ≡ Some (held request (n + questions_under name e))
+unfolding questions_under
 stays_by name request n (entry.Begin r it context) other =
     ap (λ b. cond b (Some (held r 0)) (Some (held request n))) other ∙ ap (λ m. Some (held request m)) (sym (add-zero n))
 stays_by name request n (entry.Ask r it query) other = asked_by (bytes_eq it name) request n
+stays_by name request n (entry.Read r it key arguments questions) other = read_by (bytes_eq it name) request n questions
 stays_by name request n (entry.End r it) other = ap (λ b. cond b None (Some (held request n))) other ∙ ap (λ m. Some (held request m)) (sym (add-zero n))
 stays_by name request n (entry.Publish number set) other = ap (λ m. Some (held request m)) (sym (add-zero n))
 
 stays_from : (name : List ℕ) (request n : ℕ) (es : List ScriptEntry) → AllByRecursion (Leaves name) es → open_from name (Some (held request n)) es ≡ Some (held request (counted name n es))
 stays_from name request n [] stays = refl
 stays_from name request n (e ∷ es) stays =
-    ap (λ o. open_from name o es) (stays_by name request n e stays.0) ∙ stays_from name request (n + cond (is_ask_under name e) 1 0) es stays.1
+    ap (λ o. open_from name o es) (stays_by name request n e stays.0) ∙ stays_from name request (n + questions_under name e) es stays.1
 
 open_from-append : (name : List ℕ) (o : Option Opened) (front back : List ScriptEntry) → open_from name o (front ++ back) ≡ open_from name (open_from name o front) back
 open_from-append name o [] back = refl
@@ -79,32 +84,32 @@ begins_here name it request context es x was same new stays more =
       count = ap (λ (h : Opened). h.asks) now;
     }
 
--- a question more
-asks_here : (name : List ℕ) (o : Option Opened) (e : ScriptEntry) (es : List ScriptEntry) (x was : Opened) → is_ask_under name e ≡ true → Leaves name e → option_map asked o ≡ Some was
+-- some questions more
+asks_here : (name : List ℕ) (o : Option Opened) (e : ScriptEntry) (es : List ScriptEntry) (x was : Opened) (count : ℕ) → questions_under name e ≡ count → Leaves name e → option_map (asked_more count) o ≡ Some was
     → AllByRecursion (Leaves name) es → x ≡ held was.request (counted name was.asks es) → Kept name o (e ∷ es) x
-asks_here name None e es x was ask leaves is stays more = cc is
-asks_here name (Some h) e es x was ask leaves is stays more =
-    let new : asked h ≡ was = cc is in
+asks_here name None e es x was count ask leaves is stays more = cc is
+asks_here name (Some h) e es x was count ask leaves is stays more =
+    let new : asked_more count h ≡ was = cc is in
     record {
       was = h;
       is = refl;
       stays = (leaves, stays);
-      more = more ∙ ap (λ (k : Opened). held k.request (counted name k.asks es)) (sym new) ∙ ap (λ b. held h.request (counted name (h.asks + cond b 1 0) es)) (sym ask);
+      more = more ∙ ap (λ (k : Opened). held k.request (counted name k.asks es)) (sym new) ∙ ap (λ n. held h.request (counted name (h.asks + n) es)) (sym ask);
     }
 
 -- an entry that changes nothing
-passed_here : (name : List ℕ) (o : Option Opened) (e : ScriptEntry) (es : List ScriptEntry) (x was : Opened) → is_ask_under name e ≡ false → Leaves name e → o ≡ Some was
+passed_here : (name : List ℕ) (o : Option Opened) (e : ScriptEntry) (es : List ScriptEntry) (x was : Opened) → questions_under name e ≡ 0 → Leaves name e → o ≡ Some was
     → AllByRecursion (Leaves name) es → x ≡ held was.request (counted name was.asks es) → Kept name o (e ∷ es) x
 passed_here name o e es x was ask leaves is stays more = record {
   was = was;
   is = is;
   stays = (leaves, stays);
-  more = more ∙ ap (λ n. held was.request (counted name n es)) (sym (add-zero was.asks)) ∙ ap (λ b. held was.request (counted name (was.asks + cond b 1 0) es)) (sym ask);
+  more = more ∙ ap (λ n. held was.request (counted name n es)) (sym (add-zero was.asks)) ∙ ap (λ n. held was.request (counted name (was.asks + n) es)) (sym ask);
 }
 
 kept_on : (name : List ℕ) (o : Option Opened) (e : ScriptEntry) (es : List ScriptEntry) (x was : Opened) → open_by name o e ≡ Some was → AllByRecursion (Leaves name) es
     → x ≡ held was.request (counted name was.asks es) → Traced name o (e ∷ es) x
-unfolding is_ask_under
+unfolding questions_under
 kept_on name o (entry.Begin r it context) es x was is stays more = by (bytes_eq it name) refl is
   where
     by : (b : Bool) → bytes_eq it name ≡ b → cond b (Some (held r 0)) o ≡ Some was → Traced name o (entry.Begin r it context ∷ es) x
@@ -113,8 +118,13 @@ kept_on name o (entry.Begin r it context) es x was is stays more = by (bytes_eq 
 kept_on name o (entry.Ask r it query) es x was is stays more = by (bytes_eq it name) refl is
   where
     by : (b : Bool) → bytes_eq it name ≡ b → cond b (option_map asked o) o ≡ Some was → Traced name o (entry.Ask r it query ∷ es) x
-    by true same e = inr (asks_here name o (entry.Ask r it query) es x was same tt e stays more)
-    by false same e = inr (passed_here name o (entry.Ask r it query) es x was same tt e stays more)
+    by true same e = inr (asks_here name o (entry.Ask r it query) es x was 1 (ap (λ c. cond c 1 0) same) tt e stays more)
+    by false same e = inr (passed_here name o (entry.Ask r it query) es x was (ap (λ c. cond c 1 0) same) tt e stays more)
+kept_on name o (entry.Read r it key arguments questions) es x was is stays more = by (bytes_eq it name) refl is
+  where
+    by : (b : Bool) → bytes_eq it name ≡ b → cond b (option_map (asked_more questions) o) o ≡ Some was → Traced name o (entry.Read r it key arguments questions ∷ es) x
+    by true same e = inr (asks_here name o (entry.Read r it key arguments questions) es x was questions (ap (λ c. cond c questions 0) same) tt e stays more)
+    by false same e = inr (passed_here name o (entry.Read r it key arguments questions) es x was (ap (λ c. cond c questions 0) same) tt e stays more)
 kept_on name o (entry.End r it) es x was is stays more = by (bytes_eq it name) refl is
   where
     by : (b : Bool) → bytes_eq it name ≡ b → cond b None o ≡ Some was → Traced name o (entry.End r it ∷ es) x

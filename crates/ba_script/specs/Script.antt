@@ -10,7 +10,7 @@ use Rattle.ba_script.specs.declared.line.Given.{Given}
 use Rattle.ba_script.specs.declared.line.Given.TheVariants.{Int, Text, Other}
 use Rattle.ba_script.specs.declared.line.Member.{Member}
 use Rattle.ba_script.specs.declared.line.ScriptLine.{ScriptLine}
-use Rattle.ba_script.specs.declared.line.ScriptLine.TheVariants.{Begin, Ask, End, Publish}
+use Rattle.ba_script.specs.declared.line.ScriptLine.TheVariants.{Begin, Ask, Read, End, Publish}
 use Rattle.ba_script.specs.declared.fault.LineFault.{LineFault}
 use Rattle.ba_script.specs.declared.fault.LineFault.TheVariants.{Json, Shape}
 
@@ -71,10 +71,17 @@ two_at k d l e =
     else (if bytes_eq k (codes "begin") && bytes_eq l (codes "context") then (name_at d >>= λ name. context_at e >>= λ context. Ok (Begin name context))
     else Err Shape)
 
+-- an object with these three members
+unfoldable pub three_at : List ℕ → Data → List ℕ → Data → List ℕ → Data → Result ScriptLine LineFault
+three_at k d l e m f =
+    if bytes_eq k (codes "args") && (bytes_eq l (codes "key") && bytes_eq m (codes "read")) then (context_at d >>= λ args. text_at e >>= λ key. name_at f >>= λ name. Ok (Read name key args))
+    else Err Shape
+
 abbrev pub rest_at : List ℕ → Data → Members → Result ScriptLine LineFault
 rest_at k d no_members = one_at k d
 rest_at k d (member l e no_members) = two_at k d l e
-rest_at k d (member l e (member m f more)) = Err Shape
+rest_at k d (member l e (member m f no_members)) = three_at k d l e m f
+rest_at k d (member l e (member m f (member o g more))) = Err Shape
 
 -- the members of an object, in the order of their keys
 abbrev pub form_at : Members → Result ScriptLine LineFault
@@ -109,6 +116,8 @@ abbrev pub Spells : Data → ScriptLine → Type 0
 Spells d (Begin name context) = IsName name × ((members : Members) × (context ≡ given_members members)
     × (d ≡ object (member (codes "begin") (string name) (member (codes "context") (object members) no_members))))
 Spells d (Ask name query) = IsName name × (d ≡ object (member (codes "ask") (string name) (member (codes "query") (string query) no_members)))
+Spells d (Read name key args) = IsName name × ((members : Members) × (args ≡ given_members members)
+    × (d ≡ object (member (codes "args") (object members) (member (codes "key") (string key) (member (codes "read") (string name) no_members)))))
 Spells d (End name) = IsName name × (d ≡ object (member (codes "end") (string name) no_members))
 Spells d (Publish set) = (0 < length set) × (d ≡ object (member (codes "publish") (string set) no_members))
 

@@ -96,8 +96,8 @@ fn values_for(
     Ok(Some(values))
 }
 
-/// A value of its kind for each parameter, where the members are these and no others. The time is of the order of the members' and
-/// the parameters' numbers multiplied.
+/// A value of its kind for each parameter, where the members are these and no others. The time is
+/// of the order of the members' and the parameters' numbers multiplied.
 #[tactic(auto, unfolding(crate::specs::Contexts::context_of))]
 pub fn context_of(
     alloc: Global,

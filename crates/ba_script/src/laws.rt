@@ -2,7 +2,8 @@
 ghost use Rattle.ba_script.specs.Script.{ScriptLineIsExact};
 ghost use Rattle.ba_script.specs.Scripts.{NullIsNoContext, ScriptIsExact};
 
-/// Which bytes read as which line of a script, which are no JSON, and which are JSON without the shape of a line.
+/// Which bytes read as which line of a script, which are no JSON, and which are JSON without the
+/// shape of a line.
 pub fn script_line_is_exact()
     ensures { ScriptLineIsExact }
 {}

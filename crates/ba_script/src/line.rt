@@ -2,7 +2,7 @@
 ghost use Rattle.std.specs.Prelude.{◌≡◌, IfOk};
 ghost use Rattle.serde_json.specs.View.{view, members_view};
 ghost use Rattle.ba_model.specs.Readings.{Gives};
-ghost use Rattle.ba_script.specs.Script.{context_at, given_members, given_of, line_at, name_at, one_at, script_line_of, set_at, text_at, two_at};
+ghost use Rattle.ba_script.specs.Script.{context_at, given_members, given_of, line_at, name_at, one_at, script_line_of, set_at, text_at, three_at, two_at};
 
 use crate::fault::LineFault;
 use ba_model::{Failure, List, MAX_NAME_BYTES, Str};
@@ -29,17 +29,36 @@ pub struct Member {
 /// One line of a script. The names of requests have 1 to 64 bytes.
 #[derive(Debug, Drop)]
 pub enum ScriptLine {
-    /// `{"begin":NAME,"context":{PARAM:value,..}}`: the context has each name once, in the order of their bytes.
-    Begin { begin: Str, context: List<Member> },
+    /// `{"begin":NAME,"context":{PARAM:value,..}}`: the context has each name once, in the order of
+    /// their bytes.
+    Begin {
+        begin: Str,
+        context: List<Member>,
+    },
     /// `{"ask":NAME,"query":TEXT}`
-    Ask { ask: Str, query: Str },
+    Ask {
+        ask: Str,
+        query: Str,
+    },
+    /// `{"args":{ARGUMENT:value,..},"key":KEY,"read":NAME}`: the arguments as a context; the name
+    /// of a cache key may have any length.
+    Read {
+        read: Str,
+        key: Str,
+        args: List<Member>,
+    },
     /// `{"end":NAME}`
-    End { end: Str },
+    End {
+        end: Str,
+    },
     /// `{"publish":SET}`: the name of a table set isn't empty, and may have any length.
-    Publish { publish: Str },
+    Publish {
+        publish: Str,
+    },
 }
 
-/// The line that bytes without their line feed are, else `Json` or `Shape`. Where an object has a key twice, its last value counts.
+/// The line that bytes without their line feed are, else `Json` or `Shape`. Where an object has a
+/// key twice, its last value counts.
 pub fn read_line(alloc: Global, bytes: &[u8]) -> Result<ScriptLine, Failure<LineFault>>
     ensures { Gives result (script_line_of bytes.now) }
 {
@@ -67,9 +86,20 @@ fn line_of(alloc: Global, value: &Value) -> Result<ScriptLine, Failure<LineFault
     };
     match members.next() {
         None => one_member(alloc, first.as_str(), head),
-        Some((second, tail)) => match members.next() {
-            None => two_members(alloc, first.as_str(), head, second.as_str(), tail),
-            Some(_) => Err(Failure::Fault(LineFault::Shape)),
+        Some((second, middle)) => match members.next() {
+            None => two_members(alloc, first.as_str(), head, second.as_str(), middle),
+            Some((third, tail)) => match members.next() {
+                None => three_members(
+                    alloc,
+                    first.as_str(),
+                    head,
+                    second.as_str(),
+                    middle,
+                    third.as_str(),
+                    tail,
+                ),
+                Some(_) => Err(Failure::Fault(LineFault::Shape)),
+            },
         },
     }
 }
@@ -108,6 +138,28 @@ fn two_members(
         let begin = name_of(alloc, head)?;
         let context = context_of(alloc, tail)?;
         return Ok(ScriptLine::Begin { begin, context });
+    }
+    Err(Failure::Fault(LineFault::Shape))
+}
+
+#[tactic(auto, unfolding(crate::specs::Script::three_at))]
+fn three_members(
+    alloc: Global,
+    first: &str,
+    head: &Value,
+    second: &str,
+    middle: &Value,
+    third: &str,
+    tail: &Value,
+) -> Result<ScriptLine, Failure<LineFault>>
+    ensures { Gives result (three_at first.now (view head.now) second.now (view middle.now)
+        third.now (view tail.now)) }
+{
+    if first == "args" && second == "key" && third == "read" {
+        let args = context_of(alloc, head)?;
+        let key = text_of(alloc, middle)?;
+        let read = name_of(alloc, tail)?;
+        return Ok(ScriptLine::Read { read, key, args });
     }
     Err(Failure::Fault(LineFault::Shape))
 }

@@ -20,8 +20,8 @@ impl<'a> Model for Lines<'a> {
     ghost view = { λ it. script_lines it.rest.now };
 }
 
-/// The lines of a script's bytes, which are not copied. A line feed ends each, but the last may do without. A carriage
-/// return before a line feed is dropped.
+/// The lines of a script's bytes, which are not copied. A line feed ends each, but the last may do
+/// without. A carriage return before a line feed is dropped.
 pub fn script_lines(bytes: &[u8]) -> Lines<'_>
     ensures { result ≡ script_lines bytes.now }
 {

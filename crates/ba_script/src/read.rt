@@ -13,7 +13,7 @@ use crate::fault::ScriptFault;
 use crate::line::{ScriptLine, read_line};
 use crate::lines::{Lines, count_lines, script_lines};
 use crate::requests::Requests;
-use ba_model::{Counted, Failure, List, MAX_LINES, Parameter};
+use ba_model::{CacheKey, Counted, Failure, List, MAX_LINES, Parameter};
 use std::alloc::Global;
 
 fn line_at(alloc: Global, line: u64, bytes: &[u8]) -> Result<ScriptLine, Failure<ScriptFault>>
@@ -31,12 +31,13 @@ fn line_at(alloc: Global, line: u64, bytes: &[u8]) -> Result<ScriptLine, Failure
 fn entry_of(
     alloc: Global,
     params: &[Parameter],
+    keys: &[CacheKey],
     requests: &mut Requests,
     line: u64,
     it: ScriptLine,
 ) -> Result<ScriptEntry, Failure<ScriptFault>>
     requires room { requests.old.published < most_lines }
-    ensures gives { Gives result (kept_entry_of params.now requests.old line it) }
+    ensures gives { Gives result (kept_entry_of params.now keys.now requests.old line it) }
     ensures moves { IfOk result (λ entry. Moves entry requests.old requests.new) }
 {
     match it {
@@ -44,6 +45,9 @@ fn entry_of(
             requests.begin(alloc, params, line, begin, &context)
         }
         ScriptLine::Ask { ask, query } => requests.ask(line, ask, query),
+        ScriptLine::Read { read, key, args } => {
+            requests.read(alloc, keys, line, read, &key, &args)
+        }
         ScriptLine::End { end } => requests.end(line, end),
         ScriptLine::Publish { publish } => Ok(requests.publish(publish)),
     }
@@ -52,49 +56,54 @@ fn entry_of(
 fn entry_at(
     alloc: Global,
     params: &[Parameter],
+    keys: &[CacheKey],
     requests: &mut Requests,
     line: u64,
     bytes: &[u8],
 ) -> Result<ScriptEntry, Failure<ScriptFault>>
     requires room { requests.old.published < most_lines }
-    ensures gives { Gives result (kept_entry_at params.now requests.old line bytes.now) }
+    ensures gives { Gives result (kept_entry_at params.now keys.now requests.old line bytes.now) }
     ensures moves { IfOk result (λ entry. Moves entry requests.old requests.new) }
 {
     let it = line_at(alloc, line, bytes)?;
-    entry_of(alloc, params, requests, line, it)
+    entry_of(alloc, params, keys, requests, line, it)
 }
 
 fn entries_of(
     alloc: Global,
     params: &[Parameter],
+    keys: &[CacheKey],
     lines: Lines<'_>,
 ) -> Result<List<ScriptEntry>, Failure<ScriptFault>>
     requires few { length lines ≤ most_lines }
-    ensures { Gives result (entries_from params.now [] lines.entry) }
+    ensures { Gives result (entries_from params.now keys.now [] lines.entry) }
 {
     let mut requests = Requests::new(alloc);
     let mut entries = List::new(alloc);
     for bytes in lines {
         let line = entries.len() as u64 + 1;
-        let entry = entry_at(alloc, params, &mut requests, line, bytes)?;
+        let entry = entry_at(alloc, params, keys, &mut requests, line, bytes)?;
         entries.push(entry)?;
     }
     Ok(entries)
 }
 
-/// The script that the bytes are, for a policy with these parameters: each line one JSON object of one form, after the lines before it.
+/// The script that the bytes are, for a policy with these parameters and cache keys: each line one
+/// JSON object of one form, after the lines before it.
 ///
-/// The number of lines is tested first. Then the first line that is none after those before it is named, with the first of its
-/// reasons; a line that begins one request too many, or asks one question too many, ends the reading after its own tests. Lines and
-/// forms are those of the format's description; a JSON object's key that comes twice has its last value.
+/// The number of lines is tested first. Then the first line that is none after those before it is
+/// named, with the first of its reasons; a line that begins one request too many, or asks or reads
+/// one question too many, ends the reading after its own tests. Lines and forms are those of the
+/// format's description; a JSON object's key that comes twice has its last value.
 #[tactic(auto, unfolding(crate::specs::Reading::script_of))]
 pub fn read_script(
     alloc: Global,
     params: &List<Parameter>,
+    keys: &List<CacheKey>,
     bytes: &[u8],
 ) -> Result<Script, Failure<ScriptFault>>
-    ensures exact { Gives result (script_of params.now bytes.now) }
-    ensures script { IfOk result (IsScript params.now) }
+    ensures exact { Gives result (script_of params.now keys.now bytes.now) }
+    ensures script { IfOk result (IsScript params.now keys.now) }
 {
     if count_lines(bytes) > MAX_LINES {
         return Err(Failure::Fault(ScriptFault::TooMany {
@@ -102,6 +111,11 @@ pub fn read_script(
             limit: MAX_LINES as u64,
         }));
     }
-    let entries = entries_of(alloc, params.as_slice(), script_lines(bytes))?;
+    let entries = entries_of(
+        alloc,
+        params.as_slice(),
+        keys.as_slice(),
+        script_lines(bytes),
+    )?;
     Ok(Script { entries })
 }

@@ -1,12 +1,14 @@
-//! What is kept between the lines of a script: the requests that are open, and the numbers of what is next.
-ghost use Rattle.std.specs.Prelude.{◌≡◌, ◌<◌, [], IfOk};
+//! What is kept between the lines of a script: the requests that are open, and the numbers of what
+//! is next.
+ghost use Rattle.std.specs.Prelude.{◌≡◌, ◌<◌, ◌+◌, [], IfOk, None, Some, if◌then◌else◌, nat_lt, option_map};
+ghost use Rattle.std.specs.Str.{bytes_eq};
 ghost use Rattle.std.specs.BTreeMap.{get};
 ghost use Rattle.std.specs.Cmp.Lexicographic.{slice_cmp};
 ghost use Rattle.std.specs.Ordering.{nat_cmp};
 ghost use Rattle.ba_model.specs.Readings.{Gives};
-ghost use Rattle.ba_model.specs.Limits.{most_lines};
+ghost use Rattle.ba_model.specs.Limits.{most_asks, most_lines};
 ghost use Rattle.ba_script.specs.Contexts.{context_of};
-ghost use Rattle.ba_script.specs.Reading.{ask_of, begin_of, context_at, end_of};
+ghost use Rattle.ba_script.specs.Reading.{arguments_at, ask_of, begin_of, context_at, end_of, key_from, key_read, read_of};
 ghost use Rattle.ba_script.specs.Tracking.{Moves, Tracks, opened};
 
 use crate::context::context_of;
@@ -14,7 +16,7 @@ use crate::entry::ScriptEntry;
 use crate::fault::{LineFault, ScriptFault};
 use crate::line::Member;
 use ba_model::{
-    Context, Counted, Duplicate, Failure, List, MAX_ASKS, MAX_REQUESTS, Parameter, Str,
+    CacheKey, Context, Counted, Duplicate, Failure, List, MAX_ASKS, MAX_REQUESTS, Parameter, Str,
 };
 use std::alloc::Global;
 use std::collections::BTreeMap;
@@ -62,6 +64,51 @@ fn context_at(
         Some(context) => Ok(context),
         None => bad(line, LineFault::Context),
     }
+}
+
+fn is_called(key: &CacheKey, name: &Str) -> bool
+    ensures { result ≡ bytes_eq key.now.name name.now }
+{
+    key.name.as_bytes() == name.as_bytes()
+}
+
+// The first key of the name, and its number.
+fn key_named<'a>(keys: &'a [CacheKey], name: &Str) -> Option<(usize, &'a CacheKey)>
+    ensures { option_map (λ found. (found.0, found.1.now)) result ≡ key_from 0 name.now keys.now }
+{
+    for number in 0..keys.len() {
+        let key = &keys[number];
+        if is_called(key, name) {
+            return Some((number, key));
+        }
+    }
+    None
+}
+
+fn arguments_at(
+    alloc: Global,
+    line: u64,
+    key: &CacheKey,
+    members: &[Member],
+) -> Result<Context, Failure<ScriptFault>>
+    ensures { Gives result (arguments_at line (context_of key.now.arguments members.now)) }
+{
+    let found = context_of(alloc, key.arguments.as_slice(), members)?;
+    match found {
+        Some(arguments) => Ok(arguments),
+        None => bad(line, LineFault::Args),
+    }
+}
+
+// So many questions, if the request may ask them.
+fn questions_left(asks: u32, count: usize) -> Option<u32>
+    ensures { result ≡ (if nat_lt most_asks (asks + count) then None else Some count) }
+{
+    let left = MAX_ASKS.checked_sub(asks)?;
+    if count > left as usize {
+        return None;
+    }
+    Some(count as u32)
 }
 
 impl Requests {
@@ -130,6 +177,43 @@ impl Requests {
             request,
             name,
             query,
+        })
+    }
+
+    /// The request reads a key, where it is open. The number of its questions grows by the key's
+    /// queries.
+    #[tactic(auto, unfolding(crate::specs::Reading::read_of, crate::specs::Reading::key_read))]
+    pub(crate) fn read(
+        &mut self,
+        alloc: Global,
+        keys: &[CacheKey],
+        line: u64,
+        name: Str,
+        key: &Str,
+        members: &List<Member>,
+    ) -> Result<ScriptEntry, Failure<ScriptFault>>
+        ensures gives { Gives result
+            (read_of keys.now line name key.now members.now (opened self.old name)) }
+        ensures moves { IfOk result (λ entry. Moves entry self.old self.new) }
+    {
+        let Some(opened) = self.names.get_mut(&name) else {
+            return bad(line, LineFault::Unbegun);
+        };
+        let Some((number, found)) = key_named(keys, key) else {
+            return bad(line, LineFault::Key);
+        };
+        let arguments = arguments_at(alloc, line, found, members.as_slice())?;
+        let Some(questions) = questions_left(opened.asks, found.queries.len()) else {
+            return too_many(Counted::Asks, MAX_ASKS);
+        };
+        opened.asks += questions;
+        let request = opened.request;
+        Ok(ScriptEntry::Read {
+            request,
+            name,
+            key: number,
+            arguments,
+            questions,
         })
     }
 

@@ -1,3 +1,4 @@
 mod JudgeLemmas
 mod KeepLemmas
 pub mod PassLemmas
+pub mod ReadingLemmas

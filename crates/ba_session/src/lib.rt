@@ -4,11 +4,12 @@
 
 mod judge;
 mod keep;
+mod key;
 mod reply;
 mod request;
 mod service;
 mod sharing;
 
-pub use reply::{By, Judgement, Keeping, Reply, Why};
+pub use reply::{By, Judgement, Keeping, KeyReply, Reply, Why};
 pub use request::Request;
 pub use service::{Closed, Passes, Service};

@@ -84,3 +84,23 @@ pub enum Reply {
     /// Want of memory. It may stand in place of any other reply, and the request is as before.
     NoMemory,
 }
+
+/// What becomes of a read of a cache key. In each case the request is as before, since no rows are
+/// told.
+#[derive(Drop)]
+pub enum KeyReply {
+    /// The key's queries, with the arguments as literals, and for each why it would be answered.
+    Allowed {
+        queries: List<Shared<Query>>,
+        by: List<By>,
+    },
+    /// The key's queries, with the arguments as literals; for the first of them why they would be
+    /// answered; and why the next one, whose number is that of these grounds, is blocked.
+    Blocked {
+        queries: List<Shared<Query>>,
+        before: List<By>,
+        why: Why,
+    },
+    /// Want of memory. It may stand in place of both.
+    NoMemory,
+}

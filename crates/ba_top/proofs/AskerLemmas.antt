@@ -43,6 +43,9 @@ numbered m (said.Begin r n c ∷ front) k name context rest h =
 numbered m (said.Ask r n text ∷ front) k name context rest h =
     let it = numbered m front k name context rest h.1 in
     record { number = it.number; context_at = it.context_at }
+numbered m (said.Read r n key arguments questions ∷ front) k name context rest h =
+    let it = numbered m front k name context rest h.1 in
+    record { number = it.number; context_at = it.context_at }
 numbered m (said.End r n ∷ front) k name context rest h =
     let it = numbered m front k name context rest h.1 in
     record { number = it.number; context_at = it.context_at }

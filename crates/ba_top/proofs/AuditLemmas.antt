@@ -24,6 +24,7 @@ audit_input input sets is same = record {
       (All-cons (IsSet input.policy) input.tables input.published (record { schema = is.schema; conform = is.conform })
       (All-weaker (IsSetOf input.policy.schema) (IsSet input.policy) (λ it h. record { schema = h.schema_is; conform = h.conform }) input.published is.sets));
   contexts = is.script.contexts;
+  reads = is.script.reads;
 }
 
 pub few_entries : (input : Input) → IsInput input → length input.script.entries < 2 ^ 32

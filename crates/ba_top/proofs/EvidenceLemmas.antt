@@ -11,17 +11,20 @@ use Rattle.ba_facts.proofs.Elements.{get_append_old, get_set_other, get_set_same
 use Rattle.ba_input.specs.declared.input.Input.{Input}
 use Rattle.ba_lanes.specs.Legal.{answer_of, context_in, contexts_of, trace_in}
 use Rattle.ba_lanes.specs.declared.journal.Entry.{Entry}
-use Rattle.ba_lanes.specs.declared.journal.Entry.TheVariants.{Begin, Ask, End, Publish, Memory}
+use Rattle.ba_lanes.specs.declared.journal.Entry.TheVariants.{Begin, Ask, Read, End, Publish, Memory}
 use Rattle.ba_model.specs.declared.policy.Context.{Context}
 use Rattle.ba_model.specs.declared.policy.Policy.{Policy}
 use Rattle.ba_script.specs.declared.entry.ScriptEntry.{ScriptEntry}
 use Rattle.ba_session.specs.Asking.{answer_in}
 use Rattle.ba_session.specs.declared.reply.By.{By}
 use Rattle.ba_session.specs.declared.reply.By.TheVariants as by
+use Rattle.ba_session.specs.declared.reply.KeyReply.{KeyReply}
+use Rattle.ba_session.specs.declared.reply.KeyReply.TheVariants as key_reply
 use Rattle.ba_session.specs.declared.reply.Reply.{Reply}
 use Rattle.ba_session.specs.declared.reply.Reply.TheVariants as reply
 use Rattle.ba_tables.proofs.IndexLemmas.{take_one}
-use Rattle.ba_top.specs.Evidence.{AreAfter, EntryCloses, GroundCloses, ReplyCloses, Traces, reply_bytes, told_bytes, trace_at}
+use Rattle.ba_top.specs.Evidence.{AreAfter, EntryCloses, GroundCloses, ReadCloses, ReplyCloses, Traces, key_bytes, reply_bytes, told_bytes, trace_at}
+use Rattle.ba_top.specs.Text.{key_name}
 use Rattle.ba_top.specs.declared.requests.Requests.{Requests}
 
 -- ---- traces
@@ -74,6 +77,7 @@ after_next input earlier entry said old new at contexts traces nothing h = recor
 told_as : (policy : Policy) (f g : Traces) (name : List ℕ) (line : ℕ) (entry : Entry) → ((n : ℕ) → f n ≡ g n) → told_bytes policy f name line entry ≡ told_bytes policy g name line entry
 told_as policy f g name line (Begin request version) same = refl
 told_as policy f g name line (Ask request version it) same = ap (λ trace. reply_bytes policy trace name line version it) (same request)
+told_as policy f g name line (Read request version key it) same = ap (λ trace. key_bytes policy trace name line version (key_name policy key) it) (same request)
 told_as policy f g name line (End request version) same = refl
 told_as policy f g name line (Publish version) same = refl
 told_as policy f g name line (Memory kind request version) same = refl
@@ -103,9 +107,15 @@ module _ (policy : Policy) (some all : List Context) (more : (n : ℕ) (context 
   reply_stays trace other request (reply.Unread fault) same h = tt
   reply_stays trace other request reply.NoMemory same h = tt
 
+  read_stays : (trace other : List TraceEntry) (request : ℕ) (it : KeyReply) → trace ≡ other → ReadCloses policy some trace request it → ReadCloses policy all other request it
+  read_stays trace other request (key_reply.Allowed queries bys) same h = λ place query it asked by. ground_stays trace other request query it same (h place query it asked by)
+  read_stays trace other request (key_reply.Blocked queries before reason) same h = tt
+  read_stays trace other request key_reply.NoMemory same h = tt
+
   entry_stays : (f g : Traces) (entry : Entry) → ((n : ℕ) → f n ≡ g n) → EntryCloses policy some f entry → EntryCloses policy all g entry
   entry_stays f g (Begin request version) same h = tt
   entry_stays f g (Ask request version it) same h = reply_stays (f request) (g request) request it (same request) h
+  entry_stays f g (Read request version key it) same h = read_stays (f request) (g request) request it (same request) h
   entry_stays f g (End request version) same h = tt
   entry_stays f g (Publish version) same h = tt
   entry_stays f g (Memory kind request version) same h = tt

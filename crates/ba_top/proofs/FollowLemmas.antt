@@ -9,8 +9,8 @@ use Rattle.ba_comply.specs.declared.trace.TraceEntry.{TraceEntry}
 use Rattle.ba_input.specs.Inputs.{IsInput}
 use Rattle.ba_input.specs.declared.input.Input.{Input}
 use Rattle.ba_kernel.specs.Asked.{RecordFits}
-use Rattle.ba_lanes.proofs.ServeLemmas.{answers_other, answers_own, asked_is_no_begin, end_is_no_begin, publish_is_no_begin, trace_more}
-use Rattle.ba_lanes.specs.Legal.{HasContext, LineDone, answer_of, asked, begins, contexts_of, trace_of}
+use Rattle.ba_lanes.proofs.ServeLemmas.{answers_other, answers_own, asked_is_no_begin, end_is_no_begin, publish_is_no_begin, read_is_no_begin, reads_quiet, trace_more}
+use Rattle.ba_lanes.specs.Legal.{HasContext, LineDone, answer_of, asked, begins, contexts_of, read_as, trace_of}
 use Rattle.ba_lanes.specs.declared.journal.Entry.TheVariants.{End, Publish}
 use Rattle.ba_model.specs.declared.policy.Context.{Context}
 use Rattle.ba_printed.specs.declared.line.PrintedLine.{PrintedLine}
@@ -18,6 +18,7 @@ use Rattle.ba_printed.specs.declared.line.PrintedLine.TheVariants as printed
 use Rattle.ba_script.specs.declared.entry.ScriptEntry.{ScriptEntry}
 use Rattle.ba_script.specs.declared.entry.ScriptEntry.TheVariants as said
 use Rattle.ba_session.specs.Asking.{answer_in}
+use Rattle.ba_session.specs.declared.reply.KeyReply.{KeyReply}
 use Rattle.ba_session.specs.declared.reply.Reply.{Reply}
 use Rattle.ba_tables.specs.TableSet.{TableSet}
 use Rattle.ba_top.proofs.AskerLemmas.{Between, Follows, basis_in, known_as, next_number, request_same, tables_same, version_same}
@@ -76,6 +77,7 @@ module _ (input : Input) (served : List LineDone) (fits : IsInput input) (front 
           contexts_end [] = refl
           contexts_end (said.Begin r n c ∷ lines) = ap (λ z. c ∷ z) (contexts_end lines)
           contexts_end (said.Ask r n text ∷ lines) = contexts_end lines
+          contexts_end (said.Read r n key arguments questions ∷ lines) = contexts_end lines
           contexts_end (said.End r n ∷ lines) = contexts_end lines
           contexts_end (said.Publish n set ∷ lines) = contexts_end lines
 
@@ -113,6 +115,15 @@ module _ (input : Input) (served : List LineDone) (fits : IsInput input) (front 
       quiet_follows (said.Publish number name) (printed.Publish line name version) (λ k v t same. publish_is_no_begin version k v (sym is ∙ ap (λ (z : LineDone). z.entry) same)) are
       (ap (numbered_of (said.Publish number name)) (sym made)) refl (λ k. ap (answer_of k) is) (λ k held. refl)
 
+  -- a read tells no rows
+  pub read_follows : (request version place questions : ℕ) (name : List ℕ) (arguments : Context) (reply : KeyReply) (p : PrintedLine)
+      (are : input.script.entries ≡ front ++ said.Read request name place arguments questions ∷ rest) → it.entry ≡ read_as request version place reply →
+      Follows input served fits front rest (said.Read request name place arguments questions) earlier it before p are b
+  unfolding told_at numbered_at request_by
+  read_follows request version place questions name arguments reply p are is =
+      quiet_follows (said.Read request name place arguments questions) p (λ k v t same. read_is_no_begin request version place reply k v (sym is ∙ ap (λ (z : LineDone). z.entry) same)) are refl refl
+      (λ k. ap (answer_of k) is ∙ reads_quiet request version place k reply) (λ k held. refl)
+
   -- ---- questions
 
   pub ask_follows : (request version : ℕ) (name text : List ℕ) (reply : Reply) (p : PrintedLine) (are : input.script.entries ≡ front ++ said.Ask request name text ∷ rest) → it.entry ≡ asked request version reply →
@@ -139,6 +150,7 @@ module _ (input : Input) (served : List LineDone) (fits : IsInput input) (front 
           unchanged [] = refl
           unchanged (said.Begin r n c ∷ lines) = ap (λ z. c ∷ z) (unchanged lines)
           unchanged (said.Ask r n t ∷ lines) = unchanged lines
+          unchanged (said.Read r n key arguments questions ∷ lines) = unchanged lines
           unchanged (said.End r n ∷ lines) = unchanged lines
           unchanged (said.Publish n set ∷ lines) = unchanged lines
 

@@ -2,7 +2,9 @@ pub mod SummaryLemmas
 pub mod PrintLemmas
 pub mod EvidenceLemmas
 pub mod ProofsLemmas
+pub mod RestLemmas
 pub mod LineLemmas
+pub mod KeyLemmas
 pub mod CheckLemmas
 pub mod Runs
 pub mod AuditLemmas

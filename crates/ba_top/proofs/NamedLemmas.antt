@@ -94,7 +94,7 @@ read_named schema bytes policy is =
 module _ (names : Names) where
   script_named : (policy : Policy) (tables : TableSet) → AreNamed policy → Yields InputIsNamed (script_plan names policy tables)
   script_named policy tables named = λ bytes.
-      yields_then InputIsNamed (found (widened (script_refusal names.script) (script_of policy.params bytes))) (published_plan names policy tables) (λ script.
+      yields_then InputIsNamed (found (widened (script_refusal names.script) (script_of policy.params policy.keys bytes))) (published_plan names policy tables) (λ script.
       yields_then InputIsNamed (sets_plan policy.schema script.entries []) (λ published.
       done (record { policy = policy; tables = tables; script = script; published = published; workers = names.workers; budget = names.budget; loaded = []; orders = names.orders }))
       (λ published. named))

@@ -41,6 +41,7 @@ numbers_in number (Refused ∷ calls) = numbers_in number calls
 abbrev pub numbered_of : ScriptEntry → List VersionCall → List Numbered
 numbered_of (said.Begin request name context) calls = []
 numbered_of (said.Ask request name text) calls = []
+numbered_of (said.Read request name key arguments questions) calls = []
 numbered_of (said.End request name) calls = []
 numbered_of (said.Publish number set) calls = numbers_in number calls
 
@@ -111,6 +112,7 @@ record Publishes (input : Input) (number : ℕ) (calls : List VersionCall) : Typ
 abbrev MadeBy : Input → ScriptEntry → List VersionCall → Type 0
 MadeBy input (said.Begin request name context) calls = IsQuiet calls
 MadeBy input (said.Ask request name text) calls = IsQuiet calls
+MadeBy input (said.Read request name key arguments questions) calls = IsQuiet calls
 MadeBy input (said.End request name) calls = IsQuiet calls
 MadeBy input (said.Publish number set) calls = (calls ≡ []) ⊎ Publishes input number calls
 
@@ -138,6 +140,8 @@ made_by input earlier (said.Begin request name context) it (inr h) = by h.made_i
     by (inr e) = one_refusal it.made.versions (ap calls_in e)
 made_by input earlier (said.Ask request name text) it (inl h) = no_call it.made.versions (ap versions_in h.is)
 made_by input earlier (said.Ask request name text) it (inr h) = no_call it.made.versions (ap versions_in h.unserved)
+made_by input earlier (said.Read request name key arguments questions) it (inl h) = no_call it.made.versions (ap versions_in h.is)
+made_by input earlier (said.Read request name key arguments questions) it (inr h) = no_call it.made.versions (ap versions_in h.unserved)
 made_by input earlier (said.End request name) it (inl h) = no_call it.made.versions (ap versions_in h.is)
 made_by input earlier (said.End request name) it (inr h) = no_call it.made.versions (ap versions_in h.unserved)
 made_by input earlier (said.Publish number set) it (inl h) = inr (record { tables = h.tables; version = h.version; there = h.there; calls_are = ap versions_in h.is })
@@ -146,12 +150,14 @@ made_by input earlier (said.Publish number set) it (inr h) = inl (ap versions_in
 line_named : (input : Input) (e : ScriptEntry) (calls : List VersionCall) (version : ℕ) → MadeBy input e calls → count_by (is_as version) calls ≡ count_by (is_named version) (numbered_of e calls)
 line_named input (said.Begin request name context) calls version h = h.as_none version
 line_named input (said.Ask request name text) calls version h = h.as_none version
+line_named input (said.Read request name key arguments questions) calls version h = h.as_none version
 line_named input (said.End request name) calls version h = h.as_none version
 line_named input (said.Publish number set) calls version h = sym (numbers_named number version calls)
 
 line_long : (input : Input) (e : ScriptEntry) (calls : List VersionCall) → MadeBy input e calls → count_by is_publication calls ≡ length (numbered_of e calls)
 line_long input (said.Begin request name context) calls h = h.none
 line_long input (said.Ask request name text) calls h = h.none
+line_long input (said.Read request name key arguments questions) calls h = h.none
 line_long input (said.End request name) calls h = h.none
 line_long input (said.Publish number set) calls h = sym (numbers_long number calls)
 
@@ -199,6 +205,7 @@ module _ (input : Input) where
     line_right : (e : ScriptEntry) (own : List VersionCall) → MadeBy input e own → ((c : VersionCall) → Contains own c → Contains calls c) → All IsRight (numbered_of e own)
     line_right (said.Begin request name context) own h inside = All-nil IsRight
     line_right (said.Ask request name text) own h inside = All-nil IsRight
+    line_right (said.Read request name key arguments questions) own h inside = All-nil IsRight
     line_right (said.End request name) own h inside = All-nil IsRight
     line_right (said.Publish number set) own (inl none) inside = subst (λ z. All IsRight (numbers_in number z)) (sym none) (All-nil IsRight)
     line_right (said.Publish number set) own (inr h) inside =

@@ -25,11 +25,11 @@ named_at input earlier it said = ap (λ z. unwrap_or (option_map name_in z) []) 
 
 -- the line of an entry was sent, for the script's line at its place
 pub entry_sent : {X : Type 0} (input : Input) (earlier : List Entry) (entry : Entry) (line : ℕ) (it : ScriptEntry) (bytes : List ℕ) (s t : SinkSeen) (r : Result X WriteFail) → slice_get input.script.entries (length earlier) ≡ Some it → line ≡ length earlier + 1
-    → bytes ≡ line_bytes (entry_line (name_in it) line entry) → SentLines (bytes ∷ []) s t r → SentLines (entry_bytes input earlier entry ∷ []) s t r
+    → bytes ≡ line_bytes (entry_line input.policy (name_in it) line entry) → SentLines (bytes ∷ []) s t r → SentLines (entry_bytes input earlier entry ∷ []) s t r
 unfolding entry_bytes
 entry_sent input earlier entry line it bytes s t r said is same sent =
     let at = named_at input earlier it said in
-    let whole : bytes ≡ entry_bytes input earlier entry = same ∙ ap₂ (λ y z. line_bytes (entry_line y z entry)) (sym at) is in
+    let whole : bytes ≡ entry_bytes input earlier entry = same ∙ ap₂ (λ y z. line_bytes (entry_line input.policy y z entry)) (sym at) is in
     subst (λ z. SentLines (z ∷ []) s t r) whole sent
 
 -- what is told of the next entry, and then of those behind it

@@ -12,7 +12,7 @@ use Rattle.ba_kernel.specs.Drafts.{IsChecked}
 use Rattle.ba_input.specs.Inputs.{IsInput}
 use Rattle.ba_lanes.specs.Legal.{contexts_of, trace_in}
 use Rattle.ba_lanes.specs.declared.journal.Entry.{Entry}
-use Rattle.ba_lanes.specs.declared.journal.Entry.TheVariants.{Begin, Ask, End, Publish, Memory}
+use Rattle.ba_lanes.specs.declared.journal.Entry.TheVariants.{Begin, Ask, Read, End, Publish, Memory}
 use Rattle.ba_lanes.specs.declared.journal.Journal.{Journal}
 use Rattle.ba_model.specs.declared.policy.Policy.{Policy}
 use Rattle.ba_outside.specs.Seen.{SinkSeen}
@@ -23,9 +23,9 @@ use Rattle.ba_tables.proofs.FieldLemmas.{drop_element}
 use Rattle.ba_tables.proofs.IndexLemmas.{take_one}
 use Rattle.ba_top.proofs.EvidenceLemmas.{told_after_lines}
 use Rattle.ba_top.proofs.PrintLemmas.{named_at}
-use Rattle.ba_top.specs.Audited.{AllWritten, EntryHasBits, EntryIsWritten, IsWritten, ReplyHasBits, TellsWritten, evident_value, reply_value, told_value}
+use Rattle.ba_top.specs.Audited.{AllWritten, EntryHasBits, EntryIsWritten, IsWritten, KeyHasBits, ReplyHasBits, TellsWritten, evident_value, key_value, reply_value, told_value}
 use Rattle.ba_top.specs.Evidence.{AllClose, AreAfter, EntryCloses, Traces, evident_bytes, told_bytes, trace_at}
-use Rattle.ba_top.specs.Text.{name_at, name_in, summary_of, total_bytes}
+use Rattle.ba_top.specs.Text.{key_name, name_at, name_in, summary_of, total_bytes}
 use Rattle.ba_top.specs.Told.{TellsClosed}
 use Rattle.ba_top.specs.declared.requests.Requests.{Requests}
 use Rattle.ba_wire.specs.Printed.{ReadsBack, summary_json}
@@ -84,6 +84,7 @@ templates_tell it input journal r is = subst (λ z. IfOk r (λ _. TellsClosed z 
 value_as : (policy : Policy) (f g : Traces) (name : List ℕ) (line : ℕ) (entry : Entry) → ((n : ℕ) → f n ≡ g n) → told_value policy f name line entry ≡ told_value policy g name line entry
 value_as policy f g name line (Begin request version) same = refl
 value_as policy f g name line (Ask request version it) same = ap (λ trace. reply_value policy trace name line version it) (same request)
+value_as policy f g name line (Read request version key it) same = ap (λ trace. key_value policy trace name line version (key_name policy key) it) (same request)
 value_as policy f g name line (End request version) same = refl
 value_as policy f g name line (Publish version) same = refl
 value_as policy f g name line (Memory kind request version) same = refl
@@ -91,6 +92,7 @@ value_as policy f g name line (Memory kind request version) same = refl
 bits_as : (f g : Traces) (entry : Entry) → ((n : ℕ) → f n ≡ g n) → EntryHasBits f entry → EntryHasBits g entry
 bits_as f g (Begin request version) same h = tt
 bits_as f g (Ask request version it) same h = subst (λ trace. ReplyHasBits trace it) (same request) h
+bits_as f g (Read request version key it) same h = subst (λ trace. KeyHasBits trace it) (same request) h
 bits_as f g (End request version) same h = tt
 bits_as f g (Publish version) same h = tt
 bits_as f g (Memory kind request version) same h = tt

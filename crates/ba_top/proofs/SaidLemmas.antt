@@ -17,7 +17,7 @@ use Rattle.ba_kernel.specs.Replays.{Closes}
 use Rattle.ba_kernel.specs.declared.step.Step.{Step}
 use Rattle.ba_lanes.specs.Legal.{trace_in}
 use Rattle.ba_lanes.specs.declared.journal.Entry.{Entry}
-use Rattle.ba_lanes.specs.declared.journal.Entry.TheVariants.{Begin, Ask, End, Publish, Memory}
+use Rattle.ba_lanes.specs.declared.journal.Entry.TheVariants.{Begin, Ask, Read, End, Publish, Memory}
 use Rattle.ba_lex.specs.Spelling.{fits}
 use Rattle.ba_model.specs.Conform.{Conforms, TableConforms}
 use Rattle.ba_model.specs.SchemaFaults.{AreDistinct, AreTables}
@@ -28,7 +28,7 @@ use Rattle.ba_model.specs.declared.value.RowSet.{RowSet}
 use Rattle.ba_model.specs.declared.value.Value.{Value}
 use Rattle.ba_model.specs.declared.value.Value.TheVariants as value
 use Rattle.ba_model.specs.declared.check_schema.SchemaFault.TheVariants.{DuplicateTable}
-use Rattle.ba_printed.proofs.BackLemmas.{answer_back, line_json, plain_back, refuted_back, summary_back}
+use Rattle.ba_printed.proofs.BackLemmas.{answer_back, line_json, plain_back, read_back, refuted_back, refuted_read_back, summary_back}
 use Rattle.ba_printed.specs.ReadBack.{GroundSpells, PairSpells, RowsSpell, SetSpells, meant}
 use Rattle.ba_printed.specs.Reading.{printed_of}
 use Rattle.ba_printed.specs.declared.line.PrintedBlock.{PrintedBlock}
@@ -41,14 +41,17 @@ use Rattle.ba_refute.specs.Counterexamples.{AreStored, IsCounterexample, IsNumbe
 use Rattle.ba_refute.specs.declared.clause.Clause.TheVariants.{Value as ValueClause, ConformOne, ConformTwo}
 use Rattle.ba_refute.specs.declared.clause.Counterexample.{Counterexample}
 use Rattle.ba_script.specs.Script.{IsJson}
+use Rattle.ba_session.specs.declared.reply.By.{By}
+use Rattle.ba_session.specs.declared.reply.KeyReply.{KeyReply}
+use Rattle.ba_session.specs.declared.reply.KeyReply.TheVariants as key_reply
 use Rattle.ba_session.specs.declared.reply.Reply.{Reply}
 use Rattle.ba_session.specs.declared.reply.Reply.TheVariants as reply
 use Rattle.ba_session.specs.declared.reply.Why.{Why}
 use Rattle.ba_session.specs.declared.reply.Why.TheVariants as why
-use Rattle.ba_top.specs.Audited.{EntryHasBits, EntryIsWritten, IsWritten, ReplyHasBits, blocked_value, evident_value, reply_value, told_value}
-use Rattle.ba_top.specs.Evidence.{Traces, blocked_bytes, evidence_of, evident_bytes, reply_bytes, told_bytes}
-use Rattle.ba_top.specs.Text.{name_at, summary_of, total_bytes}
-use Rattle.ba_wire.specs.Printed.{begin, block, end, json_line, memory, publish, summary_json, unread}
+use Rattle.ba_top.specs.Audited.{EntryHasBits, EntryIsWritten, IsWritten, ReplyHasBits, barred_value, blocked_value, evident_value, key_value, reply_value, told_value}
+use Rattle.ba_top.specs.Evidence.{Traces, barred_bytes, blocked_bytes, evidence_of, evident_bytes, key_bytes, reply_bytes, told_bytes}
+use Rattle.ba_top.specs.Text.{key_name, name_at, summary_of, total_bytes}
+use Rattle.ba_wire.specs.Printed.{begin, block, end, json_line, memory, publish, read_block, summary_json, unread}
 use Rattle.ba_wire.specs.declared.line.Block.TheVariants as wire
 
 -- ---- what is meant
@@ -64,16 +67,23 @@ said_reply trace name line version (reply.Blocked query reason) = printed.Block 
 said_reply trace name line version (reply.Unread fault) = printed.Unread line name fault version
 said_reply trace name line version reply.NoMemory = printed.Memory line
 
-abbrev pub said_of : Traces → List ℕ → ℕ → Entry → PrintedLine
-said_of traces name line (Begin request version) = printed.Begin name line version
-said_of traces name line (Ask request version it) = said_reply (traces request) name line version it
-said_of traces name line (End request version) = printed.End name line
-said_of traces name line (Publish version) = printed.Publish line name version
-said_of traces name line (Memory kind request version) = printed.Memory line
+-- of a read of the key with this name
+abbrev pub said_key : List TraceEntry → List ℕ → ℕ → ℕ → List ℕ → KeyReply → PrintedLine
+said_key trace name line version key (key_reply.Allowed queries bys) = printed.Read (map meant (map (evidence_of trace) bys)) key line name version
+said_key trace name line version key (key_reply.Blocked queries before reason) = printed.ReadBlock (said_block reason) key line (length before) name version
+said_key trace name line version key key_reply.NoMemory = printed.Memory line
+
+abbrev pub said_of : Policy → Traces → List ℕ → ℕ → Entry → PrintedLine
+said_of policy traces name line (Begin request version) = printed.Begin name line version
+said_of policy traces name line (Ask request version it) = said_reply (traces request) name line version it
+said_of policy traces name line (Read request version key it) = said_key (traces request) name line version (key_name policy key) it
+said_of policy traces name line (End request version) = printed.End name line
+said_of policy traces name line (Publish version) = printed.Publish line name version
+said_of policy traces name line (Memory kind request version) = printed.Memory line
 
 -- the line of an entry, behind the earlier ones
 abbrev pub said_at : Input → List Entry → Entry → PrintedLine
-said_at input earlier entry = said_of (λ request. trace_in request earlier) (name_at input.script (length earlier)) (length earlier + 1) entry
+said_at input earlier entry = said_of input.policy (λ request. trace_in request earlier) (name_at input.script (length earlier)) (length earlier + 1) entry
 
 -- ---- bytes
 
@@ -88,9 +98,20 @@ reply_same policy trace name line version (reply.Blocked query reason) = blocked
 reply_same policy trace name line version (reply.Unread fault) = refl
 reply_same policy trace name line version reply.NoMemory = refl
 
+barred_same : (policy : Policy) (name : List ℕ) (line version : ℕ) (key : List ℕ) (query : ℕ) (it : Why) → barred_bytes policy name line version key query it ≡ json_line (barred_value policy name line version key query it)
+barred_same policy name line version key query (why.Refuted pair) = refl
+barred_same policy name line version key query (why.Spent steps) = refl
+barred_same policy name line version key query (why.Stuck leaf clause) = refl
+
+key_same : (policy : Policy) (trace : List TraceEntry) (name : List ℕ) (line version : ℕ) (key : List ℕ) (it : KeyReply) → key_bytes policy trace name line version key it ≡ json_line (key_value policy trace name line version key it)
+key_same policy trace name line version key (key_reply.Allowed queries bys) = refl
+key_same policy trace name line version key (key_reply.Blocked queries before reason) = barred_same policy name line version key (length before) reason
+key_same policy trace name line version key key_reply.NoMemory = refl
+
 told_same : (policy : Policy) (traces : Traces) (name : List ℕ) (line : ℕ) (it : Entry) → told_bytes policy traces name line it ≡ json_line (told_value policy traces name line it)
 told_same policy traces name line (Begin request version) = refl
 told_same policy traces name line (Ask request version it) = reply_same policy (traces request) name line version it
+told_same policy traces name line (Read request version key it) = key_same policy (traces request) name line version (key_name policy key) it
 told_same policy traces name line (End request version) = refl
 told_same policy traces name line (Publish version) = refl
 told_same policy traces name line (Memory kind request version) = refl
@@ -171,9 +192,18 @@ ReplySpells policy trace (reply.Blocked query (why.Stuck leaf clause)) = Unit {0
 ReplySpells policy trace (reply.Unread fault) = Unit {0}
 ReplySpells policy trace reply.NoMemory = Unit {0}
 
+-- and of what becomes of a read
+abbrev pub KeySpells : Policy → List TraceEntry → KeyReply → Type 0
+KeySpells policy trace (key_reply.Allowed queries bys) = All (EvidenceSpells policy) (map (evidence_of trace) bys)
+KeySpells policy trace (key_reply.Blocked queries before (why.Refuted pair)) = PairSpells policy.schema.tables pair
+KeySpells policy trace (key_reply.Blocked queries before (why.Spent steps)) = Unit {0}
+KeySpells policy trace (key_reply.Blocked queries before (why.Stuck leaf clause)) = Unit {0}
+KeySpells policy trace key_reply.NoMemory = Unit {0}
+
 abbrev pub EntrySpells : Policy → Traces → Entry → Type 0
 EntrySpells policy traces (Begin request version) = Unit {0}
 EntrySpells policy traces (Ask request version it) = ReplySpells policy (traces request) it
+EntrySpells policy traces (Read request version key it) = KeySpells policy (traces request) it
 EntrySpells policy traces (End request version) = Unit {0}
 EntrySpells policy traces (Publish version) = Unit {0}
 EntrySpells policy traces (Memory kind request version) = Unit {0}
@@ -210,10 +240,31 @@ module _ (policy : Policy) (params : AreDistinct (map (λ parameter. parameter.n
   reply_read trace name line version reply.NoMemory bits h is =
       plain_back policy (memory line) (printed.Memory line) (compact_text (reply_value policy trace name line version reply.NoMemory)) refl is
 
-  told_read : (traces : Traces) (name : List ℕ) (line : ℕ) (it : Entry) → EntryHasBits traces it → EntrySpells policy traces it → IsRead (told_value policy traces name line it) (said_of traces name line it)
+  barred_read : (queries : List Query) (before : List By) (trace : List TraceEntry) (name : List ℕ) (line version : ℕ) (key : List ℕ) (query : ℕ) (it : Why) → KeySpells policy trace (key_reply.Blocked queries before it) →
+      IsRead (barred_value policy name line version key query it) (printed.ReadBlock (said_block it) key line query name version)
+  barred_read queries before trace name line version key query (why.Refuted pair) h is =
+      refuted_read_back policy pair key line query name version (compact_text (barred_value policy name line version key query (why.Refuted pair))) (tables.lacks DuplicateTable) h is
+  barred_read queries before trace name line version key query (why.Spent steps) h is =
+      plain_back policy (read_block (wire.Spent (length steps)) key line query name version) (printed.ReadBlock (blocked.Spent (length steps)) key line query name version)
+      (compact_text (barred_value policy name line version key query (why.Spent steps))) refl is
+  barred_read queries before trace name line version key query (why.Stuck leaf clause) h is =
+      plain_back policy (read_block (wire.Stuck clause) key line query name version) (printed.ReadBlock (blocked.Stuck clause) key line query name version)
+      (compact_text (barred_value policy name line version key query (why.Stuck leaf clause))) refl is
+
+  key_read : (trace : List TraceEntry) (name : List ℕ) (line version : ℕ) (key : List ℕ) (it : KeyReply) → KeySpells policy trace it →
+      IsRead (key_value policy trace name line version key it) (said_key trace name line version key it)
+  key_read trace name line version key (key_reply.Allowed queries bys) h is =
+      read_back policy (map (evidence_of trace) bys) key line name version (compact_text (key_value policy trace name line version key (key_reply.Allowed queries bys))) params
+      (All-weaker (EvidenceSpells policy) (GroundSpells policy) ground_spells (map (evidence_of trace) bys) h) is
+  key_read trace name line version key (key_reply.Blocked queries before reason) h is = barred_read queries before trace name line version key (length before) reason h is
+  key_read trace name line version key key_reply.NoMemory h is =
+      plain_back policy (memory line) (printed.Memory line) (compact_text (key_value policy trace name line version key key_reply.NoMemory)) refl is
+
+  told_read : (traces : Traces) (name : List ℕ) (line : ℕ) (it : Entry) → EntryHasBits traces it → EntrySpells policy traces it → IsRead (told_value policy traces name line it) (said_of policy traces name line it)
   told_read traces name line (Begin request version) bits h is =
       plain_back policy (begin name line version) (printed.Begin name line version) (compact_text (told_value policy traces name line (Begin request version))) refl is
   told_read traces name line (Ask request version it) bits h is = reply_read (traces request) name line version it bits h is
+  told_read traces name line (Read request version key it) bits h is = key_read (traces request) name line version (key_name policy key) it h is
   told_read traces name line (End request version) bits h is =
       plain_back policy (end name line) (printed.End name line) (compact_text (told_value policy traces name line (End request version))) refl is
   told_read traces name line (Publish version) bits h is =

@@ -1,30 +1,33 @@
 -- What is written with proofs is an output that passes an audit.
-use Rattle.std.specs.Prelude.{◌≡◌, ℕ, ◌+◌, ◌≤◌, List, [], ◌∷◌, ◌++◌, false, length, map}
+use Rattle.std.specs.Prelude.{◌≡◌, ℕ, ◌+◌, ◌≤◌, List, [], ◌∷◌, ◌++◌, All, false, length, map}
 use Rattle.std.specs.List.{concat}
 use Rattle.std.specs.Str.{IsUtf8}
 use Rattle.serde_json.specs.Data.{Data}
 use Rattle.ba_audit.specs.Audits.{IsAudited}
 use Rattle.ba_comply.specs.declared.trace.TraceEntry.{TraceEntry}
-use Rattle.ba_evidence.specs.Evidence.{AnswerHasBits, Evidence, covered, matched, proved, answer_json, refuted_json}
+use Rattle.ba_evidence.specs.Evidence.{AnswerHasBits, Evidence, EvidenceHasBits, covered, matched, proved, answer_json, read_json, refuted_json, refuted_read_json}
 use Rattle.ba_input.specs.declared.input.Input.{Input}
 use Rattle.ba_input.specs.declared.task.Told.{Told}
 use Rattle.ba_input.specs.declared.task.Told.TheVariants as told
 use Rattle.ba_lanes.specs.Legal.{Legal, lacks_memory, trace_in}
 use Rattle.ba_lanes.specs.declared.journal.Entry.{Entry}
-use Rattle.ba_lanes.specs.declared.journal.Entry.TheVariants.{Begin, Ask, End, Publish, Memory}
+use Rattle.ba_lanes.specs.declared.journal.Entry.TheVariants.{Begin, Ask, Read, End, Publish, Memory}
 use Rattle.ba_lanes.specs.declared.journal.Journal.{Journal}
 use Rattle.ba_model.specs.Limits.{most_steps}
 use Rattle.ba_model.specs.SchemaFaults.{AreDistinct}
 use Rattle.ba_model.specs.declared.policy.Policy.{Policy}
+use Rattle.ba_session.specs.declared.reply.By.{By}
+use Rattle.ba_session.specs.declared.reply.KeyReply.{KeyReply}
+use Rattle.ba_session.specs.declared.reply.KeyReply.TheVariants as key_reply
 use Rattle.ba_session.specs.declared.reply.Reply.{Reply}
 use Rattle.ba_session.specs.declared.reply.Reply.TheVariants as reply
 use Rattle.ba_session.specs.declared.reply.Why.{Why}
 use Rattle.ba_session.specs.declared.reply.Why.TheVariants as why
 use Rattle.ba_top.specs.Auditing.{output_for}
 use Rattle.ba_top.specs.Evidence.{AllClose, Traces, evidence_of, evident_bytes}
-use Rattle.ba_top.specs.Text.{entry_line, name_at, printed_block, summary_of, total_bytes}
+use Rattle.ba_top.specs.Text.{entry_line, key_name, name_at, printed_block, summary_of, total_bytes}
 use Rattle.ba_top.specs.Told.{told_lines}
-use Rattle.ba_wire.specs.Printed.{ReadsBack, block, json_of, memory, summary_json, unread}
+use Rattle.ba_wire.specs.Printed.{ReadsBack, block, json_of, memory, read_block, summary_json, unread}
 
 -- ---- the JSON of the lines
 
@@ -45,17 +48,35 @@ reply_value policy trace name line version (reply.Unread fault) =
     json_of (unread line name fault version)
 reply_value policy trace name line version reply.NoMemory = json_of (memory line)
 
+-- of a block of a read of the key with this name, for the query of this number
+abbrev pub barred_value : Policy → List ℕ → ℕ → ℕ → List ℕ → ℕ → Why → Data
+barred_value policy name line version key query (why.Refuted pair) =
+    refuted_read_json policy.schema pair key line query name version
+barred_value policy name line version key query (why.Spent steps) =
+    json_of (read_block (printed_block (why.Spent steps)) key line query name version)
+barred_value policy name line version key query (why.Stuck leaf clause) =
+    json_of (read_block (printed_block (why.Stuck leaf clause)) key line query name version)
+
+abbrev pub key_value : Policy → List TraceEntry → List ℕ → ℕ → ℕ → List ℕ → KeyReply → Data
+key_value policy trace name line version key (key_reply.Allowed queries bys) =
+    read_json policy.params (map (evidence_of trace) bys) key line name version
+key_value policy trace name line version key (key_reply.Blocked queries before reason) =
+    barred_value policy name line version key (length before) reason
+key_value policy trace name line version key key_reply.NoMemory = json_of (memory line)
+
 abbrev pub told_value : Policy → Traces → List ℕ → ℕ → Entry → Data
 told_value policy traces name line (Begin request version) =
-    json_of (entry_line name line (Begin request version))
+    json_of (entry_line policy name line (Begin request version))
 told_value policy traces name line (Ask request version it) =
     reply_value policy (traces request) name line version it
+told_value policy traces name line (Read request version key it) =
+    key_value policy (traces request) name line version (key_name policy key) it
 told_value policy traces name line (End request version) =
-    json_of (entry_line name line (End request version))
+    json_of (entry_line policy name line (End request version))
 told_value policy traces name line (Publish version) =
-    json_of (entry_line name line (Publish version))
+    json_of (entry_line policy name line (Publish version))
 told_value policy traces name line (Memory kind request version) =
-    json_of (entry_line name line (Memory kind request version))
+    json_of (entry_line policy name line (Memory kind request version))
 
 -- the value whose text is the line of an entry with its evidence, which comes behind the earlier
 -- ones
@@ -80,9 +101,20 @@ ReplyHasBits trace (reply.Blocked query reason) = Unit {0}
 ReplyHasBits trace (reply.Unread fault) = Unit {0}
 ReplyHasBits trace reply.NoMemory = Unit {0}
 
+-- the same of what a query of a read rests on
+pub record GroundHasBits (trace : List TraceEntry) (it : By) : Type 0 where
+  pub bits : EvidenceHasBits (evidence_of trace it)
+  pub few : IsFew (evidence_of trace it)
+
+abbrev pub KeyHasBits : List TraceEntry → KeyReply → Type 0
+KeyHasBits trace (key_reply.Allowed queries bys) = All (GroundHasBits trace) bys
+KeyHasBits trace (key_reply.Blocked queries before reason) = Unit {0}
+KeyHasBits trace key_reply.NoMemory = Unit {0}
+
 abbrev pub EntryHasBits : Traces → Entry → Type 0
 EntryHasBits traces (Begin request version) = Unit {0}
 EntryHasBits traces (Ask request version it) = ReplyHasBits (traces request) it
+EntryHasBits traces (Read request version key it) = KeyHasBits (traces request) it
 EntryHasBits traces (End request version) = Unit {0}
 EntryHasBits traces (Publish version) = Unit {0}
 EntryHasBits traces (Memory kind request version) = Unit {0}

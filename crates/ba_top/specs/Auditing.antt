@@ -17,7 +17,8 @@ abbrev pub output_for : Input → List ℕ → Output
 output_for input bytes = output_of input.policy (input.tables ∷ input.published) input.script bytes
 
 -- It passes every test, and so each answer is its query's in its version and strongly compliant after
--- what its request was told before, each pair refutes, and no blocked question is covered.
+-- what its request was told before, as is each query behind a read that is let through, each pair
+-- refutes, and no blocked query is covered.
 pub record IsPassing (it : Output) (audited : Audited) : Type 0 where
   pub tells : TellsAudited it audited
   pub sound : IsSound it

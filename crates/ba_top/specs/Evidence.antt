@@ -1,28 +1,30 @@
 -- The lines of a run that tell their evidence, and when it holds.
-use Rattle.std.specs.Prelude.{◌≡◌, ℕ, ◌+◌, List, [], ◌∷◌, ◌++◌, Some, length, slice_get, take, unwrap_or}
+use Rattle.std.specs.Prelude.{◌≡◌, ℕ, ◌+◌, List, [], ◌∷◌, ◌++◌, Some, length, map, slice_get, take, unwrap_or}
 use Rattle.ba_comply.specs.declared.trace.TraceEntry.{TraceEntry}
-use Rattle.ba_evidence.specs.Evidence.{Evidence, covered, matched, proved, answer_json, refuted_json}
+use Rattle.ba_evidence.specs.Evidence.{Evidence, covered, matched, proved, answer_json, read_json, refuted_json, refuted_read_json}
 use Rattle.ba_input.specs.declared.input.Input.{Input}
 use Rattle.ba_kernel.specs.Problems.{problem_of}
 use Rattle.ba_kernel.specs.Replays.{Closes}
 use Rattle.ba_kernel.specs.SearchStates as kernel
 use Rattle.ba_lanes.specs.Legal.{contexts_of, trace_in}
 use Rattle.ba_lanes.specs.declared.journal.Entry.{Entry}
-use Rattle.ba_lanes.specs.declared.journal.Entry.TheVariants.{Begin, Ask, End, Publish, Memory}
+use Rattle.ba_lanes.specs.declared.journal.Entry.TheVariants.{Begin, Ask, Read, End, Publish, Memory}
 use Rattle.ba_match.specs.Instances.{instance_of}
 use Rattle.ba_model.specs.declared.policy.Context.{Context}
 use Rattle.ba_model.specs.declared.policy.Policy.{Policy}
 use Rattle.ba_model.specs.declared.query.Query.{Query}
 use Rattle.ba_session.specs.declared.reply.By.{By}
 use Rattle.ba_session.specs.declared.reply.By.TheVariants as by
+use Rattle.ba_session.specs.declared.reply.KeyReply.{KeyReply}
+use Rattle.ba_session.specs.declared.reply.KeyReply.TheVariants as key_reply
 use Rattle.ba_session.specs.declared.reply.Reply.{Reply}
 use Rattle.ba_session.specs.declared.reply.Reply.TheVariants as reply
 use Rattle.ba_session.specs.declared.reply.Why.{Why}
 use Rattle.ba_session.specs.declared.reply.Why.TheVariants as why
 use Rattle.ba_template.specs.declared.found.Match.{Match}
-use Rattle.ba_top.specs.Text.{entry_line, name_at, printed_block}
+use Rattle.ba_top.specs.Text.{entry_line, key_name, name_at, printed_block}
 use Rattle.ba_top.specs.declared.requests.Requests.{Requests}
-use Rattle.ba_wire.specs.Printed.{block, json_line, line_bytes, memory, unread}
+use Rattle.ba_wire.specs.Printed.{block, json_line, line_bytes, memory, read_block, unread}
 
 -- the traces of requests, by their numbers
 abbrev pub Traces : Type 0
@@ -56,18 +58,38 @@ reply_bytes policy trace name line version (reply.Unread fault) =
     line_bytes (unread line name fault version)
 reply_bytes policy trace name line version reply.NoMemory = line_bytes (memory line)
 
+-- the bytes of the line of a block of a read of the key with this name, for the query of this number
+abbrev pub barred_bytes : Policy → List ℕ → ℕ → ℕ → List ℕ → ℕ → Why → List ℕ
+barred_bytes policy name line version key query (why.Refuted pair) =
+    json_line (refuted_read_json policy.schema pair key line query name version)
+barred_bytes policy name line version key query (why.Spent steps) =
+    line_bytes (read_block (printed_block (why.Spent steps)) key line query name version)
+barred_bytes policy name line version key query (why.Stuck leaf clause) =
+    line_bytes (read_block (printed_block (why.Stuck leaf clause)) key line query name version)
+
+-- the bytes of the line of a read of the key with this name that was let through or blocked after
+-- this trace, with its evidence
+abbrev pub key_bytes : Policy → List TraceEntry → List ℕ → ℕ → ℕ → List ℕ → KeyReply → List ℕ
+key_bytes policy trace name line version key (key_reply.Allowed queries bys) =
+    json_line (read_json policy.params (map (evidence_of trace) bys) key line name version)
+key_bytes policy trace name line version key (key_reply.Blocked queries before reason) =
+    barred_bytes policy name line version key (length before) reason
+key_bytes policy trace name line version key key_reply.NoMemory = line_bytes (memory line)
+
 -- the same of an entry, for a request or a table set of this name
 abbrev pub told_bytes : Policy → Traces → List ℕ → ℕ → Entry → List ℕ
 told_bytes policy traces name line (Begin request version) =
-    line_bytes (entry_line name line (Begin request version))
+    line_bytes (entry_line policy name line (Begin request version))
 told_bytes policy traces name line (Ask request version it) =
     reply_bytes policy (traces request) name line version it
+told_bytes policy traces name line (Read request version key it) =
+    key_bytes policy (traces request) name line version (key_name policy key) it
 told_bytes policy traces name line (End request version) =
-    line_bytes (entry_line name line (End request version))
+    line_bytes (entry_line policy name line (End request version))
 told_bytes policy traces name line (Publish version) =
-    line_bytes (entry_line name line (Publish version))
+    line_bytes (entry_line policy name line (Publish version))
 told_bytes policy traces name line (Memory kind request version) =
-    line_bytes (entry_line name line (Memory kind request version))
+    line_bytes (entry_line policy name line (Memory kind request version))
 
 -- the bytes of the line of an entry with its evidence, which comes behind the earlier ones
 unfoldable pub evident_bytes : Input → List Entry → Entry → List ℕ
@@ -99,11 +121,27 @@ ReplyCloses policy contexts trace request (reply.Blocked query reason) = Unit {0
 ReplyCloses policy contexts trace request (reply.Unread fault) = Unit {0}
 ReplyCloses policy contexts trace request reply.NoMemory = Unit {0}
 
--- where the entry is an answer by a template, its instance's steps close the question's problem
+-- the same of each query of a read that is let through, with its ground
+abbrev pub GroundsClose : Policy → List Context → List TraceEntry → ℕ → List Query → List By
+    → Type 0
+GroundsClose policy contexts trace request queries bys =
+    (place : ℕ) (query : Query) (it : By) → slice_get queries place ≡ Some query
+    → slice_get bys place ≡ Some it → GroundCloses policy contexts trace request query it
+
+abbrev pub ReadCloses : Policy → List Context → List TraceEntry → ℕ → KeyReply → Type 0
+ReadCloses policy contexts trace request (key_reply.Allowed queries bys) =
+    GroundsClose policy contexts trace request queries bys
+ReadCloses policy contexts trace request (key_reply.Blocked queries before reason) = Unit {0}
+ReadCloses policy contexts trace request key_reply.NoMemory = Unit {0}
+
+-- Where the entry is an answer by a template, its instance's steps close the question's problem; and
+-- so it is of each query of a read that is let through.
 abbrev pub EntryCloses : Policy → List Context → Traces → Entry → Type 0
 EntryCloses policy contexts traces (Begin request version) = Unit {0}
 EntryCloses policy contexts traces (Ask request version it) =
     ReplyCloses policy contexts (traces request) request it
+EntryCloses policy contexts traces (Read request version key it) =
+    ReadCloses policy contexts (traces request) request it
 EntryCloses policy contexts traces (End request version) = Unit {0}
 EntryCloses policy contexts traces (Publish version) = Unit {0}
 EntryCloses policy contexts traces (Memory kind request version) = Unit {0}

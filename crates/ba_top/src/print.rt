@@ -1,15 +1,15 @@
 //! Writes the lines of a run.
-ghost use Rattle.std.specs.Prelude.{◌≡◌, ◌==◌, ◌<◌, ◌+◌, ◌++◌, [], ◌∷◌, List, IfErr, IfOk, OnOk, Some, length, map, position, slice_get, string_bytes};
+ghost use Rattle.std.specs.Prelude.{◌≡◌, ◌==◌, ◌<◌, ◌+◌, ◌++◌, [], ◌∷◌, All, List as Sequence, IfErr, IfOk, OnOk, Some, length, map, position, slice_get, string_bytes};
 ghost use Rattle.ba_input.specs.Inputs.{IsInput};
 ghost use Rattle.ba_input.specs.declared.input.Input.{Input as Given};
 ghost use Rattle.ba_lanes.specs.declared.journal.Entry.{Entry as EntryOf};
 ghost use Rattle.ba_plan.specs.Sent.{SentLines};
-ghost use Rattle.ba_wire.specs.Printed.{ReadsBack, fault_bytes, line_bytes, printed, summary_json};
+ghost use Rattle.ba_wire.specs.Printed.{ReadsBack, fault_bytes, json_of, line_bytes, printed, read, summary_json};
 ghost use Rattle.ba_lanes.specs.Legal.{left_templates};
 ghost use Rattle.ba_store.specs.Written.{line_of as template_bytes};
 ghost use Rattle.ba_top.specs.Audited.{IsWritten, LinesAreWritten, TellsWritten};
 ghost use Rattle.ba_top.specs.Evidence.{AllClose, AreAfter};
-ghost use Rattle.ba_top.specs.Text.{entry_bytes, entry_line, lines_of, name_in, printed_block, printed_by, reply_line, summary_of, total_bytes};
+ghost use Rattle.ba_top.specs.Text.{ReadsKey, entry_bytes, entry_line, key_name, lines_of, name_in, printed_block, printed_by, read_line, reply_line, summary_of, total_bytes};
 ghost use Rattle.ba_top.specs.Told.{TellsClosed, told_lines};
 
 use crate::evident::print_evident;
@@ -17,11 +17,11 @@ use crate::requests::Requests;
 use crate::summary::count_all;
 use ba_input::{Input, Told};
 use ba_lanes::{Entry, Journal};
-use ba_model::{Shared, Str};
+use ba_model::{List, Policy, Shared, Str};
 use ba_outside::{Sink, WriteFail};
 use ba_plan::send;
 use ba_script::ScriptEntry;
-use ba_session::{By, Reply, Why};
+use ba_session::{By, KeyReply, Reply, Why};
 use ba_store::template_line;
 use ba_template::Template;
 use ba_wire::{Block, By as PrintedBy, Fault, Line, fault_text, line_text, summary_text};
@@ -76,23 +76,128 @@ fn reply_line<'a>(request: &'a Str, line: u64, version: u32, reply: &'a Reply) -
     }
 }
 
-pub(crate) fn entry_line<'a>(name: &'a Str, line: u64, entry: &'a Entry) -> Line<'a>
-    ensures { printed result ≡ entry_line name.now line entry.now }
+// What each of the queries rests on.
+fn names_of(alloc: Global, by: &[By]) -> Result<List<PrintedBy>, AllocError>
+    ensures { IfOk result (λ names. names ≡ map printed_by by.now) }
+{
+    let mut names = Vec::with_capacity(alloc, by.len())?;
+    for it in by {
+        names.push(printed_by(it))?;
+    }
+    Ok(List::from_vec(names))
+}
+
+// The line of a read of the key with this name that is let through.
+fn allowed_text(
+    alloc: Global,
+    name: &Str,
+    line: u64,
+    version: u32,
+    key: &Str,
+    by: &[By],
+) -> Result<String, AllocError>
+    ensures text { IfOk result (λ text. string_bytes text
+        ≡ line_bytes (read (map printed_by by.now) key.now line name.now version)) }
+    ensures reads_back { IfOk result (λ text. ReadsBack (string_bytes text)
+        (json_of (read (map printed_by by.now) key.now line name.now version))) }
+{
+    let by = names_of(alloc, by)?;
+    let told = Line::Read {
+        by: &by,
+        key,
+        line,
+        read: name,
+        version,
+    };
+    line_text(alloc, &told)
+}
+
+// The line of a read of the key with this name.
+fn read_text(
+    alloc: Global,
+    name: &Str,
+    line: u64,
+    version: u32,
+    key: &Str,
+    reply: &KeyReply,
+) -> Result<String, AllocError>
+    ensures text { IfOk result (λ text. string_bytes text
+        ≡ line_bytes (read_line name.now line version key.now reply.now)) }
+    ensures reads_back { IfOk result (λ text. ReadsBack (string_bytes text)
+        (json_of (read_line name.now line version key.now reply.now))) }
+{
+    match reply {
+        KeyReply::Allowed { by, .. } => {
+            allowed_text(alloc, name, line, version, key, by.as_slice())
+        }
+        KeyReply::Blocked { before, why, .. } => {
+            let told = Line::ReadBlock {
+                blocked: printed_block(why),
+                key,
+                line,
+                query: before.len() as u64,
+                read: name,
+                version,
+            };
+            line_text(alloc, &told)
+        }
+        KeyReply::NoMemory => line_text(alloc, &Line::Memory { line }),
+    }
+}
+
+/// The name of the policy's cache key with this number.
+pub(crate) fn key_name(policy: &Policy, number: usize) -> &Str
+    requires { number < length policy.now.keys }
+    ensures { result.now ≡ key_name policy.now number }
+{
+    &policy.keys.get(number).name
+}
+
+/// The line of an entry, for a request or a table set of this name.
+pub(crate) fn entry_text(
+    alloc: Global,
+    policy: &Shared<Policy>,
+    name: &Str,
+    line: u64,
+    entry: &Entry,
+) -> Result<String, AllocError>
+    requires key { ReadsKey policy.now entry.now }
+    ensures text { IfOk result (λ text. string_bytes text
+        ≡ line_bytes (entry_line policy.now name.now line entry.now)) }
+    ensures reads_back { IfOk result (λ text. ReadsBack (string_bytes text)
+        (json_of (entry_line policy.now name.now line entry.now))) }
 {
     match entry {
-        Entry::Begin { version, .. } => Line::Begin {
-            begin: name,
-            line,
-            version: *version,
-        },
-        Entry::Ask { version, reply, .. } => reply_line(name, line, *version, reply),
-        Entry::End { .. } => Line::End { end: name, line },
-        Entry::Publish { version } => Line::Publish {
-            line,
-            publish: name,
-            version: *version,
-        },
-        Entry::Memory { .. } => Line::Memory { line },
+        Entry::Begin { version, .. } => {
+            let told = Line::Begin {
+                begin: name,
+                line,
+                version: *version,
+            };
+            line_text(alloc, &told)
+        }
+        Entry::Ask { version, reply, .. } => {
+            line_text(alloc, &reply_line(name, line, *version, reply))
+        }
+        Entry::Read {
+            version,
+            key,
+            reply,
+            ..
+        } => {
+            let key = key_name(policy, *key);
+            read_text(alloc, name, line, *version, key, reply)
+        }
+        Entry::End { .. } => line_text(alloc, &Line::End { end: name, line }),
+        Entry::Publish { version } => {
+            let told = Line::Publish {
+                line,
+                publish: name,
+                version: *version,
+            };
+            line_text(alloc, &told)
+        }
+        Entry::Memory { .. } => line_text(alloc, &Line::Memory { line }),
     }
 }
 
@@ -102,37 +207,28 @@ pub(crate) fn name_in(said: &ScriptEntry) -> &Str
     match said {
         ScriptEntry::Begin { name, .. } => name,
         ScriptEntry::Ask { name, .. } => name,
+        ScriptEntry::Read { name, .. } => name,
         ScriptEntry::End { name, .. } => name,
         ScriptEntry::Publish { set, .. } => set,
     }
 }
 
-fn entry_text(
-    alloc: Global,
-    said: &ScriptEntry,
-    line: u64,
-    entry: &Entry,
-) -> Result<String, AllocError>
-    ensures { IfOk result (λ text. string_bytes text
-        ≡ line_bytes (entry_line (name_in said.now) line entry.now)) }
-{
-    line_text(alloc, &entry_line(name_in(said), line, entry))
-}
-
 // Writes the line of an entry, for a line of the script with its number.
 fn print_entry<S: Sink>(
     alloc: Global,
+    input: &Input,
     said: &ScriptEntry,
     line: u64,
     entry: &Entry,
     sink: &mut S,
 ) -> Result<(), WriteFail>
-    ensures { (input : Given) (earlier : List EntryOf)
-        → slice_get input.script.entries (length earlier) ≡ Some said.now → line ≡ length earlier + 1
-        → SentLines (entry_bytes input earlier entry.now ∷ [])
+    requires { ReadsKey input.now.policy entry.now }
+    ensures { (earlier : Sequence EntryOf)
+        → slice_get input.now.script.entries (length earlier) ≡ Some said.now
+        → line ≡ length earlier + 1 → SentLines (entry_bytes input.now earlier entry.now ∷ [])
         (S.seen sink.old) (S.seen sink.new) result }
 {
-    let Ok(text) = entry_text(alloc, said, line, entry) else {
+    let Ok(text) = entry_text(alloc, &input.policy, name_in(said), line, entry) else {
         return Err(WriteFail::NoMemory);
     };
     send(sink, text.as_bytes())
@@ -214,14 +310,15 @@ fn print_lines<S: Sink>(
     journal: &Journal,
     sink: &mut S,
 ) -> Result<(), WriteFail>
-    requires { length journal.now.entries ≡ length input.now.script.entries }
+    requires many { length journal.now.entries ≡ length input.now.script.entries }
+    requires keys { All (ReadsKey input.now.policy) journal.now.entries }
     ensures { SentLines (told_lines Told.Lines input.now journal.now)
         (S.seen sink.old) (S.seen sink.new) result }
 {
     for place in 0..journal.entries.len() {
         let said = input.script.entries.get(place);
         let entry = journal.entries.get(place);
-        print_entry(alloc, said, place as u64 + 1, entry, sink)?;
+        print_entry(alloc, input, said, place as u64 + 1, entry, sink)?;
     }
     print_summary(alloc, journal, sink)
 }
@@ -233,7 +330,7 @@ fn follow(
     said: &ScriptEntry,
     entry: &Entry,
 ) -> Result<(), WriteFail>
-    ensures ok { OnOk result ((input : Given) (earlier : List EntryOf)
+    ensures ok { OnOk result ((input : Given) (earlier : Sequence EntryOf)
         → slice_get input.script.entries (length earlier) ≡ Some said.now
         → AreAfter input earlier requests.old
         → AreAfter input (earlier ++ entry.now ∷ []) requests.new) }
@@ -254,6 +351,7 @@ fn print_proofs<S: Sink>(
 ) -> Result<(), WriteFail>
     requires input { IsInput input.now }
     requires many { length journal.now.entries ≡ length input.now.script.entries }
+    requires keys { All (ReadsKey input.now.policy) journal.now.entries }
     ensures sent { SentLines (told_lines Told.Proofs input.now journal.now)
         (S.seen sink.old) (S.seen sink.new) result }
     ensures closed { IfOk result (λ _. AllClose input.now [] journal.now.entries) }
@@ -282,6 +380,7 @@ pub(crate) fn print_told<S: Sink>(
 ) -> Result<(), WriteFail>
     requires input { IsInput input.now }
     requires many { length journal.now.entries ≡ length input.now.script.entries }
+    requires keys { All (ReadsKey input.now.policy) journal.now.entries }
     ensures sent { SentLines (told_lines told input.now journal.now)
         (S.seen sink.old) (S.seen sink.new) result }
     ensures closed { IfOk result (λ _. TellsClosed told input.now journal.now) }

@@ -34,7 +34,10 @@ fn add_context(
 {
     match said {
         ScriptEntry::Begin { context, .. } => contexts.push(context.copy(alloc)?),
-        ScriptEntry::Ask { .. } | ScriptEntry::End { .. } | ScriptEntry::Publish { .. } => Ok(()),
+        ScriptEntry::Ask { .. }
+        | ScriptEntry::Read { .. }
+        | ScriptEntry::End { .. }
+        | ScriptEntry::Publish { .. } => Ok(()),
     }
 }
 
@@ -104,8 +107,11 @@ fn add_entry(alloc: Global, traces: &mut Vec<Trace>, entry: &Entry) -> Result<()
 {
     match entry {
         Entry::Ask { request, reply, .. } => add_reply(alloc, traces, *request, reply),
-        Entry::Begin { .. } | Entry::End { .. } | Entry::Publish { .. } | Entry::Memory { .. } =>
-            Ok(()),
+        Entry::Begin { .. }
+        | Entry::Read { .. }
+        | Entry::End { .. }
+        | Entry::Publish { .. }
+        | Entry::Memory { .. } => Ok(()),
     }
 }
 

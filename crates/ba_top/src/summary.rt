@@ -6,7 +6,7 @@ ghost use Rattle.ba_lanes.specs.declared.journal.Entry.{Entry as EntryOf};
 ghost use Rattle.ba_top.specs.Text.{summary_of};
 
 use ba_lanes::{Entry, Journal, LineKind};
-use ba_session::Reply;
+use ba_session::{KeyReply, Reply};
 use ba_wire::Summary;
 
 /// Nothing is counted.
@@ -21,7 +21,7 @@ const NOTHING: Summary = Summary {
 };
 
 // What is counted of one entry.
-#[tactic(auto, unfolding(crate::specs::Text::is_answer, crate::specs::Text::is_block, crate::specs::Text::is_unread, crate::specs::Text::row_count, crate::specs::Text::is_begin, ba_lanes::specs::Legal::is_memory))]
+#[tactic(auto, unfolding(crate::specs::Text::is_answer, crate::specs::Text::is_block, crate::specs::Text::is_unread, crate::specs::Text::is_allowed, crate::specs::Text::is_barred, crate::specs::Text::row_count, crate::specs::Text::is_begin, ba_lanes::specs::Legal::is_memory))]
 fn count_one(entry: &Entry) -> Summary
     ensures { result ≡ summary_of (entry.now ∷ []) }
 {
@@ -37,6 +37,11 @@ fn count_one(entry: &Entry) -> Summary
             Reply::Blocked { .. } => one.blocked = 1,
             Reply::Unread(_) => one.unread = 1,
             Reply::NoMemory => {}
+        },
+        Entry::Read { reply, .. } => match reply {
+            KeyReply::Allowed { .. } => one.answered = 1,
+            KeyReply::Blocked { .. } => one.blocked = 1,
+            KeyReply::NoMemory => {}
         },
         Entry::End { .. } | Entry::Publish { .. } => {}
         Entry::Memory { kind, .. } => {
@@ -82,9 +87,11 @@ fn is_memory(entry: &Entry) -> bool
     ensures { result ≡ is_memory entry.now }
 {
     match entry {
-        Entry::Begin { .. } | Entry::Ask { .. } | Entry::End { .. } | Entry::Publish { .. } => {
-            false
-        }
+        Entry::Begin { .. }
+        | Entry::Ask { .. }
+        | Entry::Read { .. }
+        | Entry::End { .. }
+        | Entry::Publish { .. } => false,
         Entry::Memory { .. } => true,
     }
 }

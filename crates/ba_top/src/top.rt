@@ -1,5 +1,5 @@
 //! The top call.
-ghost use Rattle.std.specs.Prelude.{◌≡◌, ◌⊎◌, List, ℕ, length, map, string_bytes, IfOk, IfSome};
+ghost use Rattle.std.specs.Prelude.{◌≡◌, ◌⊎◌, All, List, ℕ, length, map, string_bytes, IfOk, IfSome};
 ghost use Rattle.ba_model.specs.declared.limits.Counted.{Counted};
 ghost use Rattle.ba_outside.specs.Causes.{Rose};
 ghost use Rattle.ba_plan.specs.Ends.{AsksFront, FailedAt};
@@ -16,6 +16,7 @@ ghost use Rattle.ba_wire.specs.declared.audit.AuditFault.{AuditFault};
 ghost use Rattle.ba_top.specs.Causes.{SomeComesTo, Tells};
 ghost use Rattle.ba_top.specs.Ran.{Accepts, EndsFault, EndsPrint, EndsRun, EndsStop, Fails, Ran, RanInput, RanTask, Rejects, Served, ServedIdeally, fault_status, status_of, whole_run};
 ghost use Rattle.ba_top.specs.Audited.{TellsWritten};
+ghost use Rattle.ba_top.specs.Text.{ReadsKey};
 ghost use Rattle.ba_top.specs.Told.{TellsClosed};
 
 use crate::auditing::end_audit;
@@ -80,6 +81,7 @@ fn end_run<S: Sink>(
 ) -> Detail
     requires input { IsInput input.now }
     requires many { length journal.now.entries ≡ length input.now.script.entries }
+    requires keys { All (ReadsKey input.now.policy) journal.now.entries }
     ensures ends { EndsRun input.now told journal.now (S.seen sink.old) (S.seen sink.new) result }
     ensures closed { result ≡ Detail.Done → TellsClosed told input.now journal.now }
     ensures written { result ≡ Detail.Done → TellsWritten told input.now journal.now }
@@ -194,8 +196,10 @@ fn run<R: Threads + Wait + Sync, F: Files, S: Sink, G: Gate + Sync>(
 /// is answered where single views of the policy cover it under its request's context, where a
 /// template, which is an earlier proof made general, matches it after what its request was told, or
 /// where at most B due steps, taken in one order or, with K 2, in either of two, prove that it is
-/// strongly compliant after that (Blockaid, OSDI 2022); else it is blocked, with a reason. With
-/// `--proofs` the lines of answers have their proofs, and those of refuted questions their pairs.
+/// strongly compliant after that (Blockaid, OSDI 2022); else it is blocked, with a reason. A read of
+/// a cache key is let through where each query behind the key would be answered, and blocked at the
+/// first that wouldn't be. With `--proofs` the lines of answers and of such reads have their proofs,
+/// and those of refuted questions and queries their pairs.
 ///
 /// `check --schema S --policy P --proof F` reads the schema S, the policy P and the proof F, each
 /// once; then takes the proof's steps, one after another; then writes one line. The proof is accepted
@@ -206,8 +210,9 @@ fn run<R: Threads + Wait + Sync, F: Files, S: Sink, G: Gate + Sync>(
 /// `audit --schema S --policy P --tables D --script F --output O` reads what `run` does and, last, the
 /// output O; then writes one line. The output is accepted where each of its lines passes every test
 /// (status 0): then each answer is that of its line's text and strongly compliant after what its
-/// request was told before, each pair refutes its question, and no blocked question is covered. Else
-/// the line tells the first line that fails one, and which (status 1).
+/// request was told before, and so is each query behind a read that is let through; each pair
+/// refutes its question or query, and none that is blocked is covered. Else the line tells the first
+/// line that fails one, and which (status 1).
 ///
 /// `gen --seed N --requests R [--workers N] [--print]` makes the schema, the policy, the tables and
 /// the script of a workload (`ba_workload`), and reads no file. With `--print` it writes the script,
@@ -231,7 +236,8 @@ pub fn blockaid<R: Threads + Wait + Sync, F: Files, S: Sink, G: Gate + Sync>(
 ) -> Outcome
     // Each answer is that of the query that its line's text reads as, in the request's tables and in
     // every database that meets the schema, gives every view the same rows and each query that was
-    // answered before its printed rows. Each block is of such a query that isn't covered, and carries
+    // answered before its printed rows. Where a read is let through, each query behind its key has
+    // one answer in all of these. Each block is of such a query that isn't covered, and carries
     // a counterexample to strong compliance, a derivation as long as the budget, or a stuck branch.
     // The input that the words and the files come to is the one for which the journal is legal and
     // whose lines were written. What a run that is done tells with proofs passes every test of an

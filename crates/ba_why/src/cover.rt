@@ -9,15 +9,17 @@ use ba_sql_print::print_query;
 use ba_sql_query::read_query;
 use std::alloc::AllocError;
 
-/// Says which views cover a question.
+/// Says which views cover a query; `question` is its text, if it is that of a question.
 pub fn tell_cover(
     page: &mut Page,
     given: &Given,
-    question: &str,
+    question: Option<&str>,
     cover: &Cover,
 ) -> Result<(), AllocError> {
     let count = cover.parts.len();
-    if count > 1 {
+    if let Some(question) = question
+        && count > 1
+    {
         tell_parts(page, given, question)?;
     }
     for (number, part) in cover.parts.as_slice().iter().enumerate() {

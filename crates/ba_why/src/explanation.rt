@@ -76,7 +76,9 @@ fn tell_line<W: Write>(
     let place = line.wrapping_sub(1) as usize;
     let is_told = tell(&mut page, given, journal, place)?;
     if !is_told {
-        let text = format!(in alloc; "No question stands at line {line} of the script.")?;
+        let text = format!(in alloc;
+            "No question or read of a cache key stands at line {line} of the script."
+        )?;
         page.say(0, text.as_str())?;
     }
     out.write_all(page.text().as_bytes())

@@ -72,7 +72,7 @@ impl Given {
             return Err(AllocError);
         };
         let policy = Shared::new(alloc, policy)?;
-        let Ok(script) = read_script(alloc, &policy.params, script) else {
+        let Ok(script) = read_script(alloc, &policy.params, &policy.keys, script) else {
             return Err(AllocError);
         };
         Ok(Given {

@@ -8,7 +8,7 @@ use ba_cache::Admit;
 use ba_kernel::Step;
 use ba_lanes::{Entry, Journal};
 use ba_model::{List, Query, Shared};
-use ba_session::{By, Keeping, Reply};
+use ba_session::{By, Keeping, KeyReply, Reply};
 use ba_template::{Match, Shape};
 use std::alloc::{AllocError, Global};
 
@@ -121,17 +121,57 @@ fn maker_of(
     Ok(None)
 }
 
-// Whether it is the proof of which a template was made.
+// Whether the proof of which a template was made is there.
 fn is_maker(alloc: Global, entry: &Entry, shard: u32, id: u32) -> Result<bool, AllocError> {
-    let Entry::Ask {
-        reply: Reply::Answer {
-            query,
-            by: By::Proof(_, Keeping::Stored(Admit::Added(added))),
+    match entry {
+        Entry::Ask {
+            reply: Reply::Answer { query, by, .. },
             ..
-        },
-        ..
-    } = entry
-    else {
+        } => is_proof_of(alloc, query, by, shard, id),
+        Entry::Read {
+            reply: KeyReply::Allowed { queries, by },
+            ..
+        } => has_proof_of(alloc, queries, by.as_slice(), shard, id),
+        Entry::Read {
+            reply: KeyReply::Blocked {
+                queries,
+                before,
+                ..
+            },
+            ..
+        } => has_proof_of(alloc, queries, before.as_slice(), shard, id),
+        _ => Ok(false),
+    }
+}
+
+// Whether the proof of which a template was made is among those of a read's queries.
+fn has_proof_of(
+    alloc: Global,
+    queries: &List<Shared<Query>>,
+    grounds: &[By],
+    shard: u32,
+    id: u32,
+) -> Result<bool, AllocError> {
+    for (place, by) in grounds.iter().enumerate() {
+        if let Some(query) = queries.find(place) {
+            let is_it = is_proof_of(alloc, query, by, shard, id)?;
+            if is_it {
+                return Ok(true);
+            }
+        }
+    }
+    Ok(false)
+}
+
+// Whether it is the proof of which a template was made.
+fn is_proof_of(
+    alloc: Global,
+    query: &Query,
+    by: &By,
+    shard: u32,
+    id: u32,
+) -> Result<bool, AllocError> {
+    let By::Proof(_, Keeping::Stored(Admit::Added(added))) = by else {
         return Ok(false);
     };
     if *added != id {

@@ -5,7 +5,7 @@ ghost use Rattle.ba_model.specs.RuleFaults.{RuleFits};
 
 use crate::page::{VALUE_BYTES, shown};
 use ba_facts::{Branch, Fact, Lesson, Side, Term, TermAtom};
-use ba_model::{Context, List, Op, Policy, Table, Value};
+use ba_model::{Context, Duplicate, List, Op, Policy, Query, QueryDraft, Table, Value};
 use ba_sql_print::print_query;
 use std::alloc::{AllocError, Global};
 
@@ -92,6 +92,14 @@ pub fn view_name(policy: &Policy, number: usize) -> &str {
     }
 }
 
+/// The name of the cache key of a number.
+pub fn key_name(policy: &Policy, number: usize) -> &str {
+    match policy.keys.find(number) {
+        Some(key) => key.name.as_str(),
+        None => "?",
+    }
+}
+
 /// The query of the view of a number, in SQL.
 pub fn view_sql(alloc: Global, policy: &Policy, number: usize) -> Result<String, AllocError>
     requires { PolicyFits policy.now }
@@ -99,6 +107,18 @@ pub fn view_sql(alloc: Global, policy: &Policy, number: usize) -> Result<String,
     match policy.views.find(number) {
         Some(view) => print_query(alloc, &policy.schema, &policy.params, &view.query),
         None => Ok(String::new(alloc)),
+    }
+}
+
+/// A query in SQL; nothing, where it isn't one for the policy.
+pub fn query_sql(alloc: Global, policy: &Policy, query: &Query) -> Result<String, AllocError> {
+    let draft = QueryDraft {
+        parts: query.parts.copy(alloc)?,
+    };
+    let none = List::new(alloc);
+    match Query::check(&policy.schema, &policy.params, &none, draft) {
+        Ok(query) => print_query(alloc, &policy.schema, &policy.params, &query),
+        Err(_) => Ok(String::new(alloc)),
     }
 }
 

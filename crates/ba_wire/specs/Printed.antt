@@ -3,7 +3,7 @@ use Rattle.std.specs.Prelude.{◌≡◌, ℕ, List, [], ◌∷◌, ◌++◌, map
 use Rattle.std.specs.Fmt.{decimal}
 use Rattle.serde_json.specs.Data.{Data, Members, null, boolean, number, string, array, object, unsigned, no_members, member}
 use Rattle.serde_json.specs.Find.{of_integer}
-use Rattle.serde_json.specs.Read.{read}
+use Rattle.serde_json.specs.Read.{read as json_read}
 use Rattle.serde_json.specs.View.{items_of}
 use Rattle.serde_json.specs.Written.{compact_text}
 use Rattle.ba_model.specs.declared.limits.Counted.{Counted}
@@ -41,6 +41,10 @@ pub data Printed : Type 0 where
   publish : (line : ℕ) (set : List ℕ) (version : ℕ) → Printed
   answer : By → (line : ℕ) (request : List ℕ) (rows : List (List Value)) (version : ℕ) → Printed
   block : Block → (line : ℕ) (request : List ℕ) (version : ℕ) → Printed
+  -- the request may read the key: what each of the key's queries rests on
+  read : List By → (key : List ℕ) (line : ℕ) (request : List ℕ) (version : ℕ) → Printed
+  -- it may not, for the key's query of this number
+  read_block : Block → (key : List ℕ) (line query : ℕ) (request : List ℕ) (version : ℕ) → Printed
   unread : (line : ℕ) (request : List ℕ) → ReadQueryFault → (version : ℕ) → Printed
   -- the line found no memory
   memory : (line : ℕ) → Printed
@@ -51,6 +55,8 @@ printed (lines.End request line) = end request.now line
 printed (lines.Publish line set version) = publish line set.now version
 printed (lines.Answer by line request rows version) = answer by line request.now rows.now version
 printed (lines.Block blocked line request version) = block blocked line request.now version
+printed (lines.Read by key line request version) = read by.now key.now line request.now version
+printed (lines.ReadBlock blocked key line query request version) = read_block blocked key.now line query request.now version
 printed (lines.Unread line request fault version) = unread line request.now fault.now version
 printed (lines.Memory line) = memory line
 
@@ -92,6 +98,8 @@ line_name line_fault.Json = codes "json"
 line_name line_fault.Shape = codes "shape"
 line_name line_fault.Begun = codes "begun"
 line_name line_fault.Unbegun = codes "unbegun"
+line_name line_fault.Key = codes "key"
+line_name line_fault.Args = codes "args"
 line_name line_fault.Context = codes "context"
 
 -- NULL is null, a whole number that number, a text that string
@@ -125,6 +133,8 @@ reason_text (reason.Rule rule it) = codes "rule" ␣ decimal rule ␣ fault_word
 reason_text (reason.DuplicateParam name) = codes "duplicate_param" ␣ name
 reason_text (reason.DuplicateView name) = codes "duplicate_view" ␣ name
 reason_text (reason.View name it) = codes "view" ␣ name ␣ fault_words it
+reason_text (reason.DuplicateKey name) = codes "duplicate_key" ␣ name
+reason_text (reason.CacheKey name it) = codes "cache_key" ␣ name ␣ fault_words it
 reason_text reason.Header = codes "header"
 reason_text (reason.Width row) = codes "width" ␣ decimal row
 reason_text (reason.Utf8 row) = codes "utf8" ␣ decimal row
@@ -180,6 +190,19 @@ abbrev pub word_member : Option (List ℕ) → Members
 word_member None = no_members
 word_member (Some word) = member (codes "word") (string word) no_members
 
+-- what each of a key's queries rests on, in order
+abbrev pub names_json : List By → Data
+names_json bys = array (items_of (map (λ by. string (by_name by)) bys))
+
+-- the object of a read that is allowed
+unfoldable pub read_json : List By → List ℕ → ℕ → List ℕ → ℕ → Data
+read_json bys key line request version =
+    object (member (codes "by") (names_json bys)
+    (member (codes "key") (string key)
+    (member (codes "line") (count line)
+    (member (codes "read") (string request)
+    (member (codes "version") (count version) no_members)))))
+
 unfoldable pub json_of : Printed → Data
 json_of (begin request line version) =
     object (member (codes "begin") (string request)
@@ -210,6 +233,30 @@ json_of (block (blocked.Stuck clause) line request version) =
     (member (codes "line") (count line)
     (member (codes "request") (string request)
     (member (codes "version") (count version) no_members)))))
+json_of (read bys key line request version) = read_json bys key line request version
+json_of (read_block blocked.Refuted key line query request version) =
+    object (member (codes "blocked") (string (block_name blocked.Refuted))
+    (member (codes "key") (string key)
+    (member (codes "line") (count line)
+    (member (codes "query") (count query)
+    (member (codes "read") (string request)
+    (member (codes "version") (count version) no_members))))))
+json_of (read_block (blocked.Spent steps) key line query request version) =
+    object (member (codes "blocked") (string (block_name (blocked.Spent steps)))
+    (member (codes "key") (string key)
+    (member (codes "line") (count line)
+    (member (codes "query") (count query)
+    (member (codes "read") (string request)
+    (member (codes "steps") (count steps)
+    (member (codes "version") (count version) no_members)))))))
+json_of (read_block (blocked.Stuck clause) key line query request version) =
+    object (member (codes "blocked") (string (block_name (blocked.Stuck clause)))
+    (member (codes "clause") (string (clause_name clause))
+    (member (codes "key") (string key)
+    (member (codes "line") (count line)
+    (member (codes "query") (count query)
+    (member (codes "read") (string request)
+    (member (codes "version") (count version) no_members)))))))
 json_of (unread line request fault version) =
     object (member (codes "line") (count line)
     (member (codes "request") (string request)
@@ -267,4 +314,4 @@ fault_bytes f = json_line (fault_json f)
 pub record ReadsBack (bytes : List ℕ) (d : Data) : Type 0 where
   pub text : List ℕ
   pub ends : bytes ≡ text ++ 10 ∷ []
-  pub reads : read text ≡ Some d
+  pub reads : json_read text ≡ Some d

@@ -20,23 +20,24 @@ pub enum AuditReason {
     Json,
     /// Its keys or fields are those of no form.
     Shape,
-    /// It isn't of the form, the number or the name of the script's line, or its request was begun
+    /// It isn't of the form, the number, the name or the key of the script's line; a read has more or
+    /// fewer queries than its key, or is blocked at one that its key hasn't; or its request was begun
     /// with a memory line and it isn't one.
     Kind,
     /// A set is published under a number outside 1 to the number of printed publications, or one used
     /// before; a request begins over a version that is neither 0 nor a publication's; or a question
-    /// is asked over another version than its request began over.
+    /// is asked, or a key read, over another version than its request began over.
     Version,
     /// It isn't a memory line, and says otherwise than the question's text whether this has a
     /// reading, or which fault it has.
     Unread,
-    /// An answer is by cover and the question isn't covered, or the other way round.
+    /// An answer, or a read, is by cover and its query isn't covered, or the other way round.
     By,
-    /// The question is covered, and blocked.
+    /// The query is covered, and blocked.
     Covered,
     /// The rows aren't the question's answer in the request's version.
     Rows,
-    /// The views and pairings don't cover the question, or the steps are more than
+    /// The views and pairings don't cover the query, or the steps are more than
     /// [`ba_model::MAX_STEPS`], or aren't accepted one after another, or leave a branch open.
     Proof,
     /// The pair isn't a counterexample to strong compliance.
@@ -58,7 +59,7 @@ pub struct Audited {
     /// Lines of the script.
     pub lines: u64,
     /// Lines of which there is nothing to test but form, number and version: memory lines, and blocks
-    /// as spent or stuck, whose questions aren't covered.
+    /// as spent or stuck, whose queries aren't covered.
     pub unaudited: u64,
 }
 

@@ -50,6 +50,10 @@ pub enum Reason {
     DuplicateView { name: Str },
     /// The fault of this view's query.
     View { name: Str, fault: ReadQueryFault },
+    /// Two cache keys have this name.
+    DuplicateKey { name: Str },
+    /// The fault of the first of this cache key's queries that is none.
+    CacheKey { name: Str, fault: ReadQueryFault },
     /// The header isn't the column names in order.
     Header,
     /// A row has more or fewer fields than columns. Rows are numbered from 1.
@@ -96,6 +100,8 @@ fn line_name(reason: LineFault) -> &'static str
         LineFault::Shape => "shape",
         LineFault::Begun => "begun",
         LineFault::Unbegun => "unbegun",
+        LineFault::Key => "key",
+        LineFault::Args => "args",
         LineFault::Context => "context",
     }
 }
@@ -139,6 +145,8 @@ impl Reason {
             Reason::DuplicateParam { name } => format!(in alloc; "duplicate_param {name}"),
             Reason::DuplicateView { name } => format!(in alloc; "duplicate_view {name}"),
             Reason::View { name, fault } => view_text(alloc, name, fault),
+            Reason::DuplicateKey { name } => format!(in alloc; "duplicate_key {name}"),
+            Reason::CacheKey { name, fault } => cache_key_text(alloc, name, fault),
             Reason::Header => String::from_str(alloc, "header"),
             Reason::Width { row } => format!(in alloc; "width {row}"),
             Reason::Utf8 { row } => format!(in alloc; "utf8 {row}"),
@@ -192,6 +200,14 @@ fn view_text(alloc: Global, name: &Str, fault: &ReadQueryFault) -> Result<String
 {
     let words = fault_words(alloc, fault)?;
     format!(in alloc; "view {name} {words}")
+}
+
+fn cache_key_text(alloc: Global, name: &Str, fault: &ReadQueryFault) -> Result<String, AllocError>
+    ensures { IfOk result (λ text. string_bytes text
+        ≡ codes "cache_key" ␣ name.now ␣ fault_words fault.now) }
+{
+    let words = fault_words(alloc, fault)?;
+    format!(in alloc; "cache_key {name} {words}")
 }
 
 fn line_text(alloc: Global, line: u64, reason: LineFault) -> Result<String, AllocError>

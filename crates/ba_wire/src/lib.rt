@@ -8,6 +8,7 @@ pub mod laws;
 mod line;
 mod names;
 mod object;
+mod reads;
 mod rows;
 mod summary;
 mod verdict;

@@ -3,11 +3,12 @@
 
 ghost use Rattle.std.specs.Prelude.{◌≡◌, IfOk, option_copied, string_bytes};
 ghost use Rattle.ba_wire.specs.Object.{made};
-ghost use Rattle.ba_wire.specs.Printed.{ReadsBack, by_name, block_name, clause_name, unsupported_in, begin, end, publish, block, unread, memory, printed, json_of, line_bytes};
+ghost use Rattle.ba_wire.specs.Printed.{ReadsBack, by_name, block_name, clause_name, unsupported_in, begin, end, publish, block, read_block, unread, memory, printed, json_of, line_bytes};
 
 use crate::answer::answer_text;
 use crate::names::fault_name;
 use crate::object::Object;
+use crate::reads::read_text;
 use ba_model::{List, Row, Str};
 use ba_refute::Clause;
 use ba_sql_query::ReadQueryFault;
@@ -71,6 +72,23 @@ pub enum Line<'a> {
         request: &'a Str,
         version: u32,
     },
+    /// The request may read the cache key: what each of the key's queries rests on, in order.
+    Read {
+        by: &'a List<By>,
+        key: &'a Str,
+        line: u64,
+        read: &'a Str,
+        version: u32,
+    },
+    /// The request may not read the cache key, for the key's query of this number, from 0.
+    ReadBlock {
+        blocked: Block,
+        key: &'a Str,
+        line: u64,
+        query: u64,
+        read: &'a Str,
+        version: u32,
+    },
     Unread {
         line: u64,
         request: &'a Str,
@@ -84,7 +102,7 @@ pub enum Line<'a> {
 }
 
 impl By {
-    fn name(self) -> &'static str
+    pub(crate) fn name(self) -> &'static str
         ensures { result.now ≡ by_name self }
     {
         match self {
@@ -185,6 +203,43 @@ fn block_object(
     }
 }
 
+fn read_block_object(
+    alloc: Global,
+    blocked: Block,
+    key: &Str,
+    line: u64,
+    query: u64,
+    request: &Str,
+    version: u32,
+) -> Result<Object, AllocError>
+    ensures { IfOk result (λ it. made it
+        ≡ json_of (read_block blocked key.now line query request.now version)) }
+{
+    let object = Object::new(alloc).with_text("blocked", blocked.name())?;
+    match blocked {
+        Block::Refuted => object
+            .with_text("key", key.as_str())?
+            .with_count("line", line)?
+            .with_count("query", query)?
+            .with_text("read", request.as_str())?
+            .with_count("version", version as u64),
+        Block::Spent { steps } => object
+            .with_text("key", key.as_str())?
+            .with_count("line", line)?
+            .with_count("query", query)?
+            .with_text("read", request.as_str())?
+            .with_count("steps", steps)?
+            .with_count("version", version as u64),
+        Block::Stuck { clause } => object
+            .with_text("clause", clause_name(clause))?
+            .with_text("key", key.as_str())?
+            .with_count("line", line)?
+            .with_count("query", query)?
+            .with_text("read", request.as_str())?
+            .with_count("version", version as u64),
+    }
+}
+
 fn unread_object(
     alloc: Global,
     line: u64,
@@ -244,6 +299,21 @@ pub fn line_text(alloc: Global, line: &Line) -> Result<String, AllocError>
             request,
             version,
         } => block_object(alloc, *blocked, *line, request, *version)?.line(),
+        Line::Read {
+            by,
+            key,
+            line,
+            read,
+            version,
+        } => read_text(alloc, by.as_slice(), key, *line, read, *version),
+        Line::ReadBlock {
+            blocked,
+            key,
+            line,
+            query,
+            read,
+            version,
+        } => { read_block_object(alloc, *blocked, key, *line, *query, read, *version)?.line() }
         Line::Unread {
             line,
             request,

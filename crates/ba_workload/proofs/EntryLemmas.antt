@@ -9,6 +9,7 @@ use Rattle.std.proofs.lemmas.Slice.Eq.{bytes_eq-Decides}
 use Rattle.ba_model.specs.Readings.{◌>>=◌, widened}
 use Rattle.ba_model.specs.Limits.{most_asks, most_requests}
 use Rattle.ba_model.specs.declared.policy.Context.{Context}
+use Rattle.ba_model.specs.declared.policy.CacheKey.{CacheKey}
 use Rattle.ba_model.specs.declared.policy.Parameter.{Parameter}
 use Rattle.ba_script.proofs.SaysLemmas.{script_of_entries}
 use Rattle.ba_script.proofs.TrackingLemmas.{begun-push}
@@ -31,13 +32,13 @@ use Rattle.ba_workload.specs.Script.{ScriptReadsBack, context_of, entries_of, my
 
 -- ---- one line
 
-module _ (params : List Parameter) where
+module _ (params : List Parameter) (keys : List CacheKey) where
   said : (before : List ScriptEntry) (bytes : List ℕ) (lines : List (List ℕ)) (l : ScriptLine) (e : ScriptEntry) → script_line_of bytes ≡ Ok l
-      → entry_of params before (length before + 1) l ≡ Ok e → entries_from params before (bytes ∷ lines) ≡ entries_from params (before ++ e ∷ []) lines
+      → entry_of params keys before (length before + 1) l ≡ Ok e → entries_from params keys before (bytes ∷ lines) ≡ entries_from params keys (before ++ e ∷ []) lines
   unfolding entry_at
   said before bytes lines l e reads says =
-      ap (λ r. widened (BadLine (length before + 1)) r >>= entry_of params before (length before + 1) >>= λ it. entries_from params (before ++ it ∷ []) lines) reads
-      ∙ ap (λ r. r >>= λ it. entries_from params (before ++ it ∷ []) lines) says
+      ap (λ r. widened (BadLine (length before + 1)) r >>= entry_of params keys before (length before + 1) >>= λ it. entries_from params keys (before ++ it ∷ []) lines) reads
+      ∙ ap (λ r. r >>= λ it. entries_from params keys (before ++ it ∷ []) lines) says
 
 -- ---- what is open
 
@@ -99,17 +100,17 @@ record AreSmall (k user event : ℕ) : Type 0 where
   event_small : event ≤ events
 
 begin_says : (before : List ScriptEntry) (k user n : ℕ) (name : List ℕ) → IsQuiet before k → k < most_requests
-    → entry_of (my_user ∷ []) before n (line.Begin name (user_member user ∷ [])) ≡ Ok (entry.Begin k name (context_of user))
+    → entry_of (my_user ∷ []) [] before n (line.Begin name (user_member user ∷ [])) ≡ Ok (entry.Begin k name (context_of user))
 unfolding begin_of contexts.context_of contexts.is_declared contexts.is_called
 begin_says before k user n name h few = rw (h.quiet name, h.count, lt-ltb k most_requests few) refl
 
 ask_says : (before : List ScriptEntry) (k asks n : ℕ) (name query : List ℕ) → open_after before name ≡ Some (record { request = k; asks = asks }) → asks < most_asks
-    → entry_of (my_user ∷ []) before n (line.Ask name query) ≡ Ok (entry.Ask k name query)
+    → entry_of (my_user ∷ []) [] before n (line.Ask name query) ≡ Ok (entry.Ask k name query)
 unfolding ask_of
 ask_says before k asks n name query is few = rw (is, lt-ltb asks most_asks few) refl
 
 end_says : (before : List ScriptEntry) (k asks n : ℕ) (name : List ℕ) → open_after before name ≡ Some (record { request = k; asks = asks })
-    → entry_of (my_user ∷ []) before n (line.End name) ≡ Ok (entry.End k name)
+    → entry_of (my_user ∷ []) [] before n (line.End name) ≡ Ok (entry.End k name)
 unfolding end_of
 end_says before k asks n name is = rw is refl
 
@@ -123,7 +124,7 @@ other_small : (e : ℕ) → other_event e ≤ events
 other_small e = let low = mod_below e events (omega arith) in omega (arith, low)
 
 request_said : (before : List ScriptEntry) (k user event : ℕ) (rest : List (List ℕ)) → IsQuiet before k → AreSmall k user event
-    → entries_from (my_user ∷ []) before (request_lines (name_of k) user event ++ rest) ≡ entries_from (my_user ∷ []) (before ++ request_entries k user event) rest
+    → entries_from (my_user ∷ []) [] before (request_lines (name_of k) user event ++ rest) ≡ entries_from (my_user ∷ []) [] (before ++ request_entries k user event) rest
 request_said before k user event rest h small =
     let name = name_of k in
     let number : k < 2 ^ 64 = wide_in k (fits_in k 8192 (omega (arith, small.number)) (omega arith)) in
@@ -148,16 +149,16 @@ request_said before k user event rest h small =
     let o2 = asks_on b1 k 0 name asks o1 in
     let o3 = asks_on b2 k 1 name title o2 in
     let o4 = asks_on b3 k 2 name hidden o3 in
-    said (my_user ∷ []) before (begin_line name user) (ask_line name asks ∷ ask_line name title ∷ ask_line name hidden ∷ end_line name ∷ rest) (line.Begin name (user_member user ∷ [])) e0
+    said (my_user ∷ []) [] before (begin_line name user) (ask_line name asks ∷ ask_line name title ∷ ask_line name hidden ∷ end_line name ∷ rest) (line.Begin name (user_member user ∷ [])) e0
     (begin_is name user plain short who) (begin_says before k user (length before + 1) name h small.number)
-    ∙ said (my_user ∷ []) b1 (ask_line name asks) (ask_line name title ∷ ask_line name hidden ∷ end_line name ∷ rest) (line.Ask name asks) e1
+    ∙ said (my_user ∷ []) [] b1 (ask_line name asks) (ask_line name title ∷ ask_line name hidden ∷ end_line name ∷ rest) (line.Ask name asks) e1
     (ask_is name asks plain short (attendance_plain user event (wide_in user who) what)) (ask_says b1 k 0 (length b1 + 1) name asks o1 (omega arith))
-    ∙ said (my_user ∷ []) b2 (ask_line name title) (ask_line name hidden ∷ end_line name ∷ rest) (line.Ask name title) e2
+    ∙ said (my_user ∷ []) [] b2 (ask_line name title) (ask_line name hidden ∷ end_line name ∷ rest) (line.Ask name title) e2
     (ask_is name title plain short (title_plain event what)) (ask_says b2 k 1 (length b2 + 1) name title o2 (omega arith))
-    ∙ said (my_user ∷ []) b3 (ask_line name hidden) (end_line name ∷ rest) (line.Ask name hidden) e3
+    ∙ said (my_user ∷ []) [] b3 (ask_line name hidden) (end_line name ∷ rest) (line.Ask name hidden) e3
     (ask_is name hidden plain short (title_plain (other_event event) other)) (ask_says b3 k 2 (length b3 + 1) name hidden o3 (omega arith))
-    ∙ said (my_user ∷ []) b4 (end_line name) rest (line.End name) e4 (end_is name plain short) (end_says b4 k 3 (length b4 + 1) name o4)
-    ∙ ap (λ all. entries_from (my_user ∷ []) all rest) (put_five before e0 e1 e2 e3 e4)
+    ∙ said (my_user ∷ []) [] b4 (end_line name) rest (line.End name) e4 (end_is name plain short) (end_says b4 k 3 (length b4 + 1) name o4)
+    ∙ ap (λ all. entries_from (my_user ∷ []) [] all rest) (put_five before e0 e1 e2 e3 e4)
 
 -- ---- all requests
 
@@ -176,7 +177,7 @@ small_at seed k number = record {
 }
 
 requests_said : (seed k n : ℕ) (before : List ScriptEntry) → IsQuiet before k → k + n ≤ most_requests
-    → entries_from (my_user ∷ []) before (lines_from seed k n) ≡ Ok (before ++ entries_at seed k n)
+    → entries_from (my_user ∷ []) [] before (lines_from seed k n) ≡ Ok (before ++ entries_at seed k n)
 requests_said seed k zero before h few = ap Ok (sym (append-nil before))
 requests_said seed k (suc n) before h few =
     request_said before k (user_of seed k) (event_at seed k) (lines_from seed (k + 1) n) h (small_at seed k (omega (arith, few)))
@@ -220,5 +221,5 @@ pub reads_back : ScriptReadsBack
 unfolding texts_of
 reads_back seed requests few =
     let lines = text_lines seed 0 requests (omega (arith, few)) in
-    script_of_entries (my_user ∷ []) (script_text seed requests) (entries_at seed 0 requests) (omega (arith, few, ap length lines, length-lines seed 0 requests))
-    (ap (entries_from (my_user ∷ []) []) lines ∙ requests_said seed 0 requests [] (record { quiet = λ q. refl; count = refl }) (omega (arith, few)))
+    script_of_entries (my_user ∷ []) [] (script_text seed requests) (entries_at seed 0 requests) (omega (arith, few, ap length lines, length-lines seed 0 requests))
+    (ap (entries_from (my_user ∷ []) [] []) lines ∙ requests_said seed 0 requests [] (record { quiet = λ q. refl; count = refl }) (omega (arith, few)))

@@ -36,6 +36,6 @@ entries_of seed k = request_entries k (user_of seed k) (event_at seed k)
 abbrev pub script : ℕ → ℕ → Script
 script seed requests = record { entries = flat_map (entries_of seed) (range_with_len 0 requests) }
 
--- for a policy with this parameter the text is read as the script
+-- for a policy with this parameter and no cache key the text is read as the script
 abbrev pub ScriptReadsBack : Type 0
-ScriptReadsBack = (seed requests : ℕ) → requests ≤ most_requests → script_of (my_user ∷ []) (script_text seed requests) ≡ Ok (script seed requests)
+ScriptReadsBack = (seed requests : ℕ) → requests ≤ most_requests → script_of (my_user ∷ []) [] (script_text seed requests) ≡ Ok (script seed requests)

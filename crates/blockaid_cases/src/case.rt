@@ -29,7 +29,18 @@ fn without_way(line: &[u8]) -> &[u8] {
             return rest;
         }
     }
-    line
+    without_ways(line)
+}
+
+// A line without the ways in which the queries of its read would be answered.
+fn without_ways(line: &[u8]) -> &[u8] {
+    let Some(ways) = line.strip_prefix("{\"by\":[".as_bytes()) else {
+        return line;
+    };
+    match ways.iter().position(|byte| *byte == b']') {
+        Some(end) => ways.get(end..).unwrap_or(line),
+        None => line,
+    }
 }
 
 impl End {

@@ -62,6 +62,7 @@ fn text_of(rt: &impl Handle, reply: &CoreReply) -> String {
         CoreReply::Asked(Asked::Answer(rows)) => {
             format!(in rt.alloc(); "rows{}", values(rt, rows).as_str())
         }
+        CoreReply::Read(allowed) => format!(in rt.alloc(); "read {allowed}"),
         CoreReply::Ended => format!(in rt.alloc(); "ended"),
         CoreReply::Refused(fault) => format!(in rt.alloc(); "{fault:?}"),
     };

@@ -106,6 +106,10 @@ pub(super) fn write_policy_fault(alloc: Global, fault: PolicyFault, told: &mut S
             write_reason(alloc, Reason::DuplicateView { name }, told)
         }
         PolicyFault::View(name, fault) => write_reason(alloc, Reason::View { name, fault }, told),
+        PolicyFault::DuplicateKey(name) => write_reason(alloc, Reason::DuplicateKey { name }, told),
+        PolicyFault::Key(name, fault) => {
+            write_reason(alloc, Reason::CacheKey { name, fault }, told)
+        }
         PolicyFault::TooMany { what, limit } => write_limit(alloc, what, limit, told),
     }
 }

@@ -44,6 +44,10 @@ impl Reading for Lines {
                 write_members(told, context.as_slice())
             }
             Ok(ScriptLine::Ask { ask, query }) => write!(told, "ask {ask}: {query}"),
+            Ok(ScriptLine::Read { read, key, args }) => {
+                write!(told, "read {read} {key}")?;
+                write_members(told, args.as_slice())
+            }
             Ok(ScriptLine::End { end }) => write!(told, "end {end}"),
             Ok(ScriptLine::Publish { publish }) => write!(told, "publish {publish}"),
             Err(Failure::NoMemory) => Err(AllocError),
@@ -58,6 +62,14 @@ const LINES: &str = r#"{"begin":"r1","context":{"MyUId":2}} => begin r1 MyUId=2
  { "context" : {} , "begin" : "r 1" } ^ => begin r 1
 {"ask":"r1","query":"SELECT Name FROM Users"} => ask r1: SELECT Name FROM Users
 {"query":"'\n'","ask":"a\u0022b\\"} => ask a"b\: '~'
+{"args":{"e":5,"a":"x"},"key":"title","read":"r1"} => read r1 title a=x e=5
+ { "read" : "r 1" , "args" : {} , "key" : "k" } => read r 1 k
+{"args":{"e":null},"key":"k","read":"r1"} => read r1 k e?
+{"args":[],"key":"k","read":"r1"}
+{"args":{},"key":1,"read":"r1"}
+{"args":{},"key":"k","read":""}
+{"args":{},"read":"r1"}
+{"args":{},"key":"k","read":"r1","version":0}
 {"end":"r1"} => end r1
 {"\u0065nd":"\u00e9"} => end é
 {"end":1,"end":"b"} => end b
@@ -121,6 +133,16 @@ fn write_entry(told: &mut String, entry: &ScriptEntry) -> Told {
             name,
             query,
         } => write!(told, "ask {request} {name} {query};"),
+        ScriptEntry::Read {
+            request,
+            name,
+            key,
+            arguments,
+            questions,
+        } => {
+            write!(told, "read {request} {name} {key} {questions}")?;
+            write_context(told, arguments)
+        }
         ScriptEntry::End { request, name } => write!(told, "end {request} {name};"),
         ScriptEntry::Publish { number, set } => write!(told, "publish {number} {set};"),
     }
@@ -168,7 +190,7 @@ impl Reading for Scripts {
         let text = with_lines(alloc, text)?;
         let bytes = bytes_of(alloc, text.as_str())?;
         let policy = policy_of(alloc, "", "PARAM Name TEXT; PARAM MyUId INT;")?;
-        match read_script(alloc, &policy.params, bytes.as_slice()) {
+        match read_script(alloc, &policy.params, &policy.keys, bytes.as_slice()) {
             Ok(script) => write_entries(told, script.entries.as_slice()),
             Err(Failure::NoMemory) => Err(AllocError),
             Err(Failure::Fault(fault)) => write_script_fault(alloc, fault, told),

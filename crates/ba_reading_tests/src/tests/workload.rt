@@ -90,7 +90,12 @@ fn policy_of(alloc: Global, files: &[Held]) -> Result<Policy, AllocError> {
 
 fn write_read(alloc: Global, files: &[Held], told: &mut String) -> Told {
     let policy = policy_of(alloc, files)?;
-    match read_script(alloc, &policy.params, bytes_of(files, SCRIPT_FILE)) {
+    match read_script(
+        alloc,
+        &policy.params,
+        &policy.keys,
+        bytes_of(files, SCRIPT_FILE),
+    ) {
         Ok(script) => write!(
             told,
             "{} tables, {} parameter, {} views, {} entries",

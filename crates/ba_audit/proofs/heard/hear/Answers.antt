@@ -11,7 +11,7 @@ returns-then-not-is_kind-clause-heard c =
     let line = c.args.line.now in
     let held = known_in c.args.told.now (request_in e) in
     first_kind (basis_at c.args.against.now) c.args.number c.args.told.now.used.items held e line
-    (sym (ap (λ h. is_kind e c.args.number h line) c.known-held.ensures) ∙ sym c.is_kind.ensures ∙ c.if-not-is_kind.true)
+    (sym (ap (λ h. is_kind c.args.against.now.policy.now e c.args.number h line) c.known-held.ensures) ∙ sym c.is_kind.ensures ∙ c.if-not-is_kind.true)
 
 pub returns-then-not-is_version-clause-heard : goal.returns-then-not-is_version-clause-heard
 returns-then-not-is_version-clause-heard c =
@@ -21,5 +21,5 @@ returns-then-not-is_version-clause-heard c =
     let basis = basis_at c.args.against.now in
     let held = known_in c.args.told.now (request_in e) in
     first_version basis c.args.number used held e line
-    (sym (ap (λ h. is_kind e c.args.number h line) c.known-held.ensures) ∙ sym c.is_kind.ensures ∙ c.if-not-is_kind.false)
+    (sym (ap (λ h. is_kind c.args.against.now.policy.now e c.args.number h line) c.known-held.ensures) ∙ sym c.is_kind.ensures ∙ c.if-not-is_kind.false)
     (sym (ap (λ h. is_version basis used h e line) c.known-held.ensures) ∙ sym (ap (λ u. is_version basis u (option_copied c.known-held.result) e line) c.as_slice.ensures.value) ∙ sym c.is_version.ensures ∙ c.if-not-is_version.true)

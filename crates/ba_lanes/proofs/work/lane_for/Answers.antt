@@ -1,9 +1,13 @@
 use Rattle.std.proofs.Common.{◌+◌}
 use Rattle.ba_lanes.proofs.HistoryLemmas.{can_split, dealt_more, see_loads}
 use Rattle.ba_lanes.proofs.MergeLemmas.{lane_low}
+use Rattle.ba_lanes.proofs.ShareLemmas.{few_asks}
 use Rattle.ba_lanes.proofs.WorkLemmas.{when_ok}
 use Rattle.ba_lanes.specs.Serving.{HaveDealt, SeeLoads}
 use Rattle.ba_lanes.proofs.work.lane_for.Goals as goal
+
+pub of-share-requires-clause-asks : goal.of-share-requires-clause-asks
+of-share-requires-clause-asks c = few_asks c.args.input.now c.requires.input
 
 pub split-requires-clause-can : goal.split-requires-clause-can
 split-requires-clause-can c =

@@ -7,6 +7,7 @@ pub returns : goal.returns
 returns c = journal_is_a_run (record {
   begins = c.begin_agrees.ensures;
   asks = c.ask_agrees.ensures;
+  read_agrees = c.read_agrees.ensures;
   ends = c.end_agrees.ensures;
   found = c.found_is_admitted.ensures;
   complies = answers_comply (record {
@@ -20,4 +21,5 @@ returns c = journal_is_a_run (record {
     complies = c.strong_complies.ensures;
   });
   reads = reading_is_checked;
+  strong = c.strong_complies.ensures;
 })

@@ -3,6 +3,6 @@ use Rattle.ba_script.proofs.laws.script_is_exact.Goals as goal
 
 pub returns : goal.returns
 returns c = record {
-  reads = λ params bytes s. (script_reads params bytes s, reads_script params bytes s);
-  refuses = λ params bytes f. (script_refuses params bytes f, refuses_script params bytes f);
+  reads = λ params keys bytes s. (script_reads params keys bytes s, reads_script params keys bytes s);
+  refuses = λ params keys bytes f. (script_refuses params keys bytes f, refuses_script params keys bytes f);
 }

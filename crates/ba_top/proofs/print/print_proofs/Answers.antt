@@ -5,10 +5,15 @@ use Rattle.ba_plan.proofs.SendingLines.{lines_no_memory}
 use Rattle.ba_plan.specs.Sent.{SentLines}
 use Rattle.ba_tables.proofs.IndexLemmas.{take_one}
 use Rattle.ba_top.specs.Evidence.{AreAfter}
+use Rattle.ba_top.specs.Text.{ReadsKey}
 use Rattle.ba_top.specs.Told.{told_after, told_end}
+use Rattle.ba_top.proofs.HistoryLemmas.{all_at}
 use Rattle.ba_top.proofs.PrintLemmas.{line_at, said_at, told_err, told_then}
 use Rattle.ba_top.proofs.ProofsLemmas.{close_next, written_last, written_next}
 use Rattle.ba_top.proofs.print.print_proofs.Goals as goal
+
+pub print_evident-requires-clause-key : goal.print_evident-requires-clause-key
+print_evident-requires-clause-key g c = all_at (ReadsKey c.args.input.now.policy) c.args.journal.now.entries c.loop-place.place c.get-entry.result.now c.requires.keys c.get-entry.ensures
 
 pub loop-place-init : goal.loop-place-init
 loop-place-init g c = (c.new-requests.ensures c.args.input.now, (λ t r h. h), (λ h. h), (λ h. h))

@@ -1,5 +1,5 @@
 use Rattle.std.proofs.Common.{refl, subst, sym}
-use Rattle.ba_lanes.proofs.LaneLemmas.{ask_named, begin_named, publish_named, takes_end}
+use Rattle.ba_lanes.proofs.LaneLemmas.{ask_named, begin_named, publish_named, read_named, takes_end}
 use Rattle.ba_lanes.specs.Serving.{CanTake, Takes}
 use Rattle.ba_lanes.proofs.lane.Lane.line.Goals as goal
 
@@ -16,6 +16,13 @@ ask-requires-clause-can g c name =
     let service = c.args.service.now in
     let it = c.in-Ask in
     ask_named input service c.args.self.now it.request it.query it.name name (subst (λ l. CanTake input service l c.args.self.now) it.is c.requires.can)
+
+pub read-requires-clause-can : goal.read-requires-clause-can
+read-requires-clause-can g c name =
+    let input = c.args.input.now in
+    let service = c.args.service.now in
+    let it = c.in-Read in
+    (it.questions, read_named input service c.args.self.now it.request it.key it.arguments it.questions it.name name (subst (λ l. CanTake input service l c.args.self.now) it.is c.requires.can))
 
 pub publish-requires-clause-can : goal.publish-requires-clause-can
 publish-requires-clause-can g c name =

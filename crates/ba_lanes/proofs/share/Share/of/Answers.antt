@@ -1,7 +1,8 @@
 use Rattle.std.proofs.Common.{◌∙◌, ap, arith, length, subst, sym, take}
 use Rattle.std.proofs.lemmas.List.{take_all}
 use Rattle.ba_lanes.proofs.LineLemmas.{other_taken, own_taken, taken_short}
-use Rattle.ba_lanes.proofs.ShareLemmas.{share_more, share_small}
+use Rattle.std.specs.Prelude.{All}
+use Rattle.ba_lanes.proofs.ShareLemmas.{AsksFew, few_before, few_here, few_of_lane, share_more, share_small}
 use Rattle.ba_lanes.specs.Lanes.{lines_of}
 use Rattle.ba_lanes.specs.Legal.{lane_of}
 use Rattle.ba_lanes.specs.Serving.{IsShare}
@@ -17,8 +18,18 @@ add-requires-clause-lines c =
     let so_far = c.loop-said.invariant.lines_are in
     omega (arith, short, few, long, so_far)
 
+pub add-requires-clause-few : goal.add-requires-clause-few
+add-requires-clause-few c =
+    let all = subst (All AsksFew) (sym c.as_slice-said-items.ensures) c.requires.asks in
+    few_here c.as_slice-said-items.result.now c.loop-said.said-index c.said-item.result c.loop-said-test.true c.said-item.is all
+
 pub add-requires-clause-calls : goal.add-requires-clause-calls
-add-requires-clause-calls c = share_small _ c.loop-said.share c.loop-said.invariant
+add-requires-clause-calls c =
+    let items = c.as_slice-said-items.result.now in
+    let first = take c.loop-said.said-index items in
+    let all = subst (All AsksFew) (sym c.as_slice-said-items.ensures) c.requires.asks in
+    share_small (lines_of (lane_of c.args.workers) c.args.number first) c.loop-said.share c.loop-said.invariant
+    (few_of_lane (lane_of c.args.workers) c.args.number first (few_before items c.loop-said.said-index all))
 
 pub loop-said-preserved : goal.loop-said-preserved
 loop-said-preserved c =

@@ -1,6 +1,7 @@
 use Rattle.std.proofs.Common.{◌∙◌, ◌++◌, ◌∷◌, [], ap, arith, length, subst, sym, take}
 use Rattle.std.proofs.lemmas.List.{length-take, take_all, take_more}
-use Rattle.ba_lanes.proofs.ShareLemmas.{share_more, share_small}
+use Rattle.std.specs.Prelude.{All}
+use Rattle.ba_lanes.proofs.ShareLemmas.{AsksFew, few_before, few_here, share_more, share_small}
 use Rattle.ba_lanes.specs.Serving.{IsShare}
 use Rattle.ba_lanes.proofs.share.Share.whole.Goals as goal
 
@@ -9,13 +10,20 @@ add-requires-clause-lines c =
     let items = c.as_slice-said-items.result.now in
     let short = length-take c.loop-said.said-index items in
     let below = c.loop-said-test.true in
-    let few = c.requires in
+    let few = c.requires.few in
     let long = ap length c.as_slice-said-items.ensures in
     let so_far = c.loop-said.invariant.lines_are in
     omega (arith, short, below, few, long, so_far)
 
+pub add-requires-clause-few : goal.add-requires-clause-few
+add-requires-clause-few c =
+    let all = subst (All AsksFew) (sym c.as_slice-said-items.ensures) c.requires.asks in
+    few_here c.as_slice-said-items.result.now c.loop-said.said-index c.said-item.result c.loop-said-test.true c.said-item.is all
+
 pub add-requires-clause-calls : goal.add-requires-clause-calls
-add-requires-clause-calls c = share_small _ c.loop-said.share c.loop-said.invariant
+add-requires-clause-calls c =
+    let all = subst (All AsksFew) (sym c.as_slice-said-items.ensures) c.requires.asks in
+    share_small (take c.loop-said.said-index c.as_slice-said-items.result.now) c.loop-said.share c.loop-said.invariant (few_before c.as_slice-said-items.result.now c.loop-said.said-index all)
 
 pub loop-said-preserved : goal.loop-said-preserved
 loop-said-preserved c =

@@ -1,5 +1,0 @@
-use Rattle.ba_policy.proofs.LoopLemmas.{Adding}
-use Rattle.ba_policy.proofs.draft.draft_of.Given as goal
-
-abbrev pub invariant-loop-statement : goal.invariant-loop-statement
-invariant-loop-statement l = Adding l.schema l.draft l.statements l.statement-index
