@@ -1,44 +1,38 @@
--- The lines of a script say its entries, one request after the other.
-use Rattle.std.proofs.Common.{◌≡◌, ◌∙◌, ℕ, zero, suc, ◌+◌, ◌*◌, ◌/◌, ◌^◌, ◌<◌, ◌≤◌, Bool, true, false, cond, List, [], ◌∷◌, ◌++◌, length, Some, None, Ok, refl, sym, ap, arith, append_assoc}
-use Rattle.std.specs.List.{AllByRecursion, flat_map, range_with_len}
-use Rattle.std.specs.Str.{bytes_eq}
+-- The script can be spelled, so that its text reads back.
+use Rattle.std.proofs.Common.{◌≡◌, ◌∙◌, ℕ, zero, suc, pos, ◌+◌, ◌*◌, ◌/◌, ◌^◌, ◌<◌, ◌≤◌, Bool, true, false, cond, List, [], ◌∷◌, ◌++◌, length, Some, None, refl, sym, ap, subst, arith, codes, decimal, append_assoc, length-append}
+use Rattle.std.specs.List.{AllByRecursion}
+use Rattle.std.specs.Str.{IsUtf8, bytes_eq}
 use Rattle.std.proofs.lemmas.Bool.{lt-ltb}
-use Rattle.std.proofs.lemmas.List.{append-nil}
+use Rattle.std.proofs.lemmas.Fmt.{IsAscii-decimal, length-decimal-le}
+use Rattle.std.proofs.lemmas.List.Elements.{All-from_recursion}
 use Rattle.std.proofs.lemmas.Nat.{mod_below}
 use Rattle.std.proofs.lemmas.Slice.Eq.{bytes_eq-Decides}
-use Rattle.ba_model.specs.Readings.{◌>>=◌, widened}
+use Rattle.std.proofs.lemmas.Str.{IsUtf8-append, IsUtf8-from_ascii}
+use Rattle.json.proofs.Printed.Utf8.{IsUtf8-are_ascii}
 use Rattle.ba_model.specs.Limits.{most_asks, most_requests}
 use Rattle.ba_model.specs.declared.policy.Context.{Context}
-use Rattle.ba_model.specs.declared.policy.CacheKey.{CacheKey}
-use Rattle.ba_model.specs.declared.policy.Parameter.{Parameter}
-use Rattle.ba_script.proofs.SaysLemmas.{script_of_entries}
+use Rattle.ba_script.proofs.MeaningLemmas.{context_is}
+use Rattle.ba_script.proofs.OpenLemmas.{is_free, is_open}
 use Rattle.ba_script.proofs.TrackingLemmas.{begun-push}
 use Rattle.ba_script.specs.Contexts as contexts
-use Rattle.ba_script.specs.Lines.{script_lines}
-use Rattle.ba_script.specs.Reading.{ask_of, begin_of, begun, end_of, entries_from, entry_at, entry_of, open_after, open_by, open_from}
-use Rattle.ba_script.specs.Script.{script_line_of}
+use Rattle.ba_script.specs.Reading.{begun, open_after, open_by, open_from}
+use Rattle.ba_script.specs.Script.{IsName}
+use Rattle.ba_script.specs.Scripts.{Says, asks, begins, ends}
 use Rattle.ba_script.specs.declared.entry.ScriptEntry.{ScriptEntry}
 use Rattle.ba_script.specs.declared.entry.ScriptEntry.TheVariants as entry
-use Rattle.ba_script.specs.declared.fault.ScriptFault.TheVariants.{BadLine}
-use Rattle.ba_script.specs.declared.line.ScriptLine.{ScriptLine}
+use Rattle.ba_script.specs.declared.line.Given.TheVariants.{Int}
+use Rattle.ba_script.specs.declared.line.Member.{Member}
 use Rattle.ba_script.specs.declared.line.ScriptLine.TheVariants as line
-use Rattle.ba_workload.proofs.ByteLemmas.{ArePrinted, lines_first}
-use Rattle.ba_workload.proofs.JsonLemmas.{ask_is, ask_printed, attendance_plain, begin_is, begin_printed, end_is, end_printed, name_plain, name_short, title_plain, user_member}
+use Rattle.ba_script_print.proofs.HeldLemmas.{text_reads_back}
+use Rattle.ba_script_print.specs.ReadBack.{AreSaid, CanBeSpelled, EntryIsHeld, IsHeld, IsSaid, KeyIsHeld, ParameterIsHeld, ValueIsHeld}
+use Rattle.ba_workload.proofs.TableLemmas.{append_all}
 use Rattle.ba_workload.specs.Chosen.{attended, event_at, events, other_event, user_of, users}
 use Rattle.ba_workload.specs.Draws.{draw, drawn, state_after}
-use Rattle.ba_workload.specs.Lines.{texts_of}
-use Rattle.ba_workload.specs.Requests.{attendance_query, ask_line, begin_line, end_line, name_of, request_lines, request_of, request_text, script_text, title_query}
-use Rattle.ba_workload.specs.Script.{ScriptReadsBack, context_of, entries_of, my_user, request_entries}
-
--- ---- one line
-
-module _ (params : List Parameter) (keys : List CacheKey) where
-  said : (before : List ScriptEntry) (bytes : List ℕ) (lines : List (List ℕ)) (l : ScriptLine) (e : ScriptEntry) → script_line_of bytes ≡ Ok l
-      → entry_of params keys before (length before + 1) l ≡ Ok e → entries_from params keys before (bytes ∷ lines) ≡ entries_from params keys (before ++ e ∷ []) lines
-  unfolding entry_at
-  said before bytes lines l e reads says =
-      ap (λ r. widened (BadLine (length before + 1)) r >>= entry_of params keys before (length before + 1) >>= λ it. entries_from params keys (before ++ it ∷ []) lines) reads
-      ∙ ap (λ r. r >>= λ it. entries_from params keys (before ++ it ∷ []) lines) says
+use Rattle.ba_workload.specs.Files.{workload_text}
+use Rattle.ba_workload.specs.Lists.{all_of}
+use Rattle.ba_workload.specs.Reads.{ScriptReadsBack}
+use Rattle.ba_workload.specs.Script.{attendance_query, context_of, entries_of, name_of, request_entries, script, title_query}
+use Rattle.ba_workload.specs.Standard.{params}
 
 -- ---- what is open
 
@@ -99,20 +93,99 @@ record AreSmall (k user event : ℕ) : Type 0 where
   user_small : user ≤ users
   event_small : event ≤ events
 
-begin_says : (before : List ScriptEntry) (k user n : ℕ) (name : List ℕ) → IsQuiet before k → k < most_requests
-    → entry_of (my_user ∷ []) [] before n (line.Begin name (user_member user ∷ [])) ≡ Ok (entry.Begin k name (context_of user))
-unfolding begin_of contexts.context_of contexts.is_declared contexts.is_called
-begin_says before k user n name h few = rw (h.quiet name, h.count, lt-ltb k most_requests few) refl
+-- a name has a letter and at most twenty digits
+name_short : (k : ℕ) → k < 2 ^ 64 → IsName (name_of k)
+unfolding name_of
+name_short k fits =
+    let digits = length-decimal-le 20 k (omega arith) (omega (arith, fits)) fits in
+    record { least = omega (arith, length-append (codes "q") (decimal k)); most = omega (arith, digits, length-append (codes "q") (decimal k)) }
 
-ask_says : (before : List ScriptEntry) (k asks n : ℕ) (name query : List ℕ) → open_after before name ≡ Some (record { request = k; asks = asks }) → asks < most_asks
-    → entry_of (my_user ∷ []) [] before n (line.Ask name query) ≡ Ok (entry.Ask k name query)
-unfolding ask_of
-ask_says before k asks n name query is few = rw (is, lt-ltb asks most_asks few) refl
+user_member : ℕ → Member
+user_member u = record { name = codes "MyUId"; value = Int (pos u) }
 
-end_says : (before : List ScriptEntry) (k asks n : ℕ) (name : List ℕ) → open_after before name ≡ Some (record { request = k; asks = asks })
-    → entry_of (my_user ∷ []) [] before n (line.End name) ≡ Ok (entry.End k name)
-unfolding end_of
-end_says before k asks n name is = rw is refl
+gives_user : (u : ℕ) → contexts.IsContext params (user_member u ∷ []) (context_of u)
+unfolding user_member contexts.context_of contexts.is_declared contexts.is_called
+gives_user u = context_is params (user_member u ∷ []) (context_of u) refl
+
+begin_said : (before : List ScriptEntry) (k user : ℕ) → IsQuiet before k → k < most_requests → IsName (name_of k) → IsSaid params [] before (entry.Begin k (name_of k) (context_of user))
+begin_said before k user h few short =
+    let name = name_of k in
+    let fewer : begun before < most_requests = subst (λ n. n < most_requests) (sym h.count) few in
+    record {
+      line = line.Begin name (user_member user ∷ []);
+      names = short;
+      says = subst (λ n. Says params [] before (line.Begin name (user_member user ∷ [])) (entry.Begin n name (context_of user))) h.count (begins (is_free before name (h.quiet name)) (gives_user user) fewer);
+    }
+
+ask_said : (before : List ScriptEntry) (k n : ℕ) (name query : List ℕ) → open_after before name ≡ Some (record { request = k; asks = n }) → n < most_asks → IsName name → IsSaid params [] before (entry.Ask k name query)
+ask_said before k n name query is few short = record { line = line.Ask name query; names = short; says = asks (is_open before name (record { request = k; asks = n }) is) few }
+
+end_said : (before : List ScriptEntry) (k n : ℕ) (name : List ℕ) → open_after before name ≡ Some (record { request = k; asks = n }) → IsName name → IsSaid params [] before (entry.End k name)
+end_said before k n name is short = record { line = line.End name; names = short; says = ends (is_open before name (record { request = k; asks = n }) is) }
+
+request_said : (before : List ScriptEntry) (k user event : ℕ) (rest : List ScriptEntry) → IsQuiet before k → k < most_requests → AreSaid params [] (before ++ request_entries k user event) rest
+    → AreSaid params [] before (request_entries k user event ++ rest)
+request_said before k user event rest h few more =
+    let name = name_of k in
+    let short = name_short k (omega (arith, few)) in
+    let first = attendance_query user event in
+    let title = title_query event in
+    let hidden = title_query (other_event event) in
+    let e0 = entry.Begin k name (context_of user) in
+    let e1 = entry.Ask k name first in
+    let e2 = entry.Ask k name title in
+    let e3 = entry.Ask k name hidden in
+    let e4 = entry.End k name in
+    let b1 = before ++ e0 ∷ [] in
+    let b2 = b1 ++ e1 ∷ [] in
+    let b3 = b2 ++ e2 ∷ [] in
+    let b4 = b3 ++ e3 ∷ [] in
+    let o1 = opens before k user name in
+    let o2 = asks_on b1 k 0 name first o1 in
+    let o3 = asks_on b2 k 1 name title o2 in
+    let o4 = asks_on b3 k 2 name hidden o3 in (
+      begin_said before k user h few short,
+      (
+        ask_said b1 k 0 name first o1 (omega arith) short,
+        (
+          ask_said b2 k 1 name title o2 (omega arith) short,
+          (
+            ask_said b3 k 2 name hidden o3 (omega arith) short,
+            (end_said b4 k 3 name o4 short, subst (λ es. AreSaid params [] es rest) (sym (put_five before e0 e1 e2 e3 e4)) more),
+          ),
+        ),
+      ),
+    )
+
+-- ---- all requests
+
+requests_said : (seed k n : ℕ) (before : List ScriptEntry) → IsQuiet before k → k + n ≤ most_requests → AreSaid params [] before (all_of (entries_of seed) k n)
+unfolding all_of
+requests_said seed k zero before h few = tt
+requests_said seed k (suc n) before h few =
+    request_said before k (user_of seed k) (event_at seed k) (all_of (entries_of seed) (k + 1) n) h (omega (arith, few))
+    (requests_said seed (k + 1) n (before ++ entries_of seed k) (quiet_on before k (user_of seed k) (event_at seed k) h) (omega (arith, few)))
+
+length-entries : (seed k n : ℕ) → length (all_of (entries_of seed) k n) ≡ 5 * n
+unfolding all_of
+length-entries seed k zero = refl
+length-entries seed k (suc n) = let rest = length-entries seed (k + 1) n in omega (arith, rest)
+
+can_be_spelled : (seed requests : ℕ) → requests ≤ most_requests → CanBeSpelled params [] (script seed requests)
+can_be_spelled seed requests few = record {
+  few_entries = let long = length-entries seed 0 requests in omega (arith, long, few);
+  said = requests_said seed 0 requests [] (record { quiet = λ q. refl; count = refl }) (omega (arith, few));
+}
+
+-- ---- texts and numbers
+
+small_at : (seed k : ℕ) → k < most_requests → AreSmall k (user_of seed k) (event_at seed k)
+unfolding drawn
+small_at seed k number = record {
+  number = number;
+  user_small = let low : draw seed (2 * k) users < users = mod_below (state_after seed (2 * k + 1) / 2 ^ 33) users (omega arith) in omega (arith, low);
+  event_small = let low = mod_below (7 * user_of seed k + 13 * draw seed (2 * k + 1) attended) events (omega arith) in omega (arith, low);
+}
 
 fits_in : (n most : ℕ) → n ≤ most → most ≤ 8192 → n < 2 ^ 63
 fits_in n most h few = omega (arith, h, few)
@@ -123,103 +196,53 @@ wide_in n h = omega (arith, h)
 other_small : (e : ℕ) → other_event e ≤ events
 other_small e = let low = mod_below e events (omega arith) in omega (arith, low)
 
-request_said : (before : List ScriptEntry) (k user event : ℕ) (rest : List (List ℕ)) → IsQuiet before k → AreSmall k user event
-    → entries_from (my_user ∷ []) [] before (request_lines (name_of k) user event ++ rest) ≡ entries_from (my_user ∷ []) [] (before ++ request_entries k user event) rest
-request_said before k user event rest h small =
-    let name = name_of k in
+decimal_utf8 : (n : ℕ) → n < 2 ^ 64 → IsUtf8 (decimal n)
+decimal_utf8 n h = IsUtf8-from_ascii (decimal n) (IsAscii-decimal n h)
+
+name_utf8 : (k : ℕ) → k < 2 ^ 64 → IsUtf8 (name_of k)
+unfolding name_of
+name_utf8 k h = IsUtf8-append (codes "q") (decimal k) (IsUtf8-are_ascii (codes "q") refl) (decimal_utf8 k h)
+
+title_utf8 : (e : ℕ) → e < 2 ^ 64 → IsUtf8 (title_query e)
+unfolding title_query
+title_utf8 e h = IsUtf8-append (codes "SELECT Title FROM Events WHERE EId = ") (decimal e) (IsUtf8-are_ascii (codes "SELECT Title FROM Events WHERE EId = ") refl) (decimal_utf8 e h)
+
+attendance_utf8 : (u e : ℕ) → u < 2 ^ 64 → e < 2 ^ 64 → IsUtf8 (attendance_query u e)
+unfolding attendance_query
+attendance_utf8 u e h k =
+    IsUtf8-append (codes "SELECT UId, EId, At FROM Attendances WHERE UId = ") (decimal u ++ (codes " AND EId = " ++ decimal e)) (IsUtf8-are_ascii (codes "SELECT UId, EId, At FROM Attendances WHERE UId = ") refl)
+    (IsUtf8-append (decimal u) (codes " AND EId = " ++ decimal e) (decimal_utf8 u h) (IsUtf8-append (codes " AND EId = ") (decimal e) (IsUtf8-are_ascii (codes " AND EId = ") refl) (decimal_utf8 e k)))
+
+context_held : (u : ℕ) → u < 2 ^ 63 → AllByRecursion ValueIsHeld (context_of u).values
+context_held u h = (lt-ltb u (2 ^ 63) h, tt)
+
+request_held : (k user event : ℕ) → AreSmall k user event → AllByRecursion EntryIsHeld (request_entries k user event)
+request_held k user event small =
     let number : k < 2 ^ 64 = wide_in k (fits_in k 8192 (omega (arith, small.number)) (omega arith)) in
     let who : user < 2 ^ 63 = fits_in user users small.user_small (omega arith) in
     let what : event < 2 ^ 64 = wide_in event (fits_in event events small.event_small (omega arith)) in
     let other : other_event event < 2 ^ 64 = wide_in (other_event event) (fits_in (other_event event) events (other_small event) (omega arith)) in
-    let plain = name_plain k number in
-    let short = name_short k number in
-    let asks = attendance_query user event in
-    let title = title_query event in
-    let hidden = title_query (other_event event) in
-    let e0 = entry.Begin k name (context_of user) in
-    let e1 = entry.Ask k name asks in
-    let e2 = entry.Ask k name title in
-    let e3 = entry.Ask k name hidden in
-    let e4 = entry.End k name in
-    let b1 = before ++ e0 ∷ [] in
-    let b2 = b1 ++ e1 ∷ [] in
-    let b3 = b2 ++ e2 ∷ [] in
-    let b4 = b3 ++ e3 ∷ [] in
-    let o1 = opens before k user name in
-    let o2 = asks_on b1 k 0 name asks o1 in
-    let o3 = asks_on b2 k 1 name title o2 in
-    let o4 = asks_on b3 k 2 name hidden o3 in
-    said (my_user ∷ []) [] before (begin_line name user) (ask_line name asks ∷ ask_line name title ∷ ask_line name hidden ∷ end_line name ∷ rest) (line.Begin name (user_member user ∷ [])) e0
-    (begin_is name user plain short who) (begin_says before k user (length before + 1) name h small.number)
-    ∙ said (my_user ∷ []) [] b1 (ask_line name asks) (ask_line name title ∷ ask_line name hidden ∷ end_line name ∷ rest) (line.Ask name asks) e1
-    (ask_is name asks plain short (attendance_plain user event (wide_in user who) what)) (ask_says b1 k 0 (length b1 + 1) name asks o1 (omega arith))
-    ∙ said (my_user ∷ []) [] b2 (ask_line name title) (ask_line name hidden ∷ end_line name ∷ rest) (line.Ask name title) e2
-    (ask_is name title plain short (title_plain event what)) (ask_says b2 k 1 (length b2 + 1) name title o2 (omega arith))
-    ∙ said (my_user ∷ []) [] b3 (ask_line name hidden) (end_line name ∷ rest) (line.Ask name hidden) e3
-    (ask_is name hidden plain short (title_plain (other_event event) other)) (ask_says b3 k 2 (length b3 + 1) name hidden o3 (omega arith))
-    ∙ said (my_user ∷ []) [] b4 (end_line name) rest (line.End name) e4 (end_is name plain short) (end_says b4 k 3 (length b4 + 1) name o4)
-    ∙ ap (λ all. entries_from (my_user ∷ []) [] all rest) (put_five before e0 e1 e2 e3 e4)
+    let name = name_utf8 k number in (
+      (name, All-from_recursion ValueIsHeld (context_of user).values (context_held user who)),
+      ((name, attendance_utf8 user event (wide_in user who) what), ((name, title_utf8 event what), ((name, title_utf8 (other_event event) other), (name, tt)))),
+    )
 
--- ---- all requests
+requests_held : (seed k n : ℕ) → k + n ≤ most_requests → AllByRecursion EntryIsHeld (all_of (entries_of seed) k n)
+unfolding all_of
+requests_held seed k zero few = tt
+requests_held seed k (suc n) few =
+    append_all EntryIsHeld (entries_of seed k) (all_of (entries_of seed) (k + 1) n) (request_held k (user_of seed k) (event_at seed k) (small_at seed k (omega (arith, few))))
+    (requests_held seed (k + 1) n (omega (arith, few)))
 
-abbrev lines_from : ℕ → ℕ → ℕ → List (List ℕ)
-lines_from seed k n = flat_map (λ i. request_lines (name_of i) (user_of seed i) (event_at seed i)) (range_with_len k n)
-
-abbrev entries_at : ℕ → ℕ → ℕ → List ScriptEntry
-entries_at seed k n = flat_map (entries_of seed) (range_with_len k n)
-
-small_at : (seed k : ℕ) → k < most_requests → AreSmall k (user_of seed k) (event_at seed k)
-unfolding drawn
-small_at seed k number = record {
-  number = number;
-  user_small = let low : draw seed (2 * k) users < users = mod_below (state_after seed (2 * k + 1) / 2 ^ 33) users (omega arith) in omega (arith, low);
-  event_small = let low = mod_below (7 * user_of seed k + 13 * draw seed (2 * k + 1) attended) events (omega arith) in omega (arith, low);
+is_held : (seed requests : ℕ) → requests ≤ most_requests → IsHeld params [] (script seed requests)
+is_held seed requests few = record {
+  each_parameter = All-from_recursion ParameterIsHeld params (IsUtf8-are_ascii (codes "MyUId") refl, tt);
+  each_key = All-from_recursion KeyIsHeld [] tt;
+  each_entry = All-from_recursion EntryIsHeld (script seed requests).entries (requests_held seed 0 requests (omega (arith, few)));
 }
-
-requests_said : (seed k n : ℕ) (before : List ScriptEntry) → IsQuiet before k → k + n ≤ most_requests
-    → entries_from (my_user ∷ []) [] before (lines_from seed k n) ≡ Ok (before ++ entries_at seed k n)
-requests_said seed k zero before h few = ap Ok (sym (append-nil before))
-requests_said seed k (suc n) before h few =
-    request_said before k (user_of seed k) (event_at seed k) (lines_from seed (k + 1) n) h (small_at seed k (omega (arith, few)))
-    ∙ requests_said seed (k + 1) n (before ++ entries_of seed k) (quiet_on before k (user_of seed k) (event_at seed k) h) (omega (arith, few))
-    ∙ ap Ok (append_assoc before (entries_of seed k) (entries_at seed (k + 1) n))
-
-length-lines : (seed k n : ℕ) → length (lines_from seed k n) ≡ 5 * n
-length-lines seed k zero = refl
-length-lines seed k (suc n) = let rest = length-lines seed (k + 1) n in omega (arith, rest)
 
 -- ---- the text
 
-printed : (k user event : ℕ) → AreSmall k user event → AllByRecursion ArePrinted (request_lines (name_of k) user event)
-printed k user event small =
-    let number : k < 2 ^ 64 = wide_in k (fits_in k 8192 (omega (arith, small.number)) (omega arith)) in
-    let who : user < 2 ^ 64 = wide_in user (fits_in user users small.user_small (omega arith)) in
-    let what : event < 2 ^ 64 = wide_in event (fits_in event events small.event_small (omega arith)) in
-    let other : other_event event < 2 ^ 64 = wide_in (other_event event) (fits_in (other_event event) events (other_small event) (omega arith)) in
-    let plain = name_plain k number in (
-      begin_printed (name_of k) user plain who,
-      (
-        ask_printed (name_of k) (attendance_query user event) plain (attendance_plain user event who what),
-        (
-          ask_printed (name_of k) (title_query event) plain (title_plain event what),
-          (
-            ask_printed (name_of k) (title_query (other_event event)) plain (title_plain (other_event event) other),
-            (end_printed (name_of k) plain, tt),
-          ),
-        ),
-      ),
-    )
-
-text_lines : (seed k n : ℕ) → k + n ≤ most_requests → script_lines (flat_map (request_of seed) (range_with_len k n)) ≡ lines_from seed k n
-unfolding request_text
-text_lines seed k zero few = refl
-text_lines seed k (suc n) few =
-    lines_first (request_lines (name_of k) (user_of seed k) (event_at seed k)) (flat_map (request_of seed) (range_with_len (k + 1) n)) (printed k (user_of seed k) (event_at seed k) (small_at seed k (omega (arith, few))))
-    ∙ ap (λ ls. request_lines (name_of k) (user_of seed k) (event_at seed k) ++ ls) (text_lines seed (k + 1) n (omega (arith, few)))
-
 pub reads_back : ScriptReadsBack
-unfolding texts_of
-reads_back seed requests few =
-    let lines = text_lines seed 0 requests (omega (arith, few)) in
-    script_of_entries (my_user ∷ []) [] (script_text seed requests) (entries_at seed 0 requests) (omega (arith, few, ap length lines, length-lines seed 0 requests))
-    (ap (entries_from (my_user ∷ []) [] []) lines ∙ requests_said seed 0 requests [] (record { quiet = λ q. refl; count = refl }) (omega (arith, few)))
+unfolding workload_text
+reads_back seed requests few = text_reads_back params [] (script seed requests) (is_held seed requests few) (can_be_spelled seed requests few)

@@ -1,5 +1,5 @@
-pub mod ByteLemmas
-pub mod EntryLemmas
+pub mod ListLemmas
 pub mod FileLemmas
-pub mod JsonLemmas
-pub mod TextLemmas
+pub mod LineLemmas
+pub mod TableLemmas
+pub mod EntryLemmas

@@ -3,24 +3,10 @@ use Rattle.std.specs.Prelude.{◌≡◌, ℕ, List, [], ◌∷◌, ◌++◌, map
 use Rattle.std.specs.Str.{bytes_eq}
 use Rattle.ba_outside.specs.MemFiles.{held_in}
 use Rattle.ba_outside.specs.declared.mem_files.Held.{Held}
-use Rattle.ba_workload.specs.Requests.{script_text}
+use Rattle.ba_script_print.specs.Texts.{script_text}
+use Rattle.ba_workload.specs.Script.{script}
+use Rattle.ba_workload.specs.Standard.{params, policy_text, schema_text}
 use Rattle.ba_workload.specs.Tables.{attendances_text, events_text, users_text}
-
-unfoldable pub schema_text : List ℕ
-schema_text =
-    codes "CREATE TABLE Users (UId INT PRIMARY KEY, Name TEXT NOT NULL);\n"
-    ++ (codes "CREATE TABLE Events (EId INT PRIMARY KEY, Title TEXT NOT NULL, Duration INT NOT NULL);\n"
-    ++ (codes "CREATE TABLE Attendances (UId INT NOT NULL REFERENCES Users (UId),\n"
-    ++ codes "  EId INT NOT NULL REFERENCES Events (EId), At INT NOT NULL, PRIMARY KEY (UId, EId));\n"))
-
--- users may see all names, their own attendances, and the events that they attend
-unfoldable pub policy_text : List ℕ
-policy_text =
-    codes "PARAM MyUId INT;\n"
-    ++ (codes "CREATE VIEW V1 AS SELECT UId, Name FROM Users;\n"
-    ++ (codes "CREATE VIEW V2 AS SELECT UId, EId, At FROM Attendances WHERE UId = ?MyUId;\n"
-    ++ (codes "CREATE VIEW V3 AS SELECT e.EId, e.Title, e.Duration FROM Events e\n"
-    ++ codes "  JOIN Attendances a ON a.EId = e.EId WHERE a.UId = ?MyUId;\n")))
 
 -- a file's name and its bytes
 abbrev pub File : Type 0
@@ -39,9 +25,13 @@ standard_files =
     ∷ (codes "tables/Attendances.csv", attendances_text)
     ∷ []
 
+-- the text of the script, for the policy's parameter and no cache keys
+unfoldable pub workload_text : ℕ → ℕ → List ℕ
+workload_text seed requests = script_text params [] (script seed requests)
+
 -- and a script for them
 abbrev pub files_of : ℕ → ℕ → List File
-files_of seed requests = standard_files ++ (codes "script.jsonl", script_text seed requests) ∷ []
+files_of seed requests = standard_files ++ (codes "script.jsonl", workload_text seed requests) ∷ []
 
 -- the bytes of the first file of that name
 abbrev pub bytes_in : List File → List ℕ → Option (List ℕ)

@@ -1,7 +1,8 @@
 pub mod Chosen
 pub mod Draws
 pub mod Files
-pub mod Lines
-pub mod Requests
+pub mod Lists
+pub mod Reads
 pub mod Script
+pub mod Standard
 pub mod Tables

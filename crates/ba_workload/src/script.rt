@@ -1,26 +1,23 @@
 //! The script that a seed draws.
-ghost use Rattle.std.specs.Prelude.{◌≡◌, IfOk, string_bytes};
-ghost use Rattle.ba_workload.specs.Requests.{script_text};
+ghost use Rattle.std.specs.Prelude.{◌≡◌, IfOk};
+ghost use Rattle.ba_workload.specs.Script.{script};
 
 use crate::choice::choose;
 use crate::draws::Draws;
-use crate::request::request_text;
+use crate::request::add_request;
+use ba_model::List;
+use ba_script::Script;
 use std::alloc::{AllocError, Global};
 
-/// The script of so many requests that the seed draws, byte for byte: five lines for each request, which begin it, ask three questions
-/// and end it. Under the workload's policy the first two questions may be answered, and the third may not.
-///
-/// Any seed and any number of requests has a script; one of more than 8192 requests is refused by its reader. Want of memory is the only
-/// error.
-pub fn script_text(alloc: Global, seed: u64, requests: u32) -> Result<String, AllocError>
-    ensures { IfOk result (λ text. string_bytes text ≡ script_text seed requests) }
+/// The script of so many requests that the seed draws.
+pub(crate) fn draw_script(alloc: Global, seed: u64, requests: u32) -> Result<Script, AllocError>
+    ensures { IfOk result (λ it. it ≡ script seed requests) }
 {
     let mut draws = Draws { state: seed };
-    let mut text = String::new(alloc);
+    let mut entries = List::new(alloc);
     for number in 0..requests {
         let choice = choose(&mut draws);
-        let lines = request_text(alloc, number, &choice)?;
-        text.push_str(lines.as_str())?;
+        add_request(alloc, &mut entries, number, &choice)?;
     }
-    Ok(text)
+    Ok(Script { entries })
 }

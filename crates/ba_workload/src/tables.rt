@@ -1,84 +1,108 @@
-//! The table files.
-ghost use Rattle.std.specs.Prelude.{◌≡◌, ◌<◌, ◌≤◌, IfOk, string_bytes};
+//! The tables.
+ghost use Rattle.std.specs.Prelude.{◌≡◌, ◌<◌, ◌≤◌, ◌++◌, IfOk, OnOk};
 ghost use Rattle.ba_workload.specs.Chosen.{attended, users};
-ghost use Rattle.ba_workload.specs.Tables.{attendance_line, attendance_lines, attendances_text, event_line, events_text, user_line, users_text};
+ghost use Rattle.ba_workload.specs.Tables.{attendance_row, attendance_rows, attendances_of, event_row, event_rows, named, tables, user_row, user_rows};
 
 use crate::choice::{ATTENDED, EVENTS, USERS, event_of};
+use ba_model::{List, Row, RowSet, Str, Value};
 use std::alloc::{AllocError, Global};
 
-#[tactic(auto, unfolding(crate::specs::Tables::user_line))]
-fn user_line(alloc: Global, user: u32) -> Result<String, AllocError>
-    ensures { IfOk result (λ s. string_bytes s ≡ user_line user) }
+/// A letter and a number.
+fn named(alloc: Global, letter: &str, number: u32) -> Result<Value, AllocError>
+    ensures { IfOk result (λ value. value ≡ named letter.now number) }
 {
-    format!(in alloc; "{user},u{user}\n")
+    let text = format!(in alloc; "{letter}{number}")?;
+    Value::text(alloc, Str::from_string(text))
 }
 
-#[tactic(auto, unfolding(crate::specs::Tables::event_line))]
-fn event_line(alloc: Global, event: u32) -> Result<String, AllocError>
-    ensures { IfOk result (λ s. string_bytes s ≡ event_line event) }
+#[tactic(auto, unfolding(crate::specs::Tables::user_row))]
+fn user_row(alloc: Global, user: u32) -> Result<Row, AllocError>
+    ensures { IfOk result (λ row. row ≡ user_row user) }
+{
+    let mut row = List::new(alloc);
+    row.push(Value::Int(user as i64))?;
+    row.push(named(alloc, "u", user)?)?;
+    Ok(row)
+}
+
+#[tactic(auto, unfolding(crate::specs::Tables::event_row))]
+fn event_row(alloc: Global, event: u32) -> Result<Row, AllocError>
+    ensures { IfOk result (λ row. row ≡ event_row event) }
 {
     let duration = event % 7 * 10 + 10;
-    format!(in alloc; "{event},e{event},{duration}\n")
+    let mut row = List::new(alloc);
+    row.push(Value::Int(event as i64))?;
+    row.push(named(alloc, "e", event)?)?;
+    row.push(Value::Int(duration as i64))?;
+    Ok(row)
 }
 
-#[tactic(auto, unfolding(crate::specs::Tables::attendance_line))]
-fn attendance_line(alloc: Global, user: u32, attendance: u32) -> Result<String, AllocError>
+#[tactic(auto, unfolding(crate::specs::Tables::attendance_row))]
+fn attendance_row(alloc: Global, user: u32, attendance: u32) -> Result<Row, AllocError>
     requires user { user ≤ users }
     requires attendance { attendance < attended }
-    ensures { IfOk result (λ s. string_bytes s ≡ attendance_line user attendance) }
+    ensures { IfOk result (λ row. row ≡ attendance_row user attendance) }
 {
     let event = event_of(user, attendance);
     let time = 100 * user + attendance;
-    format!(in alloc; "{user},{event},{time}\n")
+    let mut row = List::new(alloc);
+    row.push(Value::Int(user as i64))?;
+    row.push(Value::Int(event as i64))?;
+    row.push(Value::Int(time as i64))?;
+    Ok(row)
 }
 
-fn attendance_lines(alloc: Global, user: u32) -> Result<String, AllocError>
-    requires { user ≤ users }
-    ensures { IfOk result (λ s. string_bytes s ≡ attendance_lines user) }
+fn user_rows(alloc: Global) -> Result<List<Row>, AllocError>
+    ensures { IfOk result (λ rows. rows ≡ user_rows) }
 {
-    let mut text = String::new(alloc);
-    for attendance in 0..ATTENDED {
-        let line = attendance_line(alloc, user, attendance)?;
-        text.push_str(line.as_str())?;
-    }
-    Ok(text)
-}
-
-/// The file of the table of users.
-#[tactic(auto, unfolding(crate::specs::Tables::users_text))]
-pub(crate) fn users_text(alloc: Global) -> Result<String, AllocError>
-    ensures { IfOk result (λ s. string_bytes s ≡ users_text) }
-{
-    let mut text = String::from_str(alloc, "UId,Name\n")?;
+    let mut rows = List::new(alloc);
     for user in 1..USERS + 1 {
-        let line = user_line(alloc, user)?;
-        text.push_str(line.as_str())?;
+        let row = user_row(alloc, user)?;
+        rows.push(row)?;
     }
-    Ok(text)
+    Ok(rows)
 }
 
-/// The file of the table of events.
-#[tactic(auto, unfolding(crate::specs::Tables::events_text))]
-pub(crate) fn events_text(alloc: Global) -> Result<String, AllocError>
-    ensures { IfOk result (λ s. string_bytes s ≡ events_text) }
+fn event_rows(alloc: Global) -> Result<List<Row>, AllocError>
+    ensures { IfOk result (λ rows. rows ≡ event_rows) }
 {
-    let mut text = String::from_str(alloc, "EId,Title,Duration\n")?;
+    let mut rows = List::new(alloc);
     for event in 1..EVENTS + 1 {
-        let line = event_line(alloc, event)?;
-        text.push_str(line.as_str())?;
+        let row = event_row(alloc, event)?;
+        rows.push(row)?;
     }
-    Ok(text)
+    Ok(rows)
 }
 
-/// The file of the table of attendances.
-#[tactic(auto, unfolding(crate::specs::Tables::attendances_text))]
-pub(crate) fn attendances_text(alloc: Global) -> Result<String, AllocError>
-    ensures { IfOk result (λ s. string_bytes s ≡ attendances_text) }
+/// Adds a user's attendances.
+fn add_attendances(alloc: Global, rows: &mut List<Row>, user: u32) -> Result<(), AllocError>
+    requires { user ≤ users }
+    ensures { OnOk result (rows.new ≡ rows.old ++ attendances_of user) }
 {
-    let mut text = String::from_str(alloc, "UId,EId,At\n")?;
-    for user in 1..USERS + 1 {
-        let lines = attendance_lines(alloc, user)?;
-        text.push_str(lines.as_str())?;
+    for attendance in 0..ATTENDED {
+        let row = attendance_row(alloc, user, attendance)?;
+        rows.push(row)?;
     }
-    Ok(text)
+    Ok(())
+}
+
+fn attendance_rows(alloc: Global) -> Result<List<Row>, AllocError>
+    ensures { IfOk result (λ rows. rows ≡ attendance_rows) }
+{
+    let mut rows = List::new(alloc);
+    for user in 1..USERS + 1 {
+        add_attendances(alloc, &mut rows, user)?;
+    }
+    Ok(rows)
+}
+
+/// The rows of Users, Events and Attendances.
+pub(crate) fn standard_tables(alloc: Global) -> Result<RowSet, AllocError>
+    ensures { IfOk result (λ it. it ≡ tables) }
+{
+    let mut lists = List::new(alloc);
+    lists.push(user_rows(alloc)?)?;
+    lists.push(event_rows(alloc)?)?;
+    lists.push(attendance_rows(alloc)?)?;
+    Ok(RowSet { tables: lists })
 }
