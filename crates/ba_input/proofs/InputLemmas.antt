@@ -1,5 +1,5 @@
 -- How the input is read, stage by stage.
-use Rattle.std.proofs.Common.{Bool, false, ◌≡◌, ◌∙◌, ◌<◌, ◌≤◌, ◌+◌, [], ◌∷◌, ◌++◌, inl, inr, refl, sym, ap, subst, ℕ, suc, List, Result, Ok, Err, length, drop, take, get_or, add-one, drop-cons, Option, Some, None, length-append, arith}
+use Rattle.std.proofs.Common.{Bool, false, ◌≡◌, ◌∙◌, ◌<◌, ◌+◌, [], ◌∷◌, ◌++◌, inl, inr, refl, sym, ap, subst, ℕ, suc, List, Result, Ok, Err, length, drop, take, get_or, add-one, drop-cons, Option, Some, None, length-append, arith}
 use Rattle.std.proofs.lemmas.List.{take_more}
 use Rattle.std.proofs.lemmas.List.Elements.{All-append, All-cons, All-nil}
 use Rattle.std.specs.List.{All, AllZip}
@@ -24,7 +24,7 @@ use Rattle.ba_model.specs.declared.policy.Policy.{Policy}
 use Rattle.ba_model.specs.declared.schema.Schema.{Schema}
 use Rattle.ba_model.specs.declared.schema.Table.{Table}
 use Rattle.ba_model.specs.declared.value.Value.{Value}
-use Rattle.ba_model.specs.Limits.{most_budget, most_file_bytes, most_templates, most_workers}
+use Rattle.ba_model.specs.Limits.{most_file_bytes}
 use Rattle.ba_outside.specs.Seen.{FilesSeen}
 use Rattle.ba_plan.proofs.Plans.{found_ok, memory_now, then_err, then_ok}
 use Rattle.ba_plan.specs.Follows.{Follows, Gives, Got}
@@ -34,14 +34,13 @@ use Rattle.ba_plan.specs.declared.stop.Stop.TheVariants.{NoMemory, Refused}
 use Rattle.ba_policy.specs.Reading.{policy_of}
 use Rattle.ba_script.proofs.TrackingLemmas.{published-push}
 use Rattle.ba_script.specs.Reading.{published, published_by}
-use Rattle.ba_script.specs.Scripts.{IsScript}
 use Rattle.ba_script.specs.declared.entry.Script.{Script}
 use Rattle.ba_script.specs.declared.entry.ScriptEntry.{ScriptEntry}
 use Rattle.ba_script.specs.declared.entry.ScriptEntry.TheVariants as said
 use Rattle.ba_sql_ddl.specs.Reading.{schema_of}
 use Rattle.ba_tables.specs.Checked.{checked}
 use Rattle.ba_tables.specs.TableSet.{TableSet}
-use Rattle.ba_input.specs.Inputs.{IsInput, RowsOfTables}
+use Rattle.ba_input.specs.Inputs.{RowsOfTables}
 use Rattle.ba_input.specs.Published.{IsSetOf}
 use Rattle.ba_input.specs.Reading.{Gathered, Names, ProofNames, audit_plan, check_plan, command_plan, gathered, given_names, load_plan, loading, output_plan, plan_at, policy_and_proof_plan, policy_plan, proof_plan, proof_reading_of, published_plan, reading_of, ready, rest_plan, rows_plan, script_plan, served_plan, set_plan, sets_plan, table_plan, tables_plan, told_by, workload_plan, workload_reading}
 use Rattle.ba_input.specs.Reads.{Comes, Finds, Reads, run_with}

@@ -35,8 +35,7 @@ use Rattle.ba_input.specs.declared.task.Task.{Task}
 use Rattle.ba_input.specs.declared.task.Task.TheVariants as task
 use Rattle.ba_input.specs.declared.task.Told.{Told}
 use Rattle.ba_input.specs.declared.task.Told.TheVariants.{Lines, Proofs, Summary, Templates}
-use Rattle.ba_workload.specs.Files.{bytes_in, files_of}
-use Rattle.ba_workload.specs.Requests.{script_text}
+use Rattle.ba_workload.specs.Files.{bytes_in, files_of, workload_text}
 
 -- ---- a run
 
@@ -216,7 +215,7 @@ served_plan told load names = do
 
 -- a workload is run, or its script is printed
 abbrev pub workload_plan : ℕ → ℕ → ℕ → Bool → Plan Fault Task
-workload_plan seed requests workers true = done (task.Print (script_text seed requests))
+workload_plan seed requests workers true = done (task.Print (workload_text seed requests))
 workload_plan seed requests workers false = do
   input ← workload_reading seed requests workers
   done (task.Run input Summary)

@@ -18,7 +18,9 @@ use ba_outside::SureFiles;
 use ba_plan::Stop;
 use ba_wire::Fault;
 use ba_workload::laws::files_hold_their_bytes;
-use ba_workload::{POLICY_FILE, SCHEMA_FILE, SCRIPT_FILE, TABLE_SET, script_text, workload};
+use ba_workload::{
+    POLICY_FILE, SCHEMA_FILE, SCRIPT_FILE, TABLE_SET, workload_files, workload_text,
+};
 use std::alloc::Global;
 
 // What stops a reading of files that are given: what is told of it is a refusal.
@@ -43,7 +45,7 @@ fn workload_input(
     ensures input { IfOk result IsInput }
 {
     files_hold_their_bytes();
-    let held = workload(alloc, seed, requests)?;
+    let held = workload_files(alloc, seed, requests)?;
     let mut files = SureFiles::new(alloc, held);
     let named = Named {
         schema: SCHEMA_FILE,
@@ -73,7 +75,7 @@ pub(crate) fn read_workload(
     ensures task { IfOk result IsTask }
 {
     if print {
-        let text = script_text(alloc, seed, requests)?;
+        let text = workload_text(alloc, seed, requests)?;
         Ok(Task::Print(Str::from_string(text)))
     } else {
         let input = workload_input(alloc, seed, requests, workers)?;

@@ -5,6 +5,7 @@ use super::faults::write_script_fault;
 use super::standard::policy_of;
 use ba_model::{Context, Failure};
 use ba_script::{Given, LineFault, Member, ScriptEntry, ScriptLine, read_line, read_script};
+use ba_script_print::script_text;
 use std::alloc::{AllocError, Global};
 use std::fmt::Write;
 use std::test::Fail;
@@ -258,4 +259,39 @@ fn whole_scripts(rt: HostRuntime) -> Result<(), Fail> {
 #[test]
 fn limits_of_scripts(rt: HostRuntime) -> Result<(), Fail> {
     all_are_so(&rt, &Scripts, LIMITS, "")
+}
+
+/// Scripts that are printed, for a text `?Name` and a number `?MyUId`, and two keys.
+struct Printed;
+
+const KEYS: &str = "PARAM Name TEXT; PARAM MyUId INT;
+CREATE KEY all () AS SELECT A FROM T;
+CREATE KEY one (b TEXT, a INT) AS SELECT A FROM T WHERE A = ?a AND B = ?b;";
+
+impl Reading for Printed {
+    fn tell(&self, alloc: Global, text: &str, told: &mut String) -> Told {
+        let text = with_lines(alloc, text)?;
+        let schema = "CREATE TABLE T (A INT PRIMARY KEY, B TEXT NOT NULL);";
+        let policy = policy_of(alloc, schema, KEYS)?;
+        match read_script(alloc, &policy.params, &policy.keys, text.as_bytes()) {
+            Ok(script) => {
+                let printed = script_text(alloc, &policy.params, &policy.keys, &script)?;
+                told.push_str(printed.as_str())
+            }
+            Err(Failure::NoMemory) => Err(AllocError),
+            Err(Failure::Fault(fault)) => write_script_fault(alloc, fault, told),
+        }
+    }
+}
+
+/// Keys in the order of their bytes, without spaces.
+const PRINTED: &str =
+    r#"{ "context": {"Name":"\u0061\"","MyUId":-7}, "begin": "r1" }~{"query":"q\u000a","ask":"r1"} => {"begin":"r1","context":{"MyUId":-7,"Name":"a\""}}~{"ask":"r1","query":"q\n"}~
+B.{"read":"r1","key":"one","args":{"b":"x","a":9223372036854775807}}~{"read":"r1","key":"all","args":{}} => {"begin":"r1","context":{"MyUId":2,"Name":"ann"}}~{"args":{"a":9223372036854775807,"b":"x"},"key":"one","read":"r1"}~{"args":{},"key":"all","read":"r1"}~
+BE.{"publish":"t1"} => {"begin":"r1","context":{"MyUId":2,"Name":"ann"}}~{"end":"r1"}~{"publish":"t1"}~
+. => "#;
+
+#[test]
+fn printed_scripts(rt: HostRuntime) -> Result<(), Fail> {
+    all_are_so(&rt, &Printed, PRINTED, "")
 }

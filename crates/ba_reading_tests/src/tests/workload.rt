@@ -6,7 +6,9 @@ use ba_outside::Held;
 use ba_policy::read_policy;
 use ba_script::read_script;
 use ba_sql_ddl::read_schema;
-use ba_workload::{POLICY_FILE, SCHEMA_FILE, SCRIPT_FILE, TABLE_SET, script_text, workload};
+use ba_workload::{
+    POLICY_FILE, SCHEMA_FILE, SCRIPT_FILE, TABLE_SET, workload, workload_files, workload_text,
+};
 use std::alloc::{AllocError, Global};
 use std::fmt::Write;
 use std::test::Fail;
@@ -30,14 +32,14 @@ script.jsonl 273759 5000
 
 #[test]
 fn script_of_one_request(rt: HostRuntime) -> Result<(), Fail> {
-    let text = script_text(rt.alloc(), 0, 1)?;
+    let text = workload_text(rt.alloc(), 0, 1)?;
     assert_eq!(rt; text.as_str(), ONE);
     Ok(())
 }
 
 #[test]
 fn script_of_no_request(rt: HostRuntime) -> Result<(), Fail> {
-    let text = script_text(rt.alloc(), 7, 0)?;
+    let text = workload_text(rt.alloc(), 7, 0)?;
     assert_eq!(rt; text.as_str(), "");
     Ok(())
 }
@@ -55,7 +57,7 @@ fn counts(alloc: Global, files: &[Held]) -> Result<String, AllocError> {
 
 #[test]
 fn files_of_a_workload(rt: HostRuntime) -> Result<(), Fail> {
-    let files = workload(rt.alloc(), 7, 1000)?;
+    let files = workload_files(rt.alloc(), 7, 1000)?;
     let told = counts(rt.alloc(), &files)?;
     assert_eq!(rt; told.as_str(), FILES);
     Ok(())
@@ -110,12 +112,24 @@ fn write_read(alloc: Global, files: &[Held], told: &mut String) -> Told {
 
 #[test]
 fn files_are_read(rt: HostRuntime) -> Result<(), Fail> {
-    let files = workload(rt.alloc(), 7, 1000)?;
+    let files = workload_files(rt.alloc(), 7, 1000)?;
     let mut told = String::new(rt.alloc());
     write_read(rt.alloc(), &files, &mut told)?;
     assert_eq!(rt;
         told.as_str(),
         "3 tables, 1 parameter, 3 views, 5000 entries"
     );
+    Ok(())
+}
+
+#[test]
+fn tables_and_script(rt: HostRuntime) -> Result<(), Fail> {
+    let (tables, script) = workload(rt.alloc(), 7, 1000)?;
+    let mut told = String::new(rt.alloc());
+    for rows in tables.tables.as_slice() {
+        write!(told, "{} rows, ", rows.len())?;
+    }
+    write!(told, "{} entries", script.entries.len())?;
+    assert_eq!(rt; told.as_str(), "64 rows, 64 rows, 256 rows, 5000 entries");
     Ok(())
 }
