@@ -64,7 +64,7 @@ def main():
         nothing = seconds(words.program, folder, script_of(0, KINDS["an ask"][1]), words.repeat)
         for kind, (count, line_of) in KINDS.items():
             took = seconds(words.program, folder, script_of(count, line_of), words.repeat) - nothing
-            print(f"{kind}: {1_000_000 * took / (REQUESTS * count):.0f} microseconds")
+            print(f"{kind}: {1_000_000 * took / (REQUESTS * count):.1f} microseconds")
 
 
 main()

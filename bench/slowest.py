@@ -1,11 +1,11 @@
 #!/usr/bin/env python3
 """Draws policies, recorded answers and questions at random within the limits, and keeps those that take the program longest.
 
-    bench/slowest.py [--program FILE] [--first SEED] [--count N] [--seconds N] [--memory MIB] [--keep N]
+    bench/slowest.py [--program FILE] [--first SEED] [--count N] [--budget N] [--seconds N] [--memory MIB] [--keep N]
 
 A seed gives a schema of one to three tables, which may be linked to themselves and to each other, a policy of one to twelve views,
 up to twelve recorded answers, and a question; sizes are drawn so that most are small and some are at a limit. Each question is asked
-once, with the default budget; its seconds and MiB are what it adds to the run without it. The slowest are printed as a table in
+once; its seconds and MiB are what it adds to the run without it. The slowest are printed as a table in
 Markdown; `--show SEED` prints what a seed draws. Questions that the program doesn't read count for nothing. Without --program it has
 the repository's own `blockaid` proved and built first.
 """
@@ -100,9 +100,9 @@ class Draws:
 Slow = collections.namedtuple("Slow", "seconds mib seed said what")
 
 
-def measure(program, seed):
+def measure(program, seed, budget):
     """What the seed's question took, or nothing where it wasn't read."""
-    ask = Draws(seed).ask(seed)
+    ask = Draws(seed).ask(seed)._replace(budget=budget)
     with tempfile.TemporaryDirectory() as folder:
         without, ran = program.once(folder, ask)
         if without.status != 0:
@@ -117,6 +117,7 @@ def main():
     reader.add_argument("--program", help="the program to measure")
     reader.add_argument("--first", type=int, default=1, help="the first seed")
     reader.add_argument("--count", type=int, default=2_000, help="how many seeds")
+    reader.add_argument("--budget", type=int, default=2_000, help="steps of a search")
     reader.add_argument("--seconds", type=int, default=30, help="of one run of the program")
     reader.add_argument("--memory", type=int, default=4_096, help="MiB of one run of the program")
     reader.add_argument("--keep", type=int, default=10, help="how many are printed")
@@ -127,10 +128,10 @@ def main():
         print(ask.schema, ask.policy, *ask.before, ask.question, sep="\n")
         return
     program = Program(os.path.abspath(given.program) if given.program else built(), given.seconds, given.memory * 1024)
-    found = [measure(program, seed) for seed in range(given.first, given.first + given.count)]
+    found = [measure(program, seed, given.budget) for seed in range(given.first, given.first + given.count)]
     said = collections.Counter(it.said for it in found)
     over = sum(it.seconds > 5 or it.mib > 500 for it in found)
-    print(f"{processors()}; commit {told(['git', '-C', HOME, 'rev-parse', '--short', 'HEAD'])}; seeds {given.first} to {given.first + given.count - 1}: "
+    print(f"{processors()}; commit {told(['git', '-C', HOME, 'rev-parse', '--short', 'HEAD'])}; budget {given.budget:,}; seeds {given.first} to {given.first + given.count - 1}: "
           f"{', '.join(f'{count:,} {it}' for it, count in said.most_common())}. Over 5 s or 500 MiB: {over}.\n")
     print("| seed | s | MiB | said | what it draws |\n|---|---|---|---|---|")
     for it in sorted(found, reverse=True)[: given.keep]:
