@@ -1,0 +1,4 @@
+//! Laws alone: what the texts of a workload's schema and policy read as.
+#![tactic(auto)]
+
+pub mod laws;
