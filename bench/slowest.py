@@ -130,9 +130,11 @@ def main():
     program = Program(os.path.abspath(given.program) if given.program else built(), given.seconds, given.memory * 1024)
     found = [measure(program, seed, given.budget) for seed in range(given.first, given.first + given.count)]
     said = collections.Counter(it.said for it in found)
-    over = sum(it.seconds > 5 or it.mib > 500 for it in found)
+    slow, large = sum(it.seconds > 5 for it in found), sum(it.mib > 500 for it in found)
+    ended = max((it.seconds for it in found if it.said != "ended by hand"), default=0)
     print(f"{processors()}; commit {told(['git', '-C', HOME, 'rev-parse', '--short', 'HEAD'])}; budget {given.budget:,}; seeds {given.first} to {given.first + given.count - 1}: "
-          f"{', '.join(f'{count:,} {it}' for it, count in said.most_common())}. Over 5 s or 500 MiB: {over}.\n")
+          f"{', '.join(f'{count:,} {it}' for it, count in said.most_common())}. Over 5 s: {slow}, "
+          f"over 500 MiB: {large}; of those that ended the slowest took {ended:.2f} s.\n")
     print("| seed | s | MiB | said | what it draws |\n|---|---|---|---|---|")
     for it in sorted(found, reverse=True)[: given.keep]:
         print(f"| {it.seed} | {it.seconds:.2f} | {it.mib:.0f} | {it.said} | {it.what} |")
