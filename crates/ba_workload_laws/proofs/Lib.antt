@@ -1,2 +1,5 @@
 pub mod SchemaLemmas
 pub mod PolicyLemmas
+pub mod LengthLemmas
+pub mod ConformLemmas
+pub mod ReadingLemmas
