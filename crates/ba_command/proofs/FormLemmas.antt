@@ -11,7 +11,7 @@ use Rattle.clap.specs.declared.Error.{Error}
 use Rattle.clap.specs.declared.error.ErrorKind.TheVariants.{OutOfMemory}
 use Rattle.clap.proofs.WalkLemmas.{first_value-rows}
 use Rattle.ba_command.specs.Words.{audit_app, audit_from, audit_of, check_app, check_from, check_of, gen_app, gen_from, gen_of, run_app, run_from, run_of, store_app, store_from, store_of, unless_fault}
-use Rattle.ba_command.specs.declared.command.Command.{Command}
+use Rattle.ba_command.specs.Deciding.{decide_app, decide_from, decide_of}
 use Rattle.ba_command.specs.declared.command.WordsFault.{WordsFault}
 use Rattle.ba_command.specs.declared.command.WordsFault.TheVariants.{NoForm}
 use Rattle.ba_model.specs.Readings.{Gives}
@@ -20,12 +20,12 @@ use Rattle.ba_model.specs.declared.failure.Failure.TheVariants.{NoMemory, Fault}
 
 -- ---- any command
 
--- two texts' values give one command where they are the same by each name
-abbrev AreValues : ((Text → Option Text) → Result Command WordsFault) → Type 0
+-- two texts' values give one result where they are the same by each name
+abbrev AreValues : {X : Type 0} → ((Text → Option Text) → Result X WordsFault) → Type 0
 AreValues from = (f g : Text → Option Text) → ((id : Text) → f id ≡ g id) → from f ≡ from g
 
 -- where `clap` finds no fault, its matches are those of the words
-form_reads : (known app : App) (from : (Text → Option Text) → Result Command WordsFault) (words : List Text) (m : ArgMatches) → is_simple known ≡ true → AreValues from → app ≡ known → HasMatchesOf app words m → fault_of app words ≡ []
+form_reads : {X : Type 0} (known app : App) (from : (Text → Option Text) → Result X WordsFault) (words : List Text) (m : ArgMatches) → is_simple known ≡ true → AreValues from → app ≡ known → HasMatchesOf app words m → fault_of app words ≡ []
     → from (first_value (found_of m)) ≡ unless_fault (fault_of known words) (from (λ id. first_of id (matches_of known words)))
 form_reads known app from words m plain same is has none =
     let rows : rows_of (found_of m) ≡ matches_of known words = (subst (λ z. HasMatchesOf z words m) is has plain).0 in
@@ -34,13 +34,13 @@ form_reads known app from words m plain same is has none =
     same (first_value (found_of m)) (λ id. first_of id (matches_of known words)) first
     ∙ ap (λ k. unless_fault k (from (λ id. first_of id (matches_of known words)))) (sym (subst (λ z. fault_of z words ≡ []) is none))
 
-faulty : (kinds : Kinds) (e : Error) → kind_of e ≢ OutOfMemory → HasKind kinds e → (found : Result Command WordsFault) → unless_fault kinds found ≡ Err NoForm
+faulty : {X : Type 0} (kinds : Kinds) (e : Error) → kind_of e ≢ OutOfMemory → HasKind kinds e → (found : Result X WordsFault) → unless_fault kinds found ≡ Err NoForm
 faulty kinds e other (inl h) found = absurd (other h)
 faulty [] e other (inr h) found = absurd h
 faulty (k ∷ ks) e other (inr h) found = refl
 
 -- a fault of `clap` is that the words are no form, or want of memory
-form_refuses : (known app : App) (words : List Text) (e : Error) (x : Failure WordsFault) (found : Result Command WordsFault) → app ≡ known → HasKind (fault_of app words) e
+form_refuses : {X : Type 0} (known app : App) (words : List Text) (e : Error) (x : Failure WordsFault) (found : Result X WordsFault) → app ≡ known → HasKind (fault_of app words) e
     → (x ≡ Fault NoForm → kind_of e ≢ OutOfMemory)
     → Gives (Err x) (unless_fault (fault_of known words) found)
 form_refuses known app words e NoMemory found is has other = tt
@@ -173,3 +173,25 @@ pub audit_refused : (app : App) (words : List Text) (e : Error) (x : Failure Wor
     → Gives (Err x) (audit_of words)
 unfolding audit_of
 audit_refused app words e x is has other = form_refuses audit_app app words e x _ is has other
+
+-- ---- decide
+
+decide_plain : is_simple decide_app ≡ true
+decide_plain = refl
+
+pub decide_free : is_simple_and_free decide_app ≡ true
+decide_free = refl
+
+decide_values : AreValues decide_from
+decide_values f g same = rw (same (codes "schema"), same (codes "policy"), same (codes "load"), same (codes "budget"), same (codes "evidence")) refl
+
+pub decide_ok : (app : App) (words : List Text) (m : ArgMatches) → app ≡ decide_app → HasMatchesOf app words m → fault_of app words ≡ []
+    → decide_from (first_value (found_of m)) ≡ decide_of words
+unfolding decide_of
+decide_ok app words m is has none = form_reads decide_app app decide_from words m decide_plain decide_values is has none
+
+pub decide_refused : (app : App) (words : List Text) (e : Error) (x : Failure WordsFault) → app ≡ decide_app → HasKind (fault_of app words) e
+    → (x ≡ Fault NoForm → kind_of e ≢ OutOfMemory)
+    → Gives (Err x) (decide_of words)
+unfolding decide_of
+decide_refused app words e x is has other = form_refuses decide_app app words e x _ is has other

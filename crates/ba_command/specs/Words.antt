@@ -171,7 +171,7 @@ abbrev pub audit_from : (Text → Option Text) → Result Command WordsFault
 audit_from given = as_audit (given_from given) (given (codes "output"))
 
 -- where `clap` finds no fault
-abbrev pub unless_fault : Kinds → Result Command WordsFault → Result Command WordsFault
+abbrev pub unless_fault : {X : Type 0} → Kinds → Result X WordsFault → Result X WordsFault
 unless_fault [] found = found
 unless_fault (kind ∷ kinds) found = Err NoForm
 

@@ -4,6 +4,7 @@
 mod audit;
 mod check;
 mod command;
+mod decide;
 mod form;
 mod generate;
 mod given;
@@ -14,4 +15,5 @@ mod store;
 mod words;
 
 pub use command::{Command, ORDERS, WordsFault};
+pub use decide::{Deciding, read_decide};
 pub use words::read_words;

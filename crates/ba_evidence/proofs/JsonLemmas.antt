@@ -1,5 +1,5 @@
 -- No line with evidence has a float, and none nests deeper than a reader goes.
-use Rattle.std.proofs.Common.{◌≡◌, ℕ, List, [], ◌∷◌, false, true, Bool, ◌||◌, Ordering, Less, Equal, Greater, ◌≤◌, max, map, refl, pos, negsuc, arith, ap}
+use Rattle.std.proofs.Common.{◌≡◌, ℕ, List, [], ◌∷◌, false, true, Bool, ◌||◌, Ordering, Less, Equal, Greater, ◌≤◌, map, refl, pos, negsuc, arith}
 use Rattle.std.specs.Cmp.Lexicographic.{slice_cmp}
 use Rattle.std.specs.Ordering.{nat_cmp, match_ordering}
 use Rattle.serde_json.specs.Data.{Data, Members, no_members, member, put, depth, items_depth, members_depth}
@@ -29,7 +29,7 @@ same_value (value.Text s) = refl
 -- ---- no floats
 
 -- items of which none has one
-all_whole : {X : Type 0} (json : X → Data) → ((x : X) → has_float (json x) ≡ false) → (xs : List X) → items_have_float (items_of (map json xs)) ≡ false
+pub all_whole : {X : Type 0} (json : X → Data) → ((x : X) → has_float (json x) ≡ false) → (xs : List X) → items_have_float (items_of (map json xs)) ≡ false
 all_whole json one [] = refl
 all_whole json one (x ∷ xs) = rw (one x) (all_whole json one xs)
 
@@ -49,7 +49,7 @@ part_whole : (it : PartCover) → has_float (part_json it) ≡ false
 unfolding part_json
 part_whole it = rw (all_whole count (λ n. refl) it.places) refl
 
-evidence_whole : (params : List Parameter) (it : Evidence) → has_float (evidence_json params it) ≡ false
+pub evidence_whole : (params : List Parameter) (it : Evidence) → has_float (evidence_json params it) ≡ false
 evidence_whole params (covered cover) = all_whole part_json part_whole cover.parts
 evidence_whole params (matched steps) = steps_whole params 0 steps
 evidence_whole params (proved steps) = steps_whole params 0 steps
@@ -88,7 +88,7 @@ tables_whole (table ∷ tables) (rows ∷ sets) ms h = tables_whole tables sets 
 database_whole : (schema : Schema) (d : RowSet) → has_float (database_json schema d) ≡ false
 database_whole schema d = tables_whole schema.tables d.tables no_members refl
 
-pair_whole : (schema : Schema) (pair : Counterexample) → has_float (pair_json schema pair) ≡ false
+pub pair_whole : (schema : Schema) (pair : Counterexample) → has_float (pair_json schema pair) ≡ false
 unfolding pair_json
 pair_whole schema pair = rw (database_whole schema pair.one, row_whole pair.row, database_whole schema pair.two) refl
 
@@ -111,7 +111,7 @@ told_json params grounds rests key line request version h = rw (h.names, h.proof
 -- ---- how deep
 
 -- items of which none is deeper
-all_flat : {X : Type 0} (json : X → Data) (n : ℕ) → ((x : X) → depth (json x) ≤ n) → (xs : List X) → items_depth (items_of (map json xs)) ≤ n
+pub all_flat : {X : Type 0} (json : X → Data) (n : ℕ) → ((x : X) → depth (json x) ≤ n) → (xs : List X) → items_depth (items_of (map json xs)) ≤ n
 all_flat json n one [] = omega arith
 all_flat json n one (x ∷ xs) = let first = one x in let rest = all_flat json n one xs in omega arith
 
@@ -130,7 +130,7 @@ part_flat : (it : PartCover) → depth (part_json it) ≤ 2
 unfolding part_json
 part_flat it = let flat = all_flat count 0 (λ n. omega arith) it.places in omega arith
 
-evidence_flat : (params : List Parameter) (it : Evidence) → depth (evidence_json params it) ≤ 4
+pub evidence_flat : (params : List Parameter) (it : Evidence) → depth (evidence_json params it) ≤ 4
 evidence_flat params (covered cover) = let flat = all_flat part_json 2 part_flat cover.parts in omega arith
 evidence_flat params (matched steps) = let flat = steps_flat params 0 steps in omega arith
 evidence_flat params (proved steps) = let flat = steps_flat params 0 steps in omega arith
@@ -165,7 +165,7 @@ tables_flat (table ∷ tables) (rows ∷ sets) ms h = tables_flat tables sets _ 
 database_flat : (schema : Schema) (d : RowSet) → depth (database_json schema d) ≤ 3
 database_flat schema d = let flat = tables_flat schema.tables d.tables no_members (omega arith) in omega (arith, flat)
 
-pair_flat : (schema : Schema) (pair : Counterexample) → depth (pair_json schema pair) ≤ 4
+pub pair_flat : (schema : Schema) (pair : Counterexample) → depth (pair_json schema pair) ≤ 4
 unfolding pair_json
 pair_flat schema pair = let one = database_flat schema pair.one in let row = row_flat pair.row in let two = database_flat schema pair.two in omega arith
 

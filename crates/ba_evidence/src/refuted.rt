@@ -46,7 +46,11 @@ fn database_json(alloc: Global, schema: &Schema, database: &RowSet) -> Result<Js
 }
 
 #[tactic(auto, unfolding(crate::specs::Evidence::pair_json))]
-fn pair_json(alloc: Global, schema: &Schema, pair: &Counterexample) -> Result<Json, AllocError>
+pub(crate) fn pair_json(
+    alloc: Global,
+    schema: &Schema,
+    pair: &Counterexample,
+) -> Result<Json, AllocError>
     ensures { IfOk result (λ v. view v ≡ pair_json schema.now pair.now) }
 {
     let mut members = Map::new(alloc);

@@ -7,3 +7,4 @@ pub mod Stops
 pub mod Reading
 pub mod Reads
 pub mod Causes
+pub mod Deciding

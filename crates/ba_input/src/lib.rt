@@ -3,6 +3,7 @@
 
 mod audit_input;
 mod command;
+mod deciding;
 mod detail;
 mod input;
 mod proof_input;
@@ -13,6 +14,7 @@ mod template_input;
 mod workload;
 
 pub use command::read_task;
+pub use deciding::{PolicyInput, read_policy_input};
 pub use detail::Detail;
 pub use input::Input;
 pub use refusal::fault_of;

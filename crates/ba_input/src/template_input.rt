@@ -45,8 +45,8 @@ fn templates_at(
     }
 }
 
-// The templates of a file.
-fn read_loaded<F: Files>(
+/// The templates of a file.
+pub(crate) fn read_loaded<F: Files>(
     alloc: Global,
     files: &mut F,
     file: &str,

@@ -102,7 +102,8 @@ pub enum Line<'a> {
 }
 
 impl By {
-    pub(crate) fn name(self) -> &'static str
+    /// The name under which it is printed.
+    pub fn name(self) -> &'static str
         ensures { result.now ≡ by_name self }
     {
         match self {
@@ -114,7 +115,7 @@ impl By {
 }
 
 impl Block {
-    fn name(self) -> &'static str
+    pub(crate) fn name(self) -> &'static str
         ensures { result.now ≡ block_name self }
     {
         match self {
@@ -125,7 +126,7 @@ impl Block {
     }
 }
 
-fn clause_name(clause: Clause) -> &'static str
+pub(crate) fn clause_name(clause: Clause) -> &'static str
     ensures { result.now ≡ clause_name clause }
 {
     match clause {
@@ -140,7 +141,7 @@ fn clause_name(clause: Clause) -> &'static str
 }
 
 // What isn't supported, if that is the fault.
-fn unsupported_in(fault: &ReadQueryFault) -> Option<&Str>
+pub(crate) fn unsupported_in(fault: &ReadQueryFault) -> Option<&Str>
     ensures { option_copied result ≡ unsupported_in fault.now }
 {
     match fault {

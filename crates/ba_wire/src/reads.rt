@@ -11,7 +11,7 @@ use serde_json::Value as Json;
 use std::alloc::{AllocError, Global};
 
 // What each of the queries rests on.
-fn names_json(alloc: Global, by: &[By]) -> Result<Json, AllocError>
+pub(crate) fn names_json(alloc: Global, by: &[By]) -> Result<Json, AllocError>
     ensures { IfOk result (λ v. view v ≡ names_json by.now) }
 {
     let mut items = Vec::with_capacity(alloc, by.len())?;

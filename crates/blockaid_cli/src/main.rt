@@ -9,12 +9,14 @@
 
 ghost use Rattle.std.specs.Prelude.{◌≡◌};
 
+mod deciding;
 mod findings;
 mod progress;
 mod reasons;
 
 use ba_explain::{Ended, run_words};
 use ba_outside::StdSink;
+use deciding::serve_lines;
 use findings::tell_findings;
 use progress::Progress;
 use reasons::explain_words;
@@ -88,6 +90,7 @@ fn main(rt: HostRuntime) -> ExitCode {
     let status = match words.as_slice() {
         [first, rest @ ..] if first.as_str() == "why" => explain_words(&rt, rest),
         [first, rest @ ..] if first.as_str() == "lint" => tell_findings(&rt, rest),
+        [first, rest @ ..] if first.as_str() == "decide" => serve_lines(&rt, rest),
         all => run(&rt, rt.stdout(), all),
     };
     ExitCode::from(status)

@@ -1,0 +1,12 @@
+use Rattle.std.proofs.Common.{◌∙◌, ap₂}
+use Rattle.std.proofs.lemmas.Result.{IfOk-weaker}
+use Rattle.clap.specs.Simple.{with_rule}
+use Rattle.ba_command.proofs.decide.decide_form.Goals as goal
+
+pub returns : goal.returns
+returns c =
+    let schema = c.in_ok-arg.ensures.shape c.needed.ensures.local ∙ ap₂ with_rule c.bare.ensures c.needed.ensures.rule in
+    let policy = c.in_ok-arg-2.ensures.shape c.needed-2.ensures.local ∙ ap₂ with_rule schema c.needed-2.ensures.rule in
+    let load = c.in_ok-arg-3.ensures.shape c.option.ensures.local ∙ ap₂ with_rule policy c.option.ensures.rule in
+    let budget = c.in_ok-arg-4.ensures.shape c.number.ensures.local ∙ ap₂ with_rule load c.number.ensures.rule in
+    IfOk-weaker c.arg-5.result _ _ (λ form h. h.shape c.flag.ensures.local ∙ ap₂ with_rule budget c.flag.ensures.rule) c.arg-5.ensures

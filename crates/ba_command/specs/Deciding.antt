@@ -1,0 +1,33 @@
+-- What the words behind `decide` ask for, over what `clap` says of a simple command.
+use Rattle.std.specs.Prelude.{ℕ, List, Bool, codes, Option, Some, None, Result, Ok, Err}
+use Rattle.clap.specs.Faults.{fault_of}
+use Rattle.clap.specs.Simple.{App, matches_of, with_rule}
+use Rattle.clap.specs.Walk.{Text, first_of}
+use Rattle.ba_command.specs.Words.{bare, flag_rule, is_set, needed, number_or, number_rule, option_rule, unless_fault}
+use Rattle.ba_command.specs.declared.command.WordsFault.{WordsFault}
+use Rattle.ba_command.specs.declared.command.WordsFault.TheVariants.{NoForm}
+use Rattle.ba_command.specs.declared.decide.Deciding.{Deciding}
+use Rattle.ba_model.specs.Limits.{least_budget, most_budget, usual_budget}
+
+-- decide --schema S --policy P [--load T] [--budget B] [--evidence]
+abbrev pub decide_app : App
+decide_app = with_rule (with_rule (with_rule (with_rule (with_rule (bare (codes "decide"))
+    (needed (option_rule (codes "schema"))))
+    (needed (option_rule (codes "policy"))))
+    (option_rule (codes "load")))
+    (number_rule (codes "budget") least_budget most_budget))
+    (flag_rule (codes "evidence"))
+
+abbrev pub with_names : Option Text → Option Text → Option Text → ℕ → Bool → Result Deciding WordsFault
+with_names (Some schema) (Some policy) load budget evidence = Ok (record { schema = schema; policy = policy; load = load; budget = budget; evidence = evidence })
+with_names None policy load budget evidence = Err NoForm
+with_names (Some schema) None load budget evidence = Err NoForm
+
+-- what the values of the options ask for
+abbrev pub decide_from : (Text → Option Text) → Result Deciding WordsFault
+decide_from given = with_names (given (codes "schema")) (given (codes "policy")) (given (codes "load"))
+    (number_or least_budget most_budget usual_budget (given (codes "budget"))) (is_set (given (codes "evidence")))
+
+-- what the words behind `decide` ask for
+unfoldable pub decide_of : List Text → Result Deciding WordsFault
+decide_of words = unless_fault (fault_of decide_app words) (decide_from (λ id. first_of id (matches_of decide_app words)))

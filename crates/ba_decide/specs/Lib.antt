@@ -1,0 +1,6 @@
+pub mod Text
+pub mod Evident
+pub mod Journal
+pub mod Ran
+pub mod Told
+pub mod Decided

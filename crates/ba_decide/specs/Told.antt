@@ -1,0 +1,156 @@
+-- What a request was told, by the lines alone, and what that says of its questions.
+use Rattle.std.specs.Prelude.{◌≡◌, ℕ, ◌+◌, ◌<◌, ◌≤◌, List, All, Ok, Some, slice_get, take, ⊤}
+use Rattle.ba_comply.specs.Comply.{Agree}
+use Rattle.ba_comply.specs.declared.trace.TraceEntry.{TraceEntry}
+use Rattle.ba_decide.specs.Journal.{Entry, said}
+use Rattle.ba_event.specs.Events.{event_of}
+use Rattle.ba_event.specs.declared.event.Event.{Event}
+use Rattle.ba_event.specs.declared.event.Event.TheVariants as event
+use Rattle.ba_judge.specs.Judging.{IsBlockedFor, IsStrong}
+use Rattle.ba_judge.specs.declared.reading.Read.TheVariants as read
+use Rattle.ba_judge.specs.declared.verdict.Allowed.{Allowed}
+use Rattle.ba_judge.specs.declared.verdict.Reason.{Reason}
+use Rattle.ba_keys.specs.Literals.{key_queries}
+use Rattle.ba_live.specs.Laws.{RecordsTold, ToldRows}
+use Rattle.ba_live.specs.Steps.{key_named}
+use Rattle.ba_live.specs.declared.decision.Decision.{Decision}
+use Rattle.ba_live.specs.declared.decision.Decision.TheVariants as decided
+use Rattle.ba_model.specs.Conform.{Conforms}
+use Rattle.ba_model.specs.Meaning.{InAnswer, IsAnswer}
+use Rattle.ba_model.specs.declared.policy.CacheKey.{CacheKey}
+use Rattle.ba_model.specs.declared.policy.Context.{Context}
+use Rattle.ba_model.specs.declared.policy.Policy.{Policy}
+use Rattle.ba_model.specs.declared.query.Query.{Query}
+use Rattle.ba_model.specs.declared.value.RowSet.{RowSet}
+use Rattle.ba_model.specs.declared.value.Value.{Value}
+use Rattle.ba_script.specs.Contexts.{context_of}
+use Rattle.ba_script.specs.declared.line.Member.{Member}
+use Rattle.ba_settle.specs.Settling.{Effort}
+use Rattle.ba_sql_query.specs.Texts.{query_of}
+
+-- the entry at this place, from 0, says the event, and has the decision
+pub record At (journal : List Entry) (place : ℕ) (it : Event) (decision : Decision) : Type 0 where
+  pub entry : Entry
+  pub there : slice_get journal place ≡ Some entry
+  pub bytes : List ℕ
+  pub heard : entry.heard ≡ said bytes
+  pub says : event_of bytes ≡ Ok it
+  pub decision_is : entry.decision ≡ decision
+
+-- the name was begun or ended at this place
+pub data Turns (journal : List Entry) (name : List ℕ) (place : ℕ) : Type 0 where
+  begins : (members : List Member) → At journal place (event.Begin name members) decided.Begun →
+      Turns journal name place
+  ends : At journal place (event.End name) decided.Ended → Turns journal name place
+
+-- the request that is open under the name began at this place, with this context
+pub record BeganAt (policy : Policy) (journal : List Entry) (name : List ℕ) (context : Context)
+    (place : ℕ) : Type 0 where
+  pub members : List Member
+  pub at : At journal place (event.Begin name members) decided.Begun
+  pub context_is : context_of policy.params members ≡ Some context
+  pub last : (later : ℕ) → place < later → Turns journal name later → ⊥
+
+-- the line of this number asks the query, of the request that began at this place, and is allowed
+pub record WasAllowed (policy : Policy) (journal : List Entry) (name : List ℕ) (began line : ℕ)
+    (query : Query) : Type 0 where
+  pub place : ℕ
+  pub line_is : line ≡ place + 1
+  pub after : began < place
+  pub text : List ℕ
+  pub by : Allowed
+  pub asks : At journal place (event.Ask name text) (decided.Allowed by)
+  pub reads : query_of policy.schema policy.params text ≡ Ok query
+
+-- the rows of such a line were recorded, or, where there was no memory for all of them, a front
+abbrev pub MayRecord : Decision → Type 0
+MayRecord decided.Told = ⊤
+MayRecord decided.Memory = ⊤
+MayRecord _ = ⊥
+
+-- A later line told these rows of an allowed question of the request, and wasn't refused.
+pub record WasTold (policy : Policy) (journal : List Entry) (name : List ℕ) (began : ℕ)
+    (it : ToldRows) : Type 0 where
+  pub line : ℕ
+  pub allowed : WasAllowed policy journal name began line it.query
+  pub place : ℕ
+  pub later : line ≤ place
+  pub decision : Decision
+  pub recorded : MayRecord decision
+  pub tells : At journal place (event.Told line it.rows) decision
+
+-- The request that is open under the name after these lines has this context, and this trace, in
+-- which nothing is recorded but what it was told in these lines.
+pub record IsAsker (policy : Policy) (journal : List Entry) (name : List ℕ) (context : Context)
+    (trace : List TraceEntry) : Type 0 where
+  pub began : ℕ
+  pub request : BeganAt policy journal name context began
+  pub told : List ToldRows
+  pub were : All (WasTold policy journal name began) told
+  pub records : RecordsTold policy context told trace
+
+-- all that the request was told is in its questions' answers
+pub record GivesAll (policy : Policy) (journal : List Entry) (name : List ℕ) (began : ℕ)
+    (c : Context) (d : RowSet) : Type 0 where
+  pub each : (it : ToldRows) → WasTold policy journal name began it →
+      All (InAnswer it.query c d) it.rows
+
+-- The user can't tell the databases apart: both meet the schema, they agree on the views, and all
+-- that the request was told is in the answers of both.
+pub record AreAlike (policy : Policy) (journal : List Entry) (name : List ℕ) (began : ℕ)
+    (c : Context) (d e : RowSet) : Type 0 where
+  pub conforms_one : Conforms policy.schema d
+  pub conforms_two : Conforms policy.schema e
+  pub agree : Agree policy c d e
+  pub gives_one : GivesAll policy journal name began c d
+  pub gives_two : GivesAll policy journal name began c e
+
+-- After these lines the query, asked by the request that is open under the name, is strongly
+-- compliant, and so has one answer in any two databases that the user can't tell apart.
+pub record IsSafe (policy : Policy) (journal : List Entry) (name : List ℕ) (query : Query)
+    : Type 0 where
+  pub context : Context
+  pub trace : List TraceEntry
+  pub asker : IsAsker policy journal name context trace
+  pub strong : IsStrong
+      (record { policy = policy; context = context; trace = trace; query = query })
+  pub one_answer : (d e : RowSet) (xs ys : List (List Value)) →
+      AreAlike policy journal name asker.began context d e →
+      IsAnswer query context d xs → IsAnswer query context e ys → xs ≡ ys
+
+-- it isn't covered, and is blocked for this reason
+pub record IsDenied (policy : Policy) (effort : Effort) (journal : List Entry) (name : List ℕ)
+    (query : Query) (reason : Reason) : Type 0 where
+  pub context : Context
+  pub trace : List TraceEntry
+  pub asker : IsAsker policy journal name context trace
+  pub blocked : IsBlockedFor
+      (record { policy = policy; context = context; trace = trace; query = query }) effort reason
+
+-- of the text's query this is so
+abbrev pub OfText : Policy → List ℕ → (Query → Type 0) → Type 0
+OfText policy text P =
+    (query : Query) × (query_of policy.schema policy.params text ≡ Ok query) × P query
+
+-- the queries are those of the policy's key of this name, with these arguments
+pub record AreOfKey (policy : Policy) (key : List ℕ) (members : List Member) (queries : List Query)
+    : Type 0 where
+  pub found : CacheKey
+  pub named : key_named key policy.keys ≡ Some found
+  pub arguments : Context
+  pub given : context_of found.arguments members ≡ Some arguments
+  pub queries_are : queries ≡ key_queries policy found arguments
+
+-- Each allowed question is safe after the lines before it, and so is each query of a key that may
+-- be read; each block has its reason.
+pub record Headline (policy : Policy) (effort : Effort) (journal : List Entry) : Type 0 where
+  pub allowed : (place : ℕ) (name text : List ℕ) (by : Allowed) →
+      At journal place (event.Ask name text) (decided.Allowed by) →
+      OfText policy text (IsSafe policy (take place journal) name)
+  pub blocked : (place : ℕ) (name text : List ℕ) (reason : Reason) →
+      At journal place (event.Ask name text) (decided.Blocked reason) →
+      OfText policy text (λ query. IsDenied policy effort (take place journal) name query reason)
+  pub read : (place : ℕ) (name key : List ℕ) (members : List Member) (queries : List Query)
+      (by : List Allowed) →
+      At journal place (event.Read name key members) (decided.Read (read.Allowed queries by)) →
+      AreOfKey policy key members queries × All (IsSafe policy (take place journal) name) queries

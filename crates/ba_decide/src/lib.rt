@@ -1,0 +1,9 @@
+//! The decision service: lines in, decisions out, a line each.
+#![tactic(auto)]
+
+mod answer;
+mod evident;
+mod serve;
+mod top;
+
+pub use top::{Ending, decide};

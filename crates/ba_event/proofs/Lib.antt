@@ -1,0 +1,4 @@
+pub mod ExactLemmas
+pub mod ItemLemmas
+pub mod TextLemmas
+pub mod ToldLemmas

@@ -1,0 +1,4 @@
+pub mod JudgeLemmas
+pub mod ReadLemmas
+pub mod ShelfLemmas
+pub mod UnionLemmas

@@ -1,0 +1,26 @@
+use Rattle.std.proofs.Common.{◌∙◌, ap, subst}
+use Rattle.ba_judge.proofs.UnionLemmas.{blocked_at, part_allowed, part_there, parts_more, with_query}
+use Rattle.ba_judge.specs.Judging.{IsAllowedBy, IsBlocked, effort_in, seen}
+use Rattle.ba_judge.specs.declared.verdict.By.{By}
+use Rattle.ba_model.specs.declared.query.Query.{Query}
+use Rattle.std.specs.Prelude.{MatchOption, Option}
+use Rattle.ba_judge.proofs.union.each_allowed.Goals as goal
+
+pub loop-part-preserved : goal.loop-part-preserved
+loop-part-preserved g c =
+    let asked = seen c.args.asked.now in
+    let effort = effort_in (g.S.Settle.orders c.args.settle.now) c.args.budget in
+    let query = c.in_ok-query.query in
+    let own = subst (λ (o : Option By). MatchOption o (IsBlocked (with_query asked query) effort) (IsAllowedBy (with_query asked query) effort)) c.in-Some.is c.in_ok-allowed.ensures in
+    parts_more asked effort c.as_slice-part-items.result.now c.loop-part.part-index c.part-item.result c.loop-part-test.true c.part-item.is c.loop-part.grounds c.push.new.self c.in-Some.by c.loop-part.invariant
+    (part_allowed asked effort c.part-item.result query c.in-Some.by (c.in_ok-query.ensures ∙ c.in_ok-alone.ensures) own) c.in_ok-push-in-Some.ensures.ok
+
+pub returns-in-None-clause-blocked : goal.returns-in-None-clause-blocked
+returns-in-None-clause-blocked g c = λ none several.
+    let asked = seen c.args.asked.now in
+    let effort = effort_in (g.S.Settle.orders c.args.settle.now) c.args.budget in
+    let query = c.in_ok-query.query in
+    let parts_are = c.as_slice-part-items.ensures ∙ ap (λ (q : Query). q.parts) c.deref-2.ensures in
+    let own = subst (λ (o : Option By). MatchOption o (IsBlocked (with_query asked query) effort) (IsAllowedBy (with_query asked query) effort)) c.in-None.is c.in_ok-allowed.ensures in
+    blocked_at asked effort c.part-item.result query (part_there asked.query.parts c.as_slice-part-items.result.now c.loop-part.part-index c.part-item.result parts_are c.loop-part-test.true c.part-item.is)
+    (c.in_ok-query.ensures ∙ c.in_ok-alone.ensures) own

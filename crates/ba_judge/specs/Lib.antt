@@ -1,0 +1,4 @@
+pub mod Judging
+pub mod Reading
+pub mod Rows
+pub mod Shelves

@@ -1,0 +1,127 @@
+//! Whether a question may be answered: as a whole where views cover it, else part by part, else as a
+//! whole.
+ghost use Rattle.std.specs.Prelude.{◌≡◌, ◌<◌, ◌≤◌, IfOk, IfSome, MatchOption, None, length};
+ghost use Rattle.ba_kernel.specs.Asked.{QuestionFits};
+ghost use Rattle.ba_model.specs.Limits.{most_budget};
+ghost use Rattle.ba_judge.specs.Judging.{HasBlockedPart, IsAllowedBy, IsBlocked, IsByParts, Judges, LooksAtParts, ServesFirst, effort_in, seen};
+ghost use Rattle.ba_judge.specs.Shelves.{standing_for};
+
+use crate::asking::Asking;
+use crate::shelves::Shelves;
+use crate::verdict::{Allowed, By, Judgement};
+use crate::whole::{Finding, conclude};
+use ba_direct::cover;
+use ba_model::{List, Shared};
+use ba_parts::laws::{part_is_query, union_is_strong};
+use ba_settle::Settle;
+use ba_told::alone;
+use std::alloc::{AllocError, Global};
+
+/// Whether the question may be answered after what its request was told.
+///
+/// It is allowed where single views cover it. Else, where it has several parts, it is allowed where
+/// each of them is as a question of its own: covered, served by the first template that matches of
+/// those that stand on the shelves for its shape, or proved to be strongly compliant by a search of
+/// at most `budget` due steps. Else it is looked at as a whole in the same way: allowed, or blocked
+/// with a reason that can be checked. The template of each proof is kept on the shelves.
+///
+/// The question fits its policy, as do the context and the trace, and the budget is at most
+/// [`ba_model::MAX_BUDGET`] steps. The error is want of memory.
+pub fn judge<S: Settle>(
+    alloc: Global,
+    asked: &Asking<'_>,
+    shelves: &mut Shelves,
+    settle: &S,
+    budget: u32,
+) -> Result<Judgement, AllocError>
+    requires fits { QuestionFits (seen asked.now).policy (seen asked.now).context
+        (seen asked.now).trace (seen asked.now).query }
+    requires limit { budget ≤ most_budget }
+    ensures judges { IfOk result
+        (Judges (seen asked.now) (effort_in (S.orders settle.now) budget)) }
+    ensures first { length asked.now.query.now.parts < 2 → IfOk result
+        (ServesFirst (seen asked.now) (standing_for shelves.old asked.now.query.now)) }
+    ensures parts { 2 ≤ length asked.now.query.now.parts → IfOk result
+        (LooksAtParts (seen asked.now) (effort_in (S.orders settle.now) budget)) }
+{
+    union_is_strong();
+    let covered = cover(alloc, asked.policy, asked.context, asked.query)?;
+    if let Some(cover) = covered {
+        return Ok(Judgement::Allowed(Allowed::Whole(By::Cover(cover))));
+    }
+    let each = each_allowed(alloc, asked, shelves, settle, budget)?;
+    if let Some(grounds) = each {
+        return Ok(Judgement::Allowed(Allowed::Parts(grounds)));
+    }
+    let finding = conclude(alloc, asked, shelves, settle, budget)?;
+    match finding {
+        Finding::Allow(by) => Ok(Judgement::Allowed(Allowed::Whole(by))),
+        Finding::Deny(reason) => Ok(Judgement::Blocked(reason)),
+    }
+}
+
+// Why each part of the question is allowed, as a question of its own, if it has several and all are.
+fn each_allowed<S: Settle>(
+    alloc: Global,
+    asked: &Asking<'_>,
+    shelves: &mut Shelves,
+    settle: &S,
+    budget: u32,
+) -> Result<Option<List<By>>, AllocError>
+    requires fits { QuestionFits (seen asked.now).policy (seen asked.now).context
+        (seen asked.now).trace (seen asked.now).query }
+    requires limit { budget ≤ most_budget }
+    ensures parts { IfOk result (λ grounds. IfSome grounds
+        (IsByParts (seen asked.now) (effort_in (S.orders settle.now) budget))) }
+    ensures blocked { IfOk result (λ grounds. grounds ≡ None
+        → 2 ≤ length asked.now.query.now.parts
+        → HasBlockedPart (seen asked.now) (effort_in (S.orders settle.now) budget)) }
+    ensures one { length asked.now.query.now.parts < 2 → shelves.new ≡ shelves.old }
+{
+    part_is_query();
+    if asked.query.parts.len() < 2 {
+        return Ok(None);
+    }
+    let mut grounds = List::new(alloc);
+    for part in asked.query.parts.as_slice() {
+        let query = Shared::new(alloc, alone(alloc, part)?)?;
+        let own = Asking {
+            policy: asked.policy,
+            context: asked.context,
+            trace: asked.trace,
+            query: &query,
+        };
+        let allowed = allowed_alone(alloc, &own, shelves, settle, budget)?;
+        match allowed {
+            Some(by) => grounds.push(by)?,
+            None => return Ok(None),
+        }
+    }
+    Ok(Some(grounds))
+}
+
+// Why a question is allowed that is looked at as a whole, if it is.
+fn allowed_alone<S: Settle>(
+    alloc: Global,
+    asked: &Asking<'_>,
+    shelves: &mut Shelves,
+    settle: &S,
+    budget: u32,
+) -> Result<Option<By>, AllocError>
+    requires fits { QuestionFits (seen asked.now).policy (seen asked.now).context
+        (seen asked.now).trace (seen asked.now).query }
+    requires limit { budget ≤ most_budget }
+    ensures { IfOk result (λ by. MatchOption by
+        (IsBlocked (seen asked.now) (effort_in (S.orders settle.now) budget))
+        (IsAllowedBy (seen asked.now) (effort_in (S.orders settle.now) budget))) }
+{
+    let covered = cover(alloc, asked.policy, asked.context, asked.query)?;
+    if let Some(cover) = covered {
+        return Ok(Some(By::Cover(cover)));
+    }
+    let finding = conclude(alloc, asked, shelves, settle, budget)?;
+    match finding {
+        Finding::Allow(by) => Ok(Some(by)),
+        Finding::Deny(_) => Ok(None),
+    }
+}

@@ -1,0 +1,55 @@
+//! What a judgement tells.
+
+use ba_direct::Cover;
+use ba_kernel::Step;
+use ba_model::{List, Shared};
+use ba_refute::{Clause, Counterexample};
+use ba_settle::Leaf;
+use ba_template::{Match, Template};
+
+/// Why a question is allowed: the evidence.
+#[derive(Drop)]
+pub enum By {
+    /// Views cover the question: one for each part, with a pairing of the tables.
+    Cover(Cover),
+    /// No views cover it. The template is the first that matches of those that stood on the shelves
+    /// for the question's shape, and this is its first match.
+    Template {
+        template: Shared<Template>,
+        found: Match,
+    },
+    /// No views cover it, no template that stood there matches, and these are the due steps, at most
+    /// as many as the budget, that leave no branch of its problem open.
+    Proof(List<Step>),
+}
+
+/// On what an allowed question rests: on its own evidence, or on that of each part, in their order,
+/// as a question of its own.
+#[derive(Drop)]
+pub enum Allowed {
+    Whole(By),
+    Parts(List<By>),
+}
+
+/// Why a question is blocked, which no views cover and no template that stood there matches: the
+/// evidence.
+#[derive(Drop)]
+pub enum Reason {
+    /// The due steps end at a saturated branch, and its image is this: two databases and a row that
+    /// show that the question isn't strongly compliant after what was told.
+    Refuted(Counterexample),
+    /// As many due steps as the budget has. They leave an open branch, and each open branch has a
+    /// new step.
+    Spent(List<Step>),
+    /// The due steps that end at a saturated branch, and the first clause that its image doesn't
+    /// meet. Whether the question is strongly compliant isn't known.
+    Stuck(Leaf, Clause),
+}
+
+/// Whether a question may be answered, with the evidence.
+#[derive(Drop)]
+pub enum Judgement {
+    /// It is strongly compliant after what was told.
+    Allowed(Allowed),
+    Blocked(Reason),
+}

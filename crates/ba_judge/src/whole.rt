@@ -1,0 +1,154 @@
+//! Whether a question may be answered, as a whole.
+ghost use Rattle.std.specs.Prelude.{◌≡◌, ◌≤◌, IfOk, List};
+ghost use Rattle.ba_general.specs.Generals.{IsOfQuestion};
+ghost use Rattle.ba_kernel.specs.Asked.{QuestionFits};
+ghost use Rattle.ba_kernel.specs.Problems.{StrongAll};
+ghost use Rattle.ba_kernel.specs.SearchStates.{Proof};
+ghost use Rattle.ba_model.specs.Limits.{most_budget};
+ghost use Rattle.ba_judge.specs.Judging.{Concludes, IsReason, IsServing, NoneServes, TakesFirst, Uncovered, effort_in, question_of, seen};
+ghost use Rattle.ba_judge.specs.Shelves.{standing_for};
+ghost use Rattle.ba_settle.specs.Dues.{IsLeaf};
+ghost use Rattle.ba_settle.specs.Settling.{Effort, Settles};
+ghost use Rattle.ba_settle.specs.declared.ends.Settled.TheVariants as settled;
+
+use crate::asking::Asking;
+use crate::keep::keep;
+use crate::shelves::Shelves;
+use crate::verdict::{By, Reason};
+use ba_kernel::laws::problem_is_question;
+use ba_kernel::{Problem, Proved};
+use ba_match::match_template;
+use ba_model::{Duplicate, Shared};
+use ba_refute::{Question, Refutal, try_pair};
+use ba_settle::laws::settled_are_leaves;
+use ba_settle::{Leaf, Settle, Settled};
+use ba_template::laws::matched_is_strong;
+use ba_template::{Shape, Template};
+use std::alloc::{AllocError, Global};
+
+/// How a question that no views cover comes out: why it is allowed, or why it is blocked.
+#[derive(Drop)]
+pub(crate) enum Finding {
+    Allow(By),
+    Deny(Reason),
+}
+
+/// How a question comes out that isn't covered: by the first template that matches of those that
+/// stand on the shelves for its shape, or else by a search of at most `budget` due steps, whose proof
+/// is kept as a template.
+pub(crate) fn conclude<S: Settle>(
+    alloc: Global,
+    asked: &Asking<'_>,
+    shelves: &mut Shelves,
+    settle: &S,
+    budget: u32,
+) -> Result<Finding, AllocError>
+    requires fits { QuestionFits (seen asked.now).policy (seen asked.now).context
+        (seen asked.now).trace (seen asked.now).query }
+    requires limit { budget ≤ most_budget }
+    requires uncovered { Uncovered (seen asked.now) }
+    ensures concludes { IfOk result
+        (Concludes (seen asked.now) (effort_in (S.orders settle.now) budget)) }
+    ensures first { IfOk result
+        (TakesFirst (seen asked.now) (standing_for shelves.old asked.now.query.now)) }
+{
+    matched_is_strong();
+    let shape = Shape::of(alloc, &[], asked.query)?;
+    let found = shelves.look(&shape)?;
+    let served = serving(alloc, asked, found.as_slice())?;
+    match served {
+        Some(by) => Ok(Finding::Allow(by)),
+        None => search(alloc, asked, shelves, settle, budget),
+    }
+}
+
+/// The first of the templates that matches the question, as a reason to allow it.
+fn serving(
+    alloc: Global,
+    asked: &Asking<'_>,
+    found: &[Shared<Template>],
+) -> Result<Option<By>, AllocError>
+    ensures { IfOk result (IsServing (seen asked.now) found.now) }
+{
+    for template in found {
+        let _sound = template.problem();
+        let matched = match_template(
+            alloc,
+            template,
+            asked.policy,
+            asked.context,
+            asked.trace,
+            asked.query,
+        )?;
+        if let Some(found) = matched {
+            let template = template.copy(alloc)?;
+            return Ok(Some(By::Template { template, found }));
+        }
+    }
+    Ok(None)
+}
+
+/// What a search for a proof of the question finds. The template of a proof is kept.
+fn search<S: Settle>(
+    alloc: Global,
+    asked: &Asking<'_>,
+    shelves: &mut Shelves,
+    settle: &S,
+    budget: u32,
+) -> Result<Finding, AllocError>
+    requires fits { QuestionFits (seen asked.now).policy (seen asked.now).context
+        (seen asked.now).trace (seen asked.now).query }
+    requires limit { budget ≤ most_budget }
+    requires uncovered { Uncovered (seen asked.now) }
+    ensures concludes { IfOk result
+        (Concludes (seen asked.now) (effort_in (S.orders settle.now) budget)) }
+    ensures first { (found : List Proof) → NoneServes (seen asked.now) found
+        → IfOk result (TakesFirst (seen asked.now) found) }
+{
+    problem_is_question();
+    settled_are_leaves();
+    let problem = Problem::of(alloc, asked.policy, asked.context, asked.trace, asked.query)?;
+    let settled = settle.settle(alloc, problem, budget)?;
+    match settled {
+        Settled::Proved(proved) => Ok(Finding::Allow(by_proof(alloc, shelves, proved))),
+        Settled::Saturated(leaf) => {
+            let reason = reason_of(alloc, asked, leaf)?;
+            Ok(Finding::Deny(reason))
+        }
+        Settled::Spent(steps) => Ok(Finding::Deny(Reason::Spent(steps))),
+    }
+}
+
+/// The proof as a reason to allow its question. Its template is kept.
+fn by_proof(alloc: Global, shelves: &mut Shelves, proved: Proved) -> By
+    requires question { IsOfQuestion proved.problem }
+    ensures by { result ≡ By.Proof proved.steps }
+    ensures strong { StrongAll proved.problem }
+{
+    let _strong = proved.problem();
+    keep(alloc, shelves, &proved);
+    By::Proof(proved.into_steps())
+}
+
+/// What the leaf shows: a counterexample, or that the search is stuck there.
+fn reason_of(alloc: Global, asked: &Asking<'_>, leaf: Leaf) -> Result<Reason, AllocError>
+    requires fits { QuestionFits (seen asked.now).policy (seen asked.now).context
+        (seen asked.now).trace (seen asked.now).query }
+    requires problem { leaf.problem ≡ question_of (seen asked.now) }
+    requires leaf { IsLeaf leaf }
+    ensures { IfOk result (λ reason. (effort : Effort)
+        → Settles effort (question_of (seen asked.now)) (settled.Saturated leaf)
+        → IsReason (seen asked.now) effort reason) }
+{
+    let question = Question {
+        policy: asked.policy,
+        context: asked.context,
+        trace: asked.trace,
+        query: asked.query,
+    };
+    let refutal = try_pair(alloc, &question, leaf)?;
+    match refutal {
+        Refutal::Pair(pair) => Ok(Reason::Refuted(pair)),
+        Refutal::Stuck(leaf, clause) => Ok(Reason::Stuck(leaf, clause)),
+    }
+}

@@ -1,0 +1,7 @@
+pub mod AskLemmas
+pub mod BookLemmas
+pub mod FitLemmas
+pub mod KeyLemmas
+pub mod LiveLemmas
+pub mod SoundLemmas
+pub mod ToldLemmas

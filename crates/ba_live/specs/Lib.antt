@@ -1,0 +1,6 @@
+pub mod Askers
+pub mod Books
+pub mod Steps
+pub mod Subjects
+pub mod Wellformed
+pub mod Laws

@@ -1,0 +1,4 @@
+pub mod Seen
+pub mod Taking
+pub mod MemSource
+pub mod StdSource

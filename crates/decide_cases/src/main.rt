@@ -1,0 +1,168 @@
+//! `decide_cases [FOLDER]`: runs the decision service on each conversation of a folder (the one that it
+//! is run in, if none is named), and says of each whether it answered as it must.
+//!
+//! The folder holds a folder for each conversation: `S` the schema, `P` the policy, `in` the lines that
+//! it is sent, `expected` the bytes that it must write, and `status`, with which it must end; or `words`,
+//! where others are given than `--schema S --policy P`.
+#![tactic(auto)]
+
+use ba_decide::{Ending, decide};
+use ba_outside::{FolderFiles, MemSink};
+use ba_source::StdSource;
+use std::alloc::{AllocError, Global};
+use std::process::ExitCode;
+use std::rt::Files;
+use std::{env, fs, io};
+
+// How a conversation ended.
+#[derive(PartialEq, Eq, Drop)]
+struct End {
+    status: u8,
+    text: Vec<u8>,
+}
+
+fn words_of(alloc: Global, text: &str) -> Result<Vec<String>, AllocError> {
+    let mut words = Vec::new(alloc);
+    for word in text.split_terminator('\n') {
+        words.push(String::from_str(alloc, word)?)?;
+    }
+    Ok(words)
+}
+
+fn names_in<R>(rt: &R, folder: &str) -> io::Result<Vec<String>>
+where
+    R: Files + AllocGlobal + Clone + Drop,
+{
+    let mut names = Vec::new(rt.alloc());
+    for entry in fs::read_dir(rt, folder)? {
+        names.push(String::from_str(rt.alloc(), entry?.file_name())?)?;
+    }
+    names.sort_unstable();
+    Ok(names)
+}
+
+// The bytes of a file of a conversation.
+fn bytes_of<R>(rt: &R, folder: &str, name: &str) -> io::Result<Vec<u8>>
+where
+    R: Files + AllocGlobal + Clone + Drop,
+{
+    let path = format!(in rt.alloc(); "{folder}/{name}")?;
+    fs::read(rt, path.as_str())
+}
+
+// The words of a conversation.
+fn words_in<R>(rt: &R, folder: &str) -> io::Result<Vec<String>>
+where
+    R: Files + AllocGlobal + Clone + Drop,
+{
+    let path = format!(in rt.alloc(); "{folder}/words")?;
+    if fs::exists(rt, path.as_str())? {
+        let text = fs::read_to_string(rt, path.as_str())?;
+        return Ok(words_of(rt.alloc(), text.as_str())?);
+    }
+    Ok(words_of(rt.alloc(), "--schema\nS\n--policy\nP")?)
+}
+
+// How the service ends the conversation.
+fn end_of<R>(rt: &R, folder: &str) -> io::Result<End>
+where
+    R: Files + AllocGlobal + Clone + Drop,
+{
+    let alloc = rt.alloc();
+    let words = words_in(rt, folder)?;
+    let lines = bytes_of(rt, folder, "in")?;
+    let prefix = format!(in alloc; "{folder}/")?;
+    let Ok(system) = rt.clone() else {
+        return Err(io::Error::from(io::ErrorKind::OutOfMemory));
+    };
+    let mut files = FolderFiles::new(system, alloc, prefix.as_str());
+    let mut source = StdSource::new(lines.as_slice(), alloc)?;
+    let mut sink = MemSink::new(alloc, Vec::new(alloc), Vec::new(alloc));
+    let ending: Ending = decide(alloc, &words, &mut files, &mut source, &mut sink);
+    Ok(End {
+        status: ending.status(),
+        text: sink.bytes().to_vec(alloc)?,
+    })
+}
+
+// How the conversation must end.
+fn wanted_of<R>(rt: &R, folder: &str) -> io::Result<End>
+where
+    R: Files + AllocGlobal + Clone + Drop,
+{
+    let text = bytes_of(rt, folder, "expected")?;
+    let number = bytes_of(rt, folder, "status")?;
+    let number = std::str::from_utf8(&number).unwrap_or("");
+    match number.trim_end().parse::<u8>() {
+        Ok(status) => Ok(End { status, text }),
+        Err(_) => Err(io::Error::from(io::ErrorKind::InvalidData)),
+    }
+}
+
+// A line, if it is text.
+fn text_of(line: &[u8]) -> &str {
+    std::str::from_utf8(line).unwrap_or("(no text)")
+}
+
+// Says which line is the first that isn't as it must be.
+fn tell_line(rt: &impl Print, wanted: &[u8], text: &[u8]) -> io::Result<()> {
+    let mut lines = text.split(|byte| *byte == b'\n');
+    for line in wanted.split(|byte| *byte == b'\n') {
+        let written = lines.next().unwrap_or(b"(none)");
+        if line != written {
+            println!(rt; "  told: {}", text_of(written))?;
+            println!(rt; "  wanted: {}", text_of(line))?;
+            return Ok(());
+        }
+    }
+    Ok(())
+}
+
+// Tries the conversation of that name, and gives whether it ended as it must.
+fn passes<R>(rt: &R, folder: &str, name: &str) -> io::Result<bool>
+where
+    R: Files + AllocGlobal + Print + Clone + Drop,
+{
+    let place = format!(in rt.alloc(); "{folder}/{name}")?;
+    let end = end_of(rt, place.as_str())?;
+    let wanted = wanted_of(rt, place.as_str())?;
+    if end == wanted {
+        println!(rt; "ok {name}")?;
+        return Ok(true);
+    }
+    println!(rt;
+        "{name} differs: status {}, {} is wanted",
+        end.status, wanted.status
+    )?;
+    tell_line(rt, &wanted.text, &end.text)?;
+    Ok(false)
+}
+
+fn run<R>(rt: &R) -> io::Result<bool>
+where
+    R: Files + AllocGlobal + Print + env::Env + Clone + Drop,
+{
+    let mut args = env::args(rt)?.skip(1);
+    let folder = match args.next() {
+        Some(folder) => folder,
+        None => String::from_str(rt.alloc(), ".")?,
+    };
+    let mut passed = 0u64;
+    let mut failed = 0u64;
+    for name in &names_in(rt, folder.as_str())? {
+        if passes(rt, folder.as_str(), name.as_str())? {
+            passed = passed.saturating_add(1);
+        } else {
+            failed = failed.saturating_add(1);
+        }
+    }
+    println!(rt; "{passed} passed, {failed} failed")?;
+    Ok(failed == 0)
+}
+
+fn main(rt: HostRuntime) -> ExitCode {
+    match run(&rt) {
+        Ok(true) => ExitCode::from(0),
+        _ => ExitCode::from(1),
+    }
+}
