@@ -15,6 +15,7 @@ use Rattle.ba_judge.specs.declared.verdict.Allowed.{Allowed}
 use Rattle.ba_judge.specs.declared.verdict.Reason.{Reason}
 use Rattle.ba_live.proofs.BookLemmas.{none_some}
 use Rattle.ba_live.proofs.ToldLemmas.{allowed_has_one_answer}
+use Rattle.ba_kernel.specs.SearchStates.{Proof}
 use Rattle.ba_live.specs.Askers.{asked_more}
 use Rattle.ba_live.specs.Books.{open_at, asked_at}
 use Rattle.ba_live.specs.Laws.{GivesTold, ToldRows}
@@ -273,8 +274,8 @@ headline_more policy effort journal e head allowed blocked keys =
 no_entry : (place : ℕ) (it : Event) (d : Decision) → At [] place it d → ⊥
 no_entry place it d at = none_some at.entry None refl at.there
 
-holds_start : (policy : Policy) (budget : ℕ) (effort : Effort) (start : Live) → IsFresh policy budget start → Holds policy effort [] start
-holds_start policy budget effort start fresh =
+holds_start : (policy : Policy) (loaded : List Proof) (budget : ℕ) (effort : Effort) (start : Live) → IsFresh policy loaded budget start → Holds policy effort [] start
+holds_start policy loaded budget effort start fresh =
     record {
       policy_is = fresh.policy_is;
       tracks = record {
@@ -304,12 +305,12 @@ holds_more policy effort journal e old new holds serves =
     (subst (λ p. Headline p effort journal) (sym holds.policy_is) holds.headline)
     serves)
 
-holds_all : (policy : Policy) (budget : ℕ) (evidence : Bool) (effort : Effort) (start : Live) (journal : List Entry) (texts : List (List ℕ)) (now : Live) → IsFresh policy budget start
+holds_all : (policy : Policy) (loaded : List Proof) (budget : ℕ) (evidence : Bool) (effort : Effort) (start : Live) (journal : List Entry) (texts : List (List ℕ)) (now : Live) → IsFresh policy loaded budget start
     → Runs evidence effort start journal texts now → Holds policy effort journal now
-holds_all policy budget evidence effort start [] [] now fresh none = holds_start policy budget effort start fresh
-holds_all policy budget evidence effort start _ _ now fresh (next {earlier = earlier} {texts = texts} {old = old} it text rest serves is) =
-    holds_more policy effort earlier it old now (holds_all policy budget evidence effort start earlier texts old fresh rest) serves
+holds_all policy loaded budget evidence effort start [] [] now fresh none = holds_start policy loaded budget effort start fresh
+holds_all policy loaded budget evidence effort start _ _ now fresh (next {earlier = earlier} {texts = texts} {old = old} it text rest serves is) =
+    holds_more policy effort earlier it old now (holds_all policy loaded budget evidence effort start earlier texts old fresh rest) serves
 
-pub runs_headline : (policy : Policy) (budget : ℕ) (evidence : Bool) (effort : Effort) (start : Live) (journal : List Entry) (texts : List (List ℕ)) (now : Live) → IsFresh policy budget start
+pub runs_headline : (policy : Policy) (loaded : List Proof) (budget : ℕ) (evidence : Bool) (effort : Effort) (start : Live) (journal : List Entry) (texts : List (List ℕ)) (now : Live) → IsFresh policy loaded budget start
     → Runs evidence effort start journal texts now → Headline policy effort journal
-runs_headline policy budget evidence effort start journal texts now fresh runs = (holds_all policy budget evidence effort start journal texts now fresh runs).headline
+runs_headline policy loaded budget evidence effort start journal texts now fresh runs = (holds_all policy loaded budget evidence effort start journal texts now fresh runs).headline

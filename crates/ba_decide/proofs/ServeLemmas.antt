@@ -1,6 +1,9 @@
 -- One more line is served.
 use Rattle.std.proofs.Common.{◌≡◌, ◌∙◌, ℕ, Bool, ◌+◌, ◌-◌, ◌^◌, List, [], ◌∷◌, ◌++◌, Option, Some, None, Ok, Err, length, refl, sym, ap, subst, inl, inr, arith, append_assoc, length-append}
 use Rattle.std.specs.List.{AllZip}
+use Rattle.ba_judge.specs.Shelves.{Learns}
+use Rattle.ba_judge.specs.declared.shelves.Shelves.{Shelves}
+use Rattle.ba_live.proofs.LiveLemmas.{same_shelves}
 use Rattle.ba_judge.specs.Judging.{effort_in}
 use Rattle.ba_live.specs.declared.live.Live.{Live}
 use Rattle.ba_outside.specs.Seen.{SinkSeen}
@@ -146,3 +149,7 @@ module _ (evidence : Bool) (orders : ℕ) (start now then : Live) (number : ℕ)
 
   pub answered_memory : Says {X = Unit {0}} evidence then number it new after (Err NoMemory) → Served evidence (effort_in orders start.budget) start ending.Memory source later old after
   answered_memory (text, is, part) = served_memory evidence (effort_in orders start.budget) start now then number source left later old new after n.0 it text so n.1 its is part
+
+-- a line that changes nothing leaves the shelves
+pub learns_nothing : (it : Shelves) → Learns it it
+learns_nothing it = same_shelves it

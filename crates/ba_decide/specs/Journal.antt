@@ -3,6 +3,7 @@ use Rattle.std.specs.Prelude.{◌≡◌, ◌⊎◌, ℕ, ◌+◌, Bool, List, []
 use Rattle.ba_event.specs.Events.{event_of}
 use Rattle.ba_event.specs.declared.event.Event.{Event}
 use Rattle.ba_event.specs.declared.event.EventFault.TheVariants as bad
+use Rattle.ba_judge.specs.Shelves.{Learns}
 use Rattle.ba_live.specs.Books.{LeavesAll}
 use Rattle.ba_live.specs.Steps.{Decides, Stays}
 use Rattle.ba_live.specs.Subjects.{subject_of}
@@ -64,6 +65,7 @@ ServesHeard effort number lost it old new = IsUnheard Memory it old new
 pub record Serves (effort : Effort) (number : ℕ) (it : Entry) (old new : Live) : Type 0 where
   pub heard : ServesHeard effort number it.heard it old new
   pub stays : Stays old new
+  pub learns : Learns old.shelves new.shelves
 
 -- The lines were served one after another, from the first state on, and left the last one; and
 -- these are the texts of the decisions, plain or with their evidence.

@@ -51,6 +51,7 @@ fn on_nobody(decision: Decision) -> Answer
 }
 
 // What the bytes of a line are answered.
+#[tactic(auto, using(crate::proofs::ServeLemmas::learns_nothing))]
 fn answered<E: Settle>(
     alloc: Global,
     live: &mut Live,
@@ -78,6 +79,7 @@ fn answered<E: Settle>(
 }
 
 // Takes the next line, and decides on what it says.
+#[tactic(auto, using(crate::proofs::ServeLemmas::learns_nothing))]
 fn take_next<E: Settle, L: Source>(
     alloc: Global,
     live: &mut Live,

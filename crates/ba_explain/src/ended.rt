@@ -68,8 +68,8 @@ pub(crate) fn lacking(outcome: &Outcome) -> Option<usize> {
     }
 }
 
-// The line with its end, or nothing of a run that has none; and nothing at all without memory.
-fn told_of(alloc: Global, line: Result<String, AllocError>) -> Option<String> {
+/// The line with its end, or nothing of a run that has none; and nothing at all without memory.
+pub(crate) fn told_of(alloc: Global, line: Result<String, AllocError>) -> Option<String> {
     match line {
         Ok(line) if line.is_empty() => Some(line),
         Ok(line) => format!(in alloc; "{line}\n").ok(),

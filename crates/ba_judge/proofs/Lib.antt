@@ -1,4 +1,5 @@
 pub mod JudgeLemmas
+pub mod LearnLemmas
 pub mod ReadLemmas
 pub mod ShelfLemmas
 pub mod UnionLemmas

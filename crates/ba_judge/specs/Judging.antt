@@ -1,5 +1,5 @@
 -- What the judgement of a question tells.
-use Rattle.std.specs.Prelude.{◌≡◌, ℕ, ◌≤◌, List, ◌∷◌, ◌++◌, All, Contains, Option, Some, None, length, ⊤}
+use Rattle.std.specs.Prelude.{◌≡◌, ℕ, ◌<◌, ◌≤◌, List, ◌∷◌, ◌++◌, All, Contains, Option, Some, None, length, ⊤}
 use Rattle.std.specs.List.{AllZip}
 use Rattle.ba_comply.specs.Comply.{Strong}
 use Rattle.ba_comply.specs.declared.trace.TraceEntry.{TraceEntry}
@@ -212,3 +212,10 @@ LooksAtParts asked effort (judged.Allowed (Whole (Template template it))) =
 LooksAtParts asked effort (judged.Allowed (Whole (Proof steps))) = HasBlockedPart asked effort
 LooksAtParts asked effort (judged.Allowed (Parts grounds)) = ⊤
 LooksAtParts asked effort (judged.Blocked reason) = HasBlockedPart asked effort
+
+-- What a judgement prefers, where these templates were found for the question's shape: of one part,
+-- the first that matches, and only where none does a search; of several, its parts.
+pub record Prefers (asked : Asked) (effort : Effort) (found : List kernel.Proof) (it : Judgement)
+    : Type 0 where
+  pub one : length asked.query.parts < 2 → ServesFirst asked found it
+  pub several : 2 ≤ length asked.query.parts → LooksAtParts asked effort it

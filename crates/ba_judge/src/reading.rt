@@ -2,6 +2,7 @@
 ghost use Rattle.std.specs.Prelude.{◌≡◌, [], ◌≤◌, IfOk};
 ghost use Rattle.ba_judge.specs.Judging.{effort_in};
 ghost use Rattle.ba_judge.specs.Reading.{AreFit, JudgesRead, ReadingFits, StopsAt, queries_of, reader};
+ghost use Rattle.ba_judge.specs.Shelves.{Learns};
 ghost use Rattle.ba_model.specs.Limits.{most_budget};
 
 use crate::asking::Asking;
@@ -51,6 +52,7 @@ pub enum Read {
 /// The key is one of the policy, with a value of its kind for each argument; the context and the
 /// trace fit the policy, and the budget is at most [`ba_model::MAX_BUDGET`] steps. The error is want
 /// of memory.
+#[tactic(auto, using(crate::proofs::LearnLemmas::same_learns))]
 pub fn judge_read<S: Settle>(
     alloc: Global,
     reading: &Reading<'_>,
@@ -60,8 +62,9 @@ pub fn judge_read<S: Settle>(
 ) -> Result<Read, AllocError>
     requires fits { ReadingFits reading.now }
     requires limit { budget ≤ most_budget }
-    ensures { IfOk result (JudgesRead (reader reading.now)
+    ensures judges { IfOk result (JudgesRead (reader reading.now)
         (effort_in (S.orders settle.now) budget) (queries_of reading.now)) }
+    ensures learns { Learns shelves.old shelves.new }
 {
     let queries = key_queries(alloc, reading.policy, reading.key, reading.arguments)?;
     let mut by = List::new(alloc);
@@ -86,6 +89,7 @@ pub fn judge_read<S: Settle>(
 
 // Why the first of the queries that is blocked is, if one is; why those before it are allowed is put
 // into the list.
+#[tactic(auto, using(crate::proofs::LearnLemmas::same_learns))]
 fn stop_of<S: Settle>(
     alloc: Global,
     reading: &Reading<'_>,
@@ -98,8 +102,9 @@ fn stop_of<S: Settle>(
     requires fit { AreFit (reader reading.now) queries.now }
     requires limit { budget ≤ most_budget }
     requires empty { by.old ≡ [] }
-    ensures { IfOk result (StopsAt (reader reading.now)
+    ensures stops { IfOk result (StopsAt (reader reading.now)
         (effort_in (S.orders settle.now) budget) queries.now by.new) }
+    ensures learns { Learns shelves.old shelves.new }
 {
     for query in queries {
         let asked = Asking {

@@ -4,7 +4,7 @@ ghost use Rattle.std.specs.Prelude.{◌≡◌, ◌<◌, ◌≤◌, IfOk, IfSome,
 ghost use Rattle.ba_kernel.specs.Asked.{QuestionFits};
 ghost use Rattle.ba_model.specs.Limits.{most_budget};
 ghost use Rattle.ba_judge.specs.Judging.{HasBlockedPart, IsAllowedBy, IsBlocked, IsByParts, Judges, LooksAtParts, ServesFirst, effort_in, seen};
-ghost use Rattle.ba_judge.specs.Shelves.{standing_for};
+ghost use Rattle.ba_judge.specs.Shelves.{Learns, standing_for};
 
 use crate::asking::Asking;
 use crate::shelves::Shelves;
@@ -23,10 +23,12 @@ use std::alloc::{AllocError, Global};
 /// each of them is as a question of its own: covered, served by the first template that matches of
 /// those that stand on the shelves for its shape, or proved to be strongly compliant by a search of
 /// at most `budget` due steps. Else it is looked at as a whole in the same way: allowed, or blocked
-/// with a reason that can be checked. The template of each proof is kept on the shelves.
+/// with a reason that can be checked. The template of each proof is kept on the shelves, where it is
+/// narrow enough and there is memory for it; nothing that is told depends on that.
 ///
 /// The question fits its policy, as do the context and the trace, and the budget is at most
 /// [`ba_model::MAX_BUDGET`] steps. The error is want of memory.
+#[tactic(auto, using(crate::proofs::LearnLemmas::same_learns))]
 pub fn judge<S: Settle>(
     alloc: Global,
     asked: &Asking<'_>,
@@ -43,6 +45,7 @@ pub fn judge<S: Settle>(
         (ServesFirst (seen asked.now) (standing_for shelves.old asked.now.query.now)) }
     ensures parts { 2 ≤ length asked.now.query.now.parts → IfOk result
         (LooksAtParts (seen asked.now) (effort_in (S.orders settle.now) budget)) }
+    ensures learns { Learns shelves.old shelves.new }
 {
     union_is_strong();
     let covered = cover(alloc, asked.policy, asked.context, asked.query)?;
@@ -61,6 +64,7 @@ pub fn judge<S: Settle>(
 }
 
 // Why each part of the question is allowed, as a question of its own, if it has several and all are.
+#[tactic(auto, using(crate::proofs::LearnLemmas::same_learns))]
 fn each_allowed<S: Settle>(
     alloc: Global,
     asked: &Asking<'_>,
@@ -77,6 +81,7 @@ fn each_allowed<S: Settle>(
         → 2 ≤ length asked.now.query.now.parts
         → HasBlockedPart (seen asked.now) (effort_in (S.orders settle.now) budget)) }
     ensures one { length asked.now.query.now.parts < 2 → shelves.new ≡ shelves.old }
+    ensures learns { Learns shelves.old shelves.new }
 {
     part_is_query();
     if asked.query.parts.len() < 2 {
@@ -101,6 +106,7 @@ fn each_allowed<S: Settle>(
 }
 
 // Why a question is allowed that is looked at as a whole, if it is.
+#[tactic(auto, using(crate::proofs::LearnLemmas::same_learns))]
 fn allowed_alone<S: Settle>(
     alloc: Global,
     asked: &Asking<'_>,
@@ -111,9 +117,10 @@ fn allowed_alone<S: Settle>(
     requires fits { QuestionFits (seen asked.now).policy (seen asked.now).context
         (seen asked.now).trace (seen asked.now).query }
     requires limit { budget ≤ most_budget }
-    ensures { IfOk result (λ by. MatchOption by
+    ensures allowed { IfOk result (λ by. MatchOption by
         (IsBlocked (seen asked.now) (effort_in (S.orders settle.now) budget))
         (IsAllowedBy (seen asked.now) (effort_in (S.orders settle.now) budget))) }
+    ensures learns { Learns shelves.old shelves.new }
 {
     let covered = cover(alloc, asked.policy, asked.context, asked.query)?;
     if let Some(cover) = covered {

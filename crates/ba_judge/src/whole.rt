@@ -6,7 +6,7 @@ ghost use Rattle.ba_kernel.specs.Problems.{StrongAll};
 ghost use Rattle.ba_kernel.specs.SearchStates.{Proof};
 ghost use Rattle.ba_model.specs.Limits.{most_budget};
 ghost use Rattle.ba_judge.specs.Judging.{Concludes, IsReason, IsServing, NoneServes, TakesFirst, Uncovered, effort_in, question_of, seen};
-ghost use Rattle.ba_judge.specs.Shelves.{standing_for};
+ghost use Rattle.ba_judge.specs.Shelves.{Learns, standing_for};
 ghost use Rattle.ba_settle.specs.Dues.{IsLeaf};
 ghost use Rattle.ba_settle.specs.Settling.{Effort, Settles};
 ghost use Rattle.ba_settle.specs.declared.ends.Settled.TheVariants as settled;
@@ -36,6 +36,7 @@ pub(crate) enum Finding {
 /// How a question comes out that isn't covered: by the first template that matches of those that
 /// stand on the shelves for its shape, or else by a search of at most `budget` due steps, whose proof
 /// is kept as a template.
+#[tactic(auto, using(crate::proofs::LearnLemmas::same_learns, crate::proofs::LearnLemmas::found_learns))]
 pub(crate) fn conclude<S: Settle>(
     alloc: Global,
     asked: &Asking<'_>,
@@ -51,6 +52,7 @@ pub(crate) fn conclude<S: Settle>(
         (Concludes (seen asked.now) (effort_in (S.orders settle.now) budget)) }
     ensures first { IfOk result
         (TakesFirst (seen asked.now) (standing_for shelves.old asked.now.query.now)) }
+    ensures learns { Learns shelves.old shelves.new }
 {
     matched_is_strong();
     let shape = Shape::of(alloc, &[], asked.query)?;
@@ -89,6 +91,7 @@ fn serving(
 }
 
 /// What a search for a proof of the question finds. The template of a proof is kept.
+#[tactic(auto, using(crate::proofs::LearnLemmas::same_learns))]
 fn search<S: Settle>(
     alloc: Global,
     asked: &Asking<'_>,
@@ -104,6 +107,7 @@ fn search<S: Settle>(
         (Concludes (seen asked.now) (effort_in (S.orders settle.now) budget)) }
     ensures first { (found : List Proof) → NoneServes (seen asked.now) found
         → IfOk result (TakesFirst (seen asked.now) found) }
+    ensures learns { Learns shelves.old shelves.new }
 {
     problem_is_question();
     settled_are_leaves();
@@ -124,9 +128,11 @@ fn by_proof(alloc: Global, shelves: &mut Shelves, proved: Proved) -> By
     requires question { IsOfQuestion proved.problem }
     ensures by { result ≡ By.Proof proved.steps }
     ensures strong { StrongAll proved.problem }
+    ensures learns { Learns shelves.old shelves.new }
 {
     let _strong = proved.problem();
-    keep(alloc, shelves, &proved);
+    // Nothing that is judged depends on whether it is kept.
+    let _ = keep(alloc, shelves, &proved);
     By::Proof(proved.into_steps())
 }
 

@@ -1,6 +1,7 @@
 pub mod AskLemmas
 pub mod BookLemmas
 pub mod FitLemmas
+pub mod FreshLemmas
 pub mod KeyLemmas
 pub mod LiveLemmas
 pub mod SoundLemmas

@@ -1,8 +1,11 @@
 -- A decision service is as it should be before the next line.
-use Rattle.std.proofs.Common.{◌≡◌, ℕ, ◌+◌, ◌<◌, ◌≤◌, List, Option, Some, None, refl, arith}
+use Rattle.std.proofs.Common.{◌≡◌, ℕ, ◌+◌, ◌<◌, ◌≤◌, List, Option, Some, None, refl, sym, subst, arith}
 use Rattle.ba_comply.specs.declared.trace.TraceEntry.{TraceEntry}
 use Rattle.std.specs.List.{All}
 use Rattle.std.proofs.lemmas.List.Elements.{All-append, All-take}
+use Rattle.ba_judge.specs.Shelves.{Learns}
+use Rattle.ba_judge.specs.Shelves.Learns.{nothing}
+use Rattle.ba_judge.specs.declared.shelves.Shelves.{Shelves}
 use Rattle.ba_kernel.specs.Asked.{RecordFits}
 use Rattle.ba_model.specs.declared.policy.Context.{Context}
 use Rattle.ba_model.specs.declared.query.Query.{Query}
@@ -85,3 +88,9 @@ leaves_asked it = record { each = λ line. refl }
 
 pub leaves_open : (it : Live) → LeavesOpen it.requests it.requests
 leaves_open it = record { each = λ name. refl }
+
+pub same_shelves : (it : Shelves) → Learns it it
+same_shelves it = nothing (record { each = λ k. refl })
+
+pub kept_shelves : (old new : Shelves) → new ≡ old → Learns old new
+kept_shelves old new same = subst (Learns old) (sym same) (same_shelves old)

@@ -4,10 +4,12 @@ use Rattle.std.specs.Str.{bytes_eq}
 use Rattle.ba_comply.specs.declared.trace.TraceEntry.{TraceEntry}
 use Rattle.ba_event.specs.declared.event.Event.{Event}
 use Rattle.ba_event.specs.declared.event.Event.TheVariants as event
-use Rattle.ba_judge.specs.Judging.{Asked as Question, IsBlockedFor, IsStrong, RestsOn}
+use Rattle.ba_judge.specs.Judging.{Asked as Question, IsBlockedFor, IsStrong, Prefers, RestsOn}
 use Rattle.ba_judge.specs.Reading.{JudgesRead, Reader}
+use Rattle.ba_judge.specs.Shelves.{standing_for}
 use Rattle.ba_judge.specs.declared.reading.Read.{Read}
 use Rattle.ba_judge.specs.declared.verdict.Allowed.{Allowed}
+use Rattle.ba_judge.specs.declared.verdict.Judgement.TheVariants as judged
 use Rattle.ba_judge.specs.declared.verdict.Reason.{Reason}
 use Rattle.ba_keys.specs.Literals.{key_queries}
 use Rattle.ba_model.specs.declared.policy.CacheKey.{CacheKey}
@@ -97,6 +99,8 @@ pub record Allows (effort : Effort) (line : ℕ) (name text : List ℕ) (it : Al
   pub reads : query_of old.policy.schema old.policy.params text ≡ Ok query
   pub rests : RestsOn (question_in old.policy asker query) effort it
   pub strong : IsStrong (question_in old.policy asker query)
+  pub prefers : Prefers (question_in old.policy asker query) effort
+      (standing_for old.shelves query) (judged.Allowed it)
   pub opens : Opens name (Some (with_line line asker)) old.requests new.requests
   pub expects : Expects line (Some (record { name = name; query = query }))
       old.questions new.questions
@@ -115,6 +119,8 @@ pub record Blocks (effort : Effort) (name text : List ℕ) (it : Reason) (old ne
   pub query : Query
   pub reads : query_of old.policy.schema old.policy.params text ≡ Ok query
   pub blocked : IsBlockedFor (question_in old.policy asker query) effort it
+  pub prefers : Prefers (question_in old.policy asker query) effort
+      (standing_for old.shelves query) (judged.Blocked it)
 
 pub record FailsToRead (name text : List ℕ) (fault : ReadQueryFault) (old new : Live) : Type 0 where
   pub asker : Open

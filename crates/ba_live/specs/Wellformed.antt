@@ -1,6 +1,8 @@
 -- What holds of a decision service at all times.
 use Rattle.std.specs.Prelude.{◌≡◌, ℕ, ◌<◌, ◌≤◌, List, [], All, Contains, Some, None}
+use Rattle.ba_judge.specs.Shelves.{AreTaken}
 use Rattle.ba_kernel.specs.Asked.{RecordFits}
+use Rattle.ba_kernel.specs.SearchStates.{Proof}
 use Rattle.ba_model.specs.Fit.{ContextFits, IsQuery, PolicyFits, kinds_of}
 use Rattle.ba_model.specs.Limits.{most_budget}
 use Rattle.ba_model.specs.RuleFaults.{RuleFits}
@@ -19,10 +21,11 @@ pub record IsServable (policy : Policy) : Type 0 where
   pub tables : AreTables policy.schema.tables
   pub rules : All (RuleFits policy.schema) policy.schema.rules
 
--- a service of the policy in which nothing is open
-pub record IsFresh (policy : Policy) (budget : ℕ) (it : Live) : Type 0 where
+-- a service of the policy in which nothing is open, and on whose shelves these templates were put
+pub record IsFresh (policy : Policy) (loaded : List Proof) (budget : ℕ) (it : Live) : Type 0 where
   pub policy_is : it.policy ≡ policy
   pub budget_is : it.budget ≡ budget
+  pub shelves : AreTaken loaded it.shelves
   pub nothing_open : (name : List ℕ) → open_at it name ≡ None
   pub nothing_asked : (line : ℕ) → asked_at it line ≡ None
   pub none : many_open it.requests ≡ 0

@@ -1,6 +1,7 @@
 //! Questions.
 ghost use Rattle.std.specs.Prelude.{◌≡◌, ◌+◌, ℕ, IfOk, None, OnErr, OnOk};
 ghost use Rattle.ba_judge.specs.Judging.{effort_in};
+ghost use Rattle.ba_judge.specs.Shelves.{Learns};
 ghost use Rattle.ba_live.specs.Askers.{with_line};
 ghost use Rattle.ba_live.specs.Books.{Expects, LeavesAll, MayAsk, Opens, asked_at, many_open, open_at};
 ghost use Rattle.ba_live.specs.Steps.{DecidesAsk, Stays};
@@ -19,6 +20,7 @@ use std::alloc::{AllocError, Global};
 
 impl Live {
     /// The question is judged after what its request was told.
+    #[tactic(auto, using(crate::proofs::LiveLemmas::same_shelves))]
     pub(crate) fn ask<S: Settle>(
         &mut self,
         alloc: Global,
@@ -33,6 +35,7 @@ impl Live {
             self.old self.new) }
         ensures err { OnErr result (LeavesAll self.old self.new) }
         ensures same { Stays self.old self.new }
+        ensures learns { Learns self.old.shelves self.new.shelves }
         ensures live { IsLive (line + 1) self.new }
     {
         let Some(open) = self.requests.get(name) else {
@@ -86,6 +89,7 @@ impl Live {
             → Opens name.now (Some (with_line line asker)) self.old.requests self.new.requests) }
         ensures err { OnErr result (LeavesAll self.old self.new) }
         ensures same { Stays self.old self.new }
+        ensures shelves { self.new.shelves ≡ self.old.shelves }
         ensures many { many_open self.new.requests ≡ many_open self.old.requests }
     {
         let asked = Asked {

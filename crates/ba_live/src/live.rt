@@ -39,7 +39,7 @@ impl Live {
         loaded: &List<Shared<Template>>,
         budget: u32,
     ) -> Result<Live, AllocError>
-        ensures fresh { IfOk result (IsFresh policy budget) }
+        ensures fresh { IfOk result (IsFresh policy loaded.now budget) }
         ensures live { IsServable policy → budget ≤ most_budget → IfOk result (IsLive 1) }
     {
         let mut shelves = Shelves::new(alloc)?;

@@ -3,6 +3,7 @@ ghost use Rattle.std.specs.Prelude.{◌≡◌, ◌+◌, ◌≤◌, ℕ, IfOk, On
 ghost use Rattle.std.specs.Option.{option_copied};
 ghost use Rattle.std.specs.Str.{bytes_eq};
 ghost use Rattle.ba_judge.specs.Judging.{effort_in};
+ghost use Rattle.ba_judge.specs.Shelves.{Learns};
 ghost use Rattle.ba_live.specs.Books.{LeavesAll};
 ghost use Rattle.ba_live.specs.Steps.{DecidesRead, Stays, key_named};
 ghost use Rattle.ba_live.specs.Wellformed.{IsLive, IsSound};
@@ -49,6 +50,7 @@ fn questions_left(asks: u32, count: usize) -> Option<u32>
 
 impl Live {
     /// Each of the key's queries is judged after what the request was told.
+    #[tactic(auto, using(crate::proofs::LiveLemmas::same_shelves))]
     pub(crate) fn read<S: Settle>(
         &mut self,
         alloc: Global,
@@ -63,6 +65,7 @@ impl Live {
             self.old self.new) }
         ensures err { OnErr result (LeavesAll self.old self.new) }
         ensures same { Stays self.old self.new }
+        ensures learns { Learns self.old.shelves self.new.shelves }
         ensures live { (next : ℕ) → IsLive next self.old → IsLive next self.new }
     {
         let Some(open) = self.requests.get(name) else {

@@ -1,6 +1,7 @@
 //! What becomes of an event.
 ghost use Rattle.std.specs.Prelude.{◌≡◌, ◌+◌, ℕ, IfOk, OnErr};
 ghost use Rattle.ba_judge.specs.Judging.{effort_in};
+ghost use Rattle.ba_judge.specs.Shelves.{Learns};
 ghost use Rattle.ba_live.specs.Books.{LeavesAll};
 ghost use Rattle.ba_live.specs.Steps.{Decides, DecidesBegin, DecidesEnd, DecidesTold, LacksTold, Stays};
 ghost use Rattle.ba_live.specs.Wellformed.{IsLive, IsSound};
@@ -28,14 +29,17 @@ impl Live {
     /// - A request begins where its name is free, its context is one of the policy, and fewer than
     ///   [`MAX_OPEN`] are open.
     /// - A question is judged after what its request was told, and no question changes that. An
-    ///   allowed one may be told, once.
+    ///   allowed one may be told, once. Of one part the first template that matches of those on the
+    ///   shelves allows it, before any search.
     /// - Of a cache key each query is judged so, in order, up to the first that is blocked. Each
     ///   counts as a question.
     /// - Told rows join what the request of their question was told, and of no other request.
     /// - The end of a request forgets all that is kept of it.
     ///
-    /// What is refused changes nothing, and what finds no memory changes nothing, but that told
-    /// rows may have been recorded in part; their question may then be told again.
+    /// On the shelves shapes come to the front, and templates of proofs are added; none is lost but
+    /// for one that comes. Else what is refused changes nothing, and what finds no memory changes
+    /// nothing, but that told rows may have been recorded in part; their question may then be told
+    /// again.
     pub fn step<S: Settle>(
         &mut self,
         alloc: Global,
@@ -47,6 +51,7 @@ impl Live {
         ensures decides { Decides (effort_in (S.orders settle.now) self.old.budget) line event
             result self.old self.new }
         ensures same { Stays self.old self.new }
+        ensures learns { Learns self.old.shelves self.new.shelves }
         ensures live { IsLive (line + 1) self.new }
     {
         let decided = match event {
@@ -73,6 +78,7 @@ impl Live {
         ensures decides { IfOk result (λ it. DecidesBegin name members.now it self.old self.new) }
         ensures err { OnErr result (LeavesAll self.old self.new) }
         ensures same { Stays self.old self.new }
+        ensures shelves { self.new.shelves ≡ self.old.shelves }
         ensures live { (next : ℕ) → IsLive next self.old → IsLive next self.new }
     {
         if self.requests.has(&name) {
@@ -96,6 +102,7 @@ impl Live {
         ensures decides { IfOk result (λ it. DecidesTold line rows it self.old self.new) }
         ensures err { OnErr result (LacksTold line rows self.old self.new) }
         ensures same { Stays self.old self.new }
+        ensures shelves { self.new.shelves ≡ self.old.shelves }
         ensures live { (next : ℕ) → IsLive next self.old → IsLive next self.new }
     {
         let Some(asked) = self.questions.get(line) else {
@@ -123,6 +130,7 @@ impl Live {
         requires sound { IsSound self.old }
         ensures decides { DecidesEnd name.now result self.old self.new }
         ensures same { Stays self.old self.new }
+        ensures shelves { self.new.shelves ≡ self.old.shelves }
         ensures live { (next : ℕ) → IsLive next self.old → IsLive next self.new }
     {
         match self.requests.close(name) {

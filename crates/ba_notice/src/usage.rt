@@ -11,6 +11,7 @@ enum Form {
     Gen,
     Store,
     Audit,
+    Decide,
 }
 
 static RUN_NEEDS: [&str; 4] = ["--schema", "--policy", "--tables", "--script"];
@@ -25,11 +26,15 @@ static GEN_NEEDS: [&str; 2] = ["--seed", "--requests"];
 
 static GEN_TAKES: [&str; 2] = ["--workers", "--print"];
 
+static DECIDE_NEEDS: [&str; 2] = ["--schema", "--policy"];
+
+static DECIDE_TAKES: [&str; 3] = ["--load", "--budget", "--evidence"];
+
 static AUDIT_NEEDS: [&str; 5] = ["--schema", "--policy", "--tables", "--script", "--output"];
 
 // How all commands are written.
 const USAGE: &str =
-    "usage: blockaid run --schema S --policy P --tables D --script F [--load T] [--proofs] [--workers N] [--budget B] [--orders K], blockaid store with the options of run but --load and --proofs, blockaid check --schema S --policy P --proof F, blockaid gen --seed N --requests R [--workers N] [--print], or blockaid audit --schema S --policy P --tables D --script F --output O";
+    "usage: blockaid run --schema S --policy P --tables D --script F [--load T] [--proofs] [--workers N] [--budget B] [--orders K], blockaid store with the options of run but --load and --proofs, blockaid check --schema S --policy P --proof F, blockaid gen --seed N --requests R [--workers N] [--print], blockaid audit --schema S --policy P --tables D --script F --output O, or blockaid decide --schema S --policy P [--load T] [--budget B] [--evidence]";
 
 // The option of a word: what stands before its `=`.
 fn option_of(word: &str) -> &str {
@@ -56,6 +61,7 @@ impl Form {
             "gen" => Some(Form::Gen),
             "store" => Some(Form::Store),
             "audit" => Some(Form::Audit),
+            "decide" => Some(Form::Decide),
             _ => None,
         }
     }
@@ -67,6 +73,7 @@ impl Form {
             Form::Gen => "gen",
             Form::Store => "store",
             Form::Audit => "audit",
+            Form::Decide => "decide",
         }
     }
 
@@ -85,6 +92,9 @@ impl Form {
             Form::Audit => {
                 "usage: blockaid audit --schema S --policy P --tables D --script F --output O"
             }
+            Form::Decide => {
+                "usage: blockaid decide --schema S --policy P [--load T] [--budget B] [--evidence], B from 16 to 100000"
+            }
         }
     }
 
@@ -95,6 +105,7 @@ impl Form {
             Form::Check => &CHECK_NEEDS,
             Form::Gen => &GEN_NEEDS,
             Form::Audit => &AUDIT_NEEDS,
+            Form::Decide => &DECIDE_NEEDS,
         }
     }
 
@@ -105,6 +116,7 @@ impl Form {
             Form::Check | Form::Audit => &[],
             Form::Gen => &GEN_TAKES,
             Form::Store => &STORE_TAKES,
+            Form::Decide => &DECIDE_TAKES,
         }
     }
 

@@ -1,27 +1,23 @@
 //! The decision service over standard input and output.
 
-use ba_decide::{Ending, decide};
-use ba_outside::{DiskFiles, StdSink};
+use crate::{end_early, tell};
+use ba_explain::serve_words;
+use ba_outside::StdSink;
 use ba_source::StdSource;
 use std::rt::Files;
 
-// The status for want of memory.
-const MEMORY: u8 = 6;
-
-/// Serves the lines of standard input as the words behind `decide` say, and gives the status.
+/// Serves the lines of standard input as the words say, of which the first is `decide`, and gives
+/// the status.
 pub fn serve_lines<R>(rt: &R, words: &[String]) -> u8
 where
-    R: Files + AllocGlobal + Input + Print + Clone + Drop,
+    R: Files + AllocGlobal + Input + Print + Eprint + Clone + Drop,
 {
-    let alloc = rt.alloc();
-    let Ok(system) = rt.clone() else {
-        return MEMORY;
-    };
-    let mut files = DiskFiles::new(system, alloc);
-    let Ok(mut source) = StdSource::new(rt.reader(), alloc) else {
-        return MEMORY;
+    let Ok(mut source) = StdSource::new(rt.reader(), rt.alloc()) else {
+        return end_early(rt);
     };
     let mut sink = StdSink::new(std::io::writer(rt));
-    let ending = decide(alloc, words, &mut files, &mut source, &mut sink);
-    ending.status()
+    match serve_words(rt, words, "", &mut source, &mut sink) {
+        Ok(ended) => tell(rt, &ended),
+        Err(_) => end_early(rt),
+    }
 }

@@ -3,6 +3,7 @@
 //! `blockaid gen --seed N --requests R`: serves a generated workload, and prints the summary; with `--print` prints its script.
 //! `blockaid why run --schema S ..`: tells in words why each question of a run was answered or not.
 //! `blockaid lint --schema S --policy P`: tells where a policy may show too much or too little.
+//! `blockaid decide --schema S --policy P`: answers each line of standard input by the decision on it.
 //! Where its status isn't 0, one line on standard error says why. Where the environment has `BLOCKAID_PROGRESS=1`, lines of
 //! standard error tell how far the script is served.
 #![tactic(auto)]
@@ -90,7 +91,7 @@ fn main(rt: HostRuntime) -> ExitCode {
     let status = match words.as_slice() {
         [first, rest @ ..] if first.as_str() == "why" => explain_words(&rt, rest),
         [first, rest @ ..] if first.as_str() == "lint" => tell_findings(&rt, rest),
-        [first, rest @ ..] if first.as_str() == "decide" => serve_lines(&rt, rest),
+        [first, ..] if first.as_str() == "decide" => serve_lines(&rt, words.as_slice()),
         all => run(&rt, rt.stdout(), all),
     };
     ExitCode::from(status)

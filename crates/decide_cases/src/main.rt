@@ -2,27 +2,39 @@
 //! is run in, if none is named), and says of each whether it answered as it must.
 //!
 //! The folder holds a folder for each conversation: `S` the schema, `P` the policy, `in` the lines that
-//! it is sent, `expected` the bytes that it must write, and `status`, with which it must end; or `words`,
-//! where others are given than `--schema S --policy P`.
+//! it is sent, `expected` the bytes that it must write, and `status`, with which it must end. It may
+//! have `words`, where others are given than `--schema S --policy P`, and `hint`, the line on why it
+//! ends so that must be told.
 #![tactic(auto)]
 
-use ba_decide::{Ending, decide};
-use ba_outside::{FolderFiles, MemSink};
+use ba_explain::serve_words;
+use ba_outside::MemSink;
 use ba_source::StdSource;
 use std::alloc::{AllocError, Global};
 use std::process::ExitCode;
 use std::rt::Files;
 use std::{env, fs, io};
 
-// How a conversation ended.
-#[derive(PartialEq, Eq, Drop)]
+// How a conversation ended, and what was told of its end. Where that isn't said, it may be anything.
+#[derive(Drop)]
 struct End {
     status: u8,
     text: Vec<u8>,
+    hint: Option<String>,
 }
 
+impl End {
+    // Whether it is as wanted.
+    fn is(&self, wanted: &End) -> bool {
+        let is_told = wanted.hint.is_none() || self.hint == wanted.hint;
+        self.status == wanted.status && self.text == wanted.text && is_told
+    }
+}
+
+// The words of a text, a line each, behind the command's.
 fn words_of(alloc: Global, text: &str) -> Result<Vec<String>, AllocError> {
     let mut words = Vec::new(alloc);
+    words.push(String::from_str(alloc, "decide")?)?;
     for word in text.split_terminator('\n') {
         words.push(String::from_str(alloc, word)?)?;
     }
@@ -50,17 +62,28 @@ where
     fs::read(rt, path.as_str())
 }
 
+// The text of a file of a conversation, if it is there.
+fn text_in<R>(rt: &R, folder: &str, name: &str) -> io::Result<Option<String>>
+where
+    R: Files + AllocGlobal + Clone + Drop,
+{
+    let path = format!(in rt.alloc(); "{folder}/{name}")?;
+    if fs::exists(rt, path.as_str())? {
+        return Ok(Some(fs::read_to_string(rt, path.as_str())?));
+    }
+    Ok(None)
+}
+
 // The words of a conversation.
 fn words_in<R>(rt: &R, folder: &str) -> io::Result<Vec<String>>
 where
     R: Files + AllocGlobal + Clone + Drop,
 {
-    let path = format!(in rt.alloc(); "{folder}/words")?;
-    if fs::exists(rt, path.as_str())? {
-        let text = fs::read_to_string(rt, path.as_str())?;
-        return Ok(words_of(rt.alloc(), text.as_str())?);
-    }
-    Ok(words_of(rt.alloc(), "--schema\nS\n--policy\nP")?)
+    let words = match text_in(rt, folder, "words")? {
+        Some(text) => words_of(rt.alloc(), text.as_str())?,
+        None => words_of(rt.alloc(), "--schema\nS\n--policy\nP")?,
+    };
+    Ok(words)
 }
 
 // How the service ends the conversation.
@@ -72,16 +95,13 @@ where
     let words = words_in(rt, folder)?;
     let lines = bytes_of(rt, folder, "in")?;
     let prefix = format!(in alloc; "{folder}/")?;
-    let Ok(system) = rt.clone() else {
-        return Err(io::Error::from(io::ErrorKind::OutOfMemory));
-    };
-    let mut files = FolderFiles::new(system, alloc, prefix.as_str());
     let mut source = StdSource::new(lines.as_slice(), alloc)?;
     let mut sink = MemSink::new(alloc, Vec::new(alloc), Vec::new(alloc));
-    let ending: Ending = decide(alloc, &words, &mut files, &mut source, &mut sink);
+    let ended = serve_words(rt, &words, prefix.as_str(), &mut source, &mut sink)?;
     Ok(End {
-        status: ending.status(),
+        status: ended.status,
         text: sink.bytes().to_vec(alloc)?,
+        hint: ended.told,
     })
 }
 
@@ -93,8 +113,9 @@ where
     let text = bytes_of(rt, folder, "expected")?;
     let number = bytes_of(rt, folder, "status")?;
     let number = std::str::from_utf8(&number).unwrap_or("");
+    let hint = text_in(rt, folder, "hint")?;
     match number.trim_end().parse::<u8>() {
-        Ok(status) => Ok(End { status, text }),
+        Ok(status) => Ok(End { status, text, hint }),
         Err(_) => Err(io::Error::from(io::ErrorKind::InvalidData)),
     }
 }
@@ -126,7 +147,7 @@ where
     let place = format!(in rt.alloc(); "{folder}/{name}")?;
     let end = end_of(rt, place.as_str())?;
     let wanted = wanted_of(rt, place.as_str())?;
-    if end == wanted {
+    if end.is(&wanted) {
         println!(rt; "ok {name}")?;
         return Ok(true);
     }
@@ -134,6 +155,9 @@ where
         "{name} differs: status {}, {} is wanted",
         end.status, wanted.status
     )?;
+    if let Some(hint) = &wanted.hint {
+        println!(rt; "  wanted on standard error: {hint}")?;
+    }
     tell_line(rt, &wanted.text, &end.text)?;
     Ok(false)
 }

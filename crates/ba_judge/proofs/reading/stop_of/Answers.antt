@@ -1,14 +1,15 @@
 use Rattle.ba_judge.proofs.ReadLemmas.{allowed_as, allowed_more, blocked_as, blocked_here}
 use Rattle.ba_judge.specs.Judging.{effort_in}
 use Rattle.ba_judge.specs.Reading.{asked_by, reader}
+use Rattle.ba_judge.specs.Shelves.Learns.{both}
 use Rattle.ba_judge.proofs.reading.stop_of.Goals as goal
 
-pub returns-in-Blocked : goal.returns-in-Blocked
-returns-in-Blocked g c =
+pub returns-in-Blocked-clause-stops : goal.returns-in-Blocked-clause-stops
+returns-in-Blocked-clause-stops g c =
     let it = reader c.args.reading.now in
     let effort = effort_in (g.S.Settle.orders c.args.settle.now) c.args.budget in
     let query = c.query-item.result in
-    blocked_here it effort c.args.queries.now c.loop-query.query-index query c.loop-query-test.true c.query-item.is c.loop-query.by c.in-Blocked.reason c.loop-query.invariant
+    blocked_here it effort c.args.queries.now c.loop-query.query-index query c.loop-query-test.true c.query-item.is c.loop-query.by c.in-Blocked.reason c.loop-query.invariant.allowed
     (blocked_as (asked_by it query) effort c.in_ok-judgement.judgement c.in-Blocked.reason c.in-Blocked.is c.in_ok-judgement.ensures.judges)
 
 pub loop-query-preserved : goal.loop-query-preserved
@@ -16,5 +17,21 @@ loop-query-preserved g c =
     let it = reader c.args.reading.now in
     let effort = effort_in (g.S.Settle.orders c.args.settle.now) c.args.budget in
     let query = c.query-item.result in
-    allowed_more it effort c.args.queries.now c.loop-query.query-index query c.loop-query-test.true c.query-item.is c.loop-query.by c.push.new.self c.in-Allowed.allowed c.loop-query.invariant
-    (allowed_as (asked_by it query) effort c.in_ok-judgement.judgement c.in-Allowed.allowed c.in-Allowed.is c.in_ok-judgement.ensures.judges) c.in_ok-push-in-Allowed.ensures.ok
+    record {
+      allowed =
+          allowed_more it effort c.args.queries.now c.loop-query.query-index query c.loop-query-test.true c.query-item.is c.loop-query.by c.push.new.self c.in-Allowed.allowed c.loop-query.invariant.allowed
+          (allowed_as (asked_by it query) effort c.in_ok-judgement.judgement c.in-Allowed.allowed c.in-Allowed.is c.in_ok-judgement.ensures.judges) c.in_ok-push-in-Allowed.ensures.ok;
+      learns = both c.loop-query.invariant.learns c.judge.ensures.learns;
+    }
+
+pub returns-in_err-judgement-clause-learns : goal.returns-in_err-judgement-clause-learns
+returns-in_err-judgement-clause-learns g c = both c.loop-query.invariant.learns c.judge.ensures.learns
+
+pub returns-in_err-push-in-Allowed-clause-learns : goal.returns-in_err-push-in-Allowed-clause-learns
+returns-in_err-push-in-Allowed-clause-learns g c = both c.loop-query.invariant.learns c.judge.ensures.learns
+
+pub returns-in-Blocked-clause-learns : goal.returns-in-Blocked-clause-learns
+returns-in-Blocked-clause-learns g c = both c.loop-query.invariant.learns c.judge.ensures.learns
+
+pub returns-clause-learns : goal.returns-clause-learns
+returns-clause-learns g c = c.loop-query.invariant.learns

@@ -1,9 +1,12 @@
 use Rattle.std.proofs.Common.{take}
 use Rattle.std.specs.List.{AllZip}
 use Rattle.ba_judge.specs.Judging.{IsAllowedBy, effort_in, part_of, seen}
+use Rattle.ba_judge.specs.Shelves.{Learns}
 use Rattle.ba_judge.proofs.union.each_allowed.Given as goal
 
 -- the parts so far are allowed
 abbrev pub invariant-loop-part : goal.invariant-loop-part
-invariant-loop-part g l =
-    AllZip (λ part by. IsAllowedBy (part_of (seen l.asked) part) (effort_in (g.S.Settle.orders l.settle) l.budget) by) (take l.part-index l.part-items) l.grounds
+invariant-loop-part g l = record {
+  allowed : AllZip (λ part by. IsAllowedBy (part_of (seen l.asked) part) (effort_in (g.S.Settle.orders l.settle) l.budget) by) (take l.part-index l.part-items) l.grounds;
+  learns : Learns l.initial.shelves l.shelves;
+}

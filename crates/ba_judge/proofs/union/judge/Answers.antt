@@ -6,6 +6,7 @@ use Rattle.ba_judge.proofs.UnionLemmas.{by_parts}
 use Rattle.ba_judge.specs.Judging.{IsByParts, effort_in, seen}
 use Rattle.ba_judge.specs.declared.verdict.By.{By}
 use Rattle.std.specs.Prelude.{List, Option}
+use Rattle.ba_judge.specs.Shelves.Learns.{both}
 use Rattle.ba_judge.proofs.union.judge.Goals as goal
 
 pub returns-in-Some-each-clause-judges : goal.returns-in-Some-each-clause-judges
@@ -31,3 +32,12 @@ returns-in-Deny-clause-first g c = λ one.
 pub returns-in-Allow-clause-parts : goal.returns-in-Allow-clause-parts
 returns-in-Allow-clause-parts g c = λ several.
     parts_allowed (seen c.args.asked.now) (effort_in (g.S.Settle.orders c.args.settle.now) c.args.budget) c.in-Allow.by (c.in_ok-each.ensures.blocked c.in_default-each.is several)
+
+pub returns-in_err-finding-clause-learns : goal.returns-in_err-finding-clause-learns
+returns-in_err-finding-clause-learns g c = both c.each_allowed.ensures.learns c.conclude.ensures.learns
+
+pub returns-in-Allow-clause-learns : goal.returns-in-Allow-clause-learns
+returns-in-Allow-clause-learns g c = both c.each_allowed.ensures.learns c.conclude.ensures.learns
+
+pub returns-in-Deny-clause-learns : goal.returns-in-Deny-clause-learns
+returns-in-Deny-clause-learns g c = both c.each_allowed.ensures.learns c.conclude.ensures.learns
