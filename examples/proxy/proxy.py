@@ -16,7 +16,7 @@ MOST_BYTES, MOST_ROWS = 1_000_000, 100_000
 
 
 class Blocked(Exception):
-    """The query isn't allowed: the decision."""
+    """The query isn't allowed, or its rows aren't those of the question that was judged: what is said."""
 
 
 class Proxy:
@@ -50,8 +50,11 @@ class Proxy:
             raise Blocked(decision)
         cursor = self.database.cursor()
         cursor.execute(text)
-        rows = cursor.fetchall()
-        self.say({"told": decision["line"], "rows": as_many_as_fit(rows)})
+        # (how often a row comes isn't judged, so each is shown once)
+        rows = list(dict.fromkeys(cursor.fetchall()))
+        told = self.say({"told": decision["line"], "rows": as_many_as_fit(rows)})
+        if "fault" in told:
+            raise Blocked(told)
         return rows
 
 

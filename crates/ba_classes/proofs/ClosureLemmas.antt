@@ -121,20 +121,17 @@ module _ (facts : List Difference) (places : Places) (rows : List (List Best)) (
       subst (IsWithin (2 ^ 98)) (sym (outside i from apart (grid.no_row i from h))) tt)
       (cases_lt i (hash_map_len places))
 
-  pub nothing_past : (j : ℕ) → hash_map_len places ≤ j → or_nothing (nat_eq to j) (cell_at rows to j) ≡ Absent
-  nothing_past j h = let apart : to ≢ j = λ e. absurd (omega (arith, e, grid.below fact.high to high_placed)) in outside to j apart (grid.no_column to j h)
-
-  pub goes_within : (j : ℕ) → IsWithin (2 ^ 98) (or_nothing (nat_eq to j) (cell_at rows to j))
-  goes_within j =
+  pub goes_within : (onward : List Best) → ((j : ℕ) → j < hash_map_len places → get_or onward j Absent ≡ or_nothing (nat_eq to j) (cell_at rows to j)) → ((j : ℕ) → hash_map_len places ≤ j → get_or onward j Absent ≡ Absent) → (j : ℕ) → IsWithin (2 ^ 98) (get_or onward j Absent)
+  goes_within onward onward_is past j =
       ⊎_elim
       (λ (h : j < hash_map_len places).
       let has = closure.named j h in
-      subst (IsWithin (2 ^ 98)) (sym (reach_placed places rows grid fact.high has.node to j high_placed has.placed))
+      subst (IsWithin (2 ^ 98)) (sym (onward_is j h ∙ reach_placed places rows grid fact.high has.node to j high_placed has.placed))
       (reach_within facts closure.in_range (between places rows) closure.exact fact.high has.node has.small))
-      (λ (h : hash_map_len places ≤ j). subst (IsWithin (2 ^ 98)) (sym (nothing_past j h)) tt)
+      (λ (h : hash_map_len places ≤ j). subst (IsWithin (2 ^ 98)) (sym (past j h)) tt)
       (cases_lt j (hash_map_len places))
 
-  module _ (gains : Bool) (gains_is : IsTrue gains ↔ Reaches (reach (between places rows) fact.high fact.low) (pos 1 +ℤ neg_ℤ fact.gap)) (onward : List Best) (onward_is : (j : ℕ) → get_or onward j Absent ≡ or_nothing (nat_eq to j) (cell_at rows to j)) (after : Places) (raised : List (List Best)) (same_places : (x : ℕ) → place_of after x ≡ place_of places x) (cells : (i j : ℕ) → cell_at raised i j ≡ better (cell_at rows i j) (joined (joined (or_nothing (nat_eq i from) (cell_at rows i from)) (through gains fact.gap)) (get_or onward j Absent))) where
+  module _ (gains : Bool) (gains_is : IsTrue gains ↔ Reaches (reach (between places rows) fact.high fact.low) (pos 1 +ℤ neg_ℤ fact.gap)) (onward : List Best) (onward_is : (j : ℕ) → j < hash_map_len places → get_or onward j Absent ≡ or_nothing (nat_eq to j) (cell_at rows to j)) (after : Places) (raised : List (List Best)) (same_places : (x : ℕ) → place_of after x ≡ place_of places x) (cells : (i j : ℕ) → cell_at raised i j ≡ better (cell_at rows i j) (joined (joined (or_nothing (nat_eq i from) (cell_at rows i from)) (through gains fact.gap)) (get_or onward j Absent))) where
     abbrev by_fact : ℕ → ℕ → Best
     by_fact x y = joined (joined (reach (between places rows) x fact.low) (through gains fact.gap)) (reach (between places rows) fact.high y)
 
@@ -144,7 +141,7 @@ module _ (facts : List Difference) (places : Places) (rows : List (List Best)) (
         ∙ same_raised (cell_at rows i j) (between places rows x y) (or_nothing (nat_eq i from) (cell_at rows i from)) (reach (between places rows) x fact.low) (get_or onward j Absent) (reach (between places rows) fact.high y) (through gains fact.gap)
         (sym (cell_placed places rows grid x y i j row column))
         (reach_placed places rows grid x fact.low i from row low_placed)
-        (onward_is j ∙ reach_placed places rows grid fact.high y to j high_placed column)
+        (onward_is j (grid.below y j column) ∙ reach_placed places rows grid fact.high y to j high_placed column)
 
     raised_between : (x y : ℕ) (row column : Option ℕ) → place_of places x ≡ row → place_of places y ≡ column → cell_between raised row column ≡ better (cell_between rows row column) (by_fact x y)
     raised_between x y (Some i) (Some j) row column =
@@ -171,9 +168,9 @@ module _ (facts : List Difference) (places : Places) (rows : List (List Best)) (
     }
 
 -- the same, over what the code read: whether it saw a gain, and the chains through the fact
-pub IsClosure-step : (facts : List Difference) (places : Places) (rows : List (List Best)) (is_absurd : Bool) (grid : IsGrid places rows) (closure : IsClosure facts places rows is_absurd) (fact : Difference) (range : IsInRange (2 ^ 66) fact) (from to : ℕ) (low_placed : place_of places fact.low ≡ Some from) (high_placed : place_of places fact.high ≡ Some to) (gains : Bool) (seen by : Best) (least : ℤ) (onward : List Best) (onward_is : (j : ℕ) → get_or onward j Absent ≡ or_nothing (nat_eq to j) (cell_at rows to j)) (said : IsTrue gains ↔ Reaches seen least) (seen_is : seen ≡ get_or onward from Absent) (least_is : least ≡ pos 1 +ℤ neg_ℤ fact.gap) (by_is : by ≡ through gains fact.gap) (after : Places) (raised : List (List Best)) (same_places : (x : ℕ) → place_of after x ≡ place_of places x) (len : hash_map_len after ≡ hash_map_len places) (cells : (i j : ℕ) → cell_at raised i j ≡ better (cell_at rows i j) (joined (joined (or_nothing (nat_eq i from) (cell_at rows i from)) by) (get_or onward j Absent))) → IsClosure (facts ++ fact ∷ []) after raised (is_absurd || gains)
+pub IsClosure-step : (facts : List Difference) (places : Places) (rows : List (List Best)) (is_absurd : Bool) (grid : IsGrid places rows) (closure : IsClosure facts places rows is_absurd) (fact : Difference) (range : IsInRange (2 ^ 66) fact) (from to : ℕ) (low_placed : place_of places fact.low ≡ Some from) (high_placed : place_of places fact.high ≡ Some to) (gains : Bool) (seen by : Best) (least : ℤ) (onward : List Best) (onward_is : (j : ℕ) → j < hash_map_len places → get_or onward j Absent ≡ or_nothing (nat_eq to j) (cell_at rows to j)) (said : IsTrue gains ↔ Reaches seen least) (seen_is : seen ≡ get_or onward from Absent) (least_is : least ≡ pos 1 +ℤ neg_ℤ fact.gap) (by_is : by ≡ through gains fact.gap) (after : Places) (raised : List (List Best)) (same_places : (x : ℕ) → place_of after x ≡ place_of places x) (len : hash_map_len after ≡ hash_map_len places) (cells : (i j : ℕ) → cell_at raised i j ≡ better (cell_at rows i j) (joined (joined (or_nothing (nat_eq i from) (cell_at rows i from)) by) (get_or onward j Absent))) → IsClosure (facts ++ fact ∷ []) after raised (is_absurd || gains)
 IsClosure-step facts places rows is_absurd grid closure fact range from to low_placed high_placed gains seen by least onward onward_is said seen_is least_is by_is after raised same_places len cells =
-    let back : seen ≡ reach (between places rows) fact.high fact.low = seen_is ∙ onward_is from ∙ reach_placed places rows grid fact.high fact.low to from high_placed low_placed in
+    let back : seen ≡ reach (between places rows) fact.high fact.low = seen_is ∙ onward_is from (grid.below fact.low from low_placed) ∙ reach_placed places rows grid fact.high fact.low to from high_placed low_placed in
     let gains_is : IsTrue gains ↔ Reaches (reach (between places rows) fact.high fact.low) (pos 1 +ℤ neg_ℤ fact.gap) =
     subst (λ b. IsTrue gains ↔ Reaches b (pos 1 +ℤ neg_ℤ fact.gap)) back (subst (λ k. IsTrue gains ↔ Reaches seen k) least_is said) in
     IsClosure-raised facts places rows is_absurd grid closure fact range from to low_placed high_placed gains gains_is onward onward_is after raised same_places

@@ -1,10 +1,11 @@
--- Rows that are widened, added and raised, one after another.
-use Rattle.std.proofs.Common.{◌≡◌, ◌≢◌, ℕ, zero, suc, take, ◌+◌, ◌<◌, ◌≤◌, List, [], ◌∷◌, ◌++◌, length, get_or, set, refl, sym, ap, ◌∙◌, subst, ⊎_elim, arith, nat_eq, false}
-use Rattle.std.proofs.lemmas.Bool.{cases_lt, cases_eq, ne_eqb}
-use Rattle.std.proofs.lemmas.List.{get_or-set_same, get_or-set_other, get_or_past, get_or_append_left, get_or_push, length-set, length_push}
+-- Rows that are cut, added and raised, one after another.
+use Rattle.std.proofs.Common.{◌≡◌, ◌≢◌, ℕ, ◌+◌, ◌<◌, ◌≤◌, List, [], ◌∷◌, ◌++◌, length, get_or, set, refl, sym, ap, ◌∙◌, subst, ⊎_elim, arith, nat_eq, false}
+use Rattle.std.proofs.lemmas.Bool.{cases_lt, cases_eq, eq-eqb, ne_eqb}
+use Rattle.std.proofs.lemmas.List.{get_or-set_same, get_or-set_other, get_or_past, get_or_append_left, get_or_push, length_push}
 use Rattle.ba_classes.specs.Best.{better, joined, or_nothing}
-use Rattle.std.specs.Prelude.{Option, Some, None}
-use Rattle.ba_classes.specs.Grid.{IsWide, SameCells, cell_at, cell_between}
+use Rattle.std.specs.Prelude.{Option, Some, None, cond}
+use Rattle.std.specs.HashMap.{hash_map_len}
+use Rattle.ba_classes.specs.Grid.{IsGrid, NoneNew, NonePast, Places, SameBelow, SameCells, between, cell_at, cell_between, place_of}
 use Rattle.ba_classes.specs.declared.best.Best.{Best}
 use Rattle.ba_classes.specs.declared.best.Best.TheVariants.{Absent}
 
@@ -17,17 +18,17 @@ module _ (rows : List (List Best)) (i : ℕ) (row : List Best) (within : i < len
       (λ (apart : k ≡ i → ⊥). subst (P k) (sym (get_or-set_other rows i k row [] apart)) (elsewhere k apart))
       (cases_eq k i)
 
-  pub written_cells : (start : List (List Best)) → SameCells start rows → ((j : ℕ) → get_or row j Absent ≡ get_or (get_or rows i []) j Absent) → SameCells start (set rows i row)
-  written_cells start same row_same =
-      at_written (λ k r. (j : ℕ) → get_or r j Absent ≡ cell_at start k j) (λ j. row_same j ∙ same i j) (λ k apart j. same k j)
+  -- where the row that is written is the old one, or that cut to a side
+  module _ (start : List (List Best)) (side : ℕ) where
+    pub written_same : SameBelow side start rows → ((j : ℕ) → j < side → get_or row j Absent ≡ cell_at rows i j) → SameBelow side start (set rows i row)
+    written_same same row_same = at_written (λ k r. (j : ℕ) → j < side → get_or r j Absent ≡ cell_at start k j) (λ j h. row_same j h ∙ same i j h) (λ k apart j h. same k j h)
 
-  pub written_wide : (w : ℕ) → IsWide w rows → length (get_or rows i []) ≤ length row → IsWide w (set rows i row)
-  written_wide w wide longer k h =
-      at_written (λ n r. n < length rows → w ≤ length r) (λ n. omega (arith, wide i n)) (λ n apart. wide n) k (rw length-set at h)
+    pub written_none_new : NoneNew start rows → ((j : ℕ) → cell_at rows i j ≡ Absent → get_or row j Absent ≡ Absent) → NoneNew start (set rows i row)
+    written_none_new none_new row_none = at_written (λ k r. (j : ℕ) → cell_at start k j ≡ Absent → get_or r j Absent ≡ Absent) (λ j h. row_none j (none_new i j h)) (λ k apart j h. none_new k j h)
 
-  pub written_done : (side : ℕ) → ((k : ℕ) → k < i → side ≤ length (get_or rows k [])) → side ≤ length row → (k : ℕ) → k < i + 1 → side ≤ length (get_or (set rows i row) k [])
-  written_done side done room k h =
-      at_written (λ n r. n < i + 1 → side ≤ length r) (λ _. room) (λ n apart m. done n (omega arith)) k h
+    pub written_none_past : ((k j : ℕ) → k < i → side ≤ j → cell_at rows k j ≡ Absent) → ((j : ℕ) → side ≤ j → get_or row j Absent ≡ Absent) → (k j : ℕ) → k < i + 1 → side ≤ j → cell_at (set rows i row) k j ≡ Absent
+    written_none_past none_past row_past k j h m =
+        at_written (λ n r. n < i + 1 → get_or r j Absent ≡ Absent) (λ _. row_past j m) (λ n apart b. none_past n j (omega arith) m) k h
 
 -- a row that is added last, read at any place
 at_added : (rows : List (List Best)) (row : List Best) (P : ℕ → List Best → Type 0) → ((k : ℕ) → k < length rows → P k (get_or rows k [])) → P (length rows) row → ((k : ℕ) → length rows < k → P k []) → (k : ℕ) → P k (get_or (rows ++ row ∷ []) k [])
@@ -50,9 +51,48 @@ added_cells start rows row same empty =
     absent_past : (k : ℕ) → length rows ≤ k → (j : ℕ) → cell_at rows k j ≡ Absent
     absent_past k h j = ap (λ (r : List Best). get_or r j Absent) (get_or_past rows k [] h)
 
-pub added_wide : (w : ℕ) (rows : List (List Best)) (row : List Best) → IsWide w rows → w ≤ length row → IsWide w (rows ++ row ∷ [])
-added_wide w rows row wide room k h =
-    at_added rows row (λ n r. n < length rows + 1 → w ≤ length r) (λ n below _. wide n below) (λ _. room) (λ n past m. absurd (omega arith)) k (omega (arith, length_push rows row))
+-- ---- a node that gets a place, where the rows have an empty row and an empty column
+
+module _ (places after : Places) (rows cut added : List (List Best)) (node place : ℕ) (grid : IsGrid places rows) (place-is : place ≡ hash_map_len places) (same : SameBelow place rows cut) (none_new : NoneNew rows cut) (none_past : NonePast place cut) (same_cells : SameCells cut added) (unnamed : place_of places node ≡ None) (updated : (x : ℕ) → place_of after x ≡ cond (nat_eq node x) (Some place) (place_of places x)) where
+  named : place_of after node ≡ Some place
+  named = updated node ∙ ap (λ b. cond b (Some place) (place_of places node)) (eq-eqb node node refl)
+
+  elsewhere : (x : ℕ) → x ≢ node → place_of after x ≡ place_of places x
+  elsewhere x apart = updated x ∙ ap (λ b. cond b (Some place) (place_of places x)) (ne_eqb node x (λ e. apart (sym e)))
+
+  no_row_here : (p : Option ℕ) → cell_between added (Some place) p ≡ Absent
+  no_row_here (Some j) = same_cells place j ∙ none_new place j (grid.no_row place j (omega (arith, place-is)))
+  no_row_here None = refl
+
+  no_column_here : (p : Option ℕ) → cell_between added p (Some place) ≡ Absent
+  no_column_here (Some i) = same_cells i place ∙ none_past i place (omega arith)
+  no_column_here None = refl
+
+  none_to : (p : Option ℕ) → cell_between rows p None ≡ Absent
+  none_to (Some i) = refl
+  none_to None = refl
+
+  old_cells : (y : ℕ) (p q : Option ℕ) → place_of places y ≡ q → cell_between added p q ≡ cell_between rows p q
+  old_cells y (Some i) (Some j) e = same_cells i j ∙ same i j (omega (arith, place-is, grid.below y j e))
+  old_cells y (Some i) None e = refl
+  old_cells y None q e = refl
+
+  pub placed_same : (x y : ℕ) → between after added x y ≡ between places rows x y
+  placed_same x y =
+      ⊎_elim
+      (λ (e : x ≡ node).
+      ap (λ n. between after added n y) e ∙ ap (λ p. cell_between added p (place_of after y)) named ∙ no_row_here (place_of after y)
+      ∙ sym (ap (λ n. between places rows n y) e ∙ ap (λ p. cell_between rows p (place_of places y)) unnamed))
+      (λ (a : x ≡ node → ⊥).
+      ⊎_elim
+      (λ (e : y ≡ node).
+      ap (λ n. between after added x n) e ∙ ap (λ p. cell_between added (place_of after x) p) named ∙ no_column_here (place_of after x)
+      ∙ sym (ap (λ n. between places rows x n) e ∙ ap (λ p. cell_between rows (place_of places x) p) unnamed ∙ none_to (place_of places x)))
+      (λ (b : y ≡ node → ⊥).
+      ap (λ p. cell_between added p (place_of after y)) (elsewhere x a) ∙ ap (λ p. cell_between added (place_of places x) p) (elsewhere y b)
+      ∙ old_cells y (place_of places x) (place_of places y) refl)
+      (cases_eq y node))
+      (cases_eq x node)
 
 module _ (start : List (List Best)) (low : ℕ) (by : Best) (onward : List Best) where
   -- what comes to the place `low` and goes on by `by`
@@ -62,18 +102,14 @@ module _ (start : List (List Best)) (low : ℕ) (by : Best) (onward : List Best)
   abbrev pub raised_cell : ℕ → ℕ → Best
   raised_cell i j = better (cell_at start i j) (joined (coming i) (get_or onward j Absent))
 
-  pub raised_cells : (rows : List (List Best)) (p : ℕ) (row old : List Best) (comes : Best) → p < length rows → ((i j : ℕ) → i < p → cell_at rows i j ≡ raised_cell i j) → old ≡ get_or start p [] → comes ≡ coming p → ((j : ℕ) → get_or row j Absent ≡ better (get_or old j Absent) (joined comes (get_or onward j Absent))) → (i j : ℕ) → i < p + 1 → cell_at (set rows p row) i j ≡ raised_cell i j
-  raised_cells rows p row old comes within below old-is comes-is cells i j h =
-      at_written rows p row within (λ k r. k < p + 1 → get_or r j Absent ≡ raised_cell k j)
-      (λ _. cells j ∙ ap (λ (r : List Best). better (get_or r j Absent) (joined comes (get_or onward j Absent))) old-is ∙ ap (λ b. better (cell_at start p j) (joined b (get_or onward j Absent))) comes-is)
-      (λ k apart m. below k j (omega arith))
+  pub raised_more : (rows : List (List Best)) (p : ℕ) (row old : List Best) (comes : Best) → length rows ≡ p → ((i j : ℕ) → i < p → cell_at rows i j ≡ raised_cell i j) → old ≡ get_or start p [] → comes ≡ coming p → ((j : ℕ) → get_or row j Absent ≡ better (get_or old j Absent) (joined comes (get_or onward j Absent))) → (i j : ℕ) → i < p + 1 → cell_at (rows ++ row ∷ []) i j ≡ raised_cell i j
+  raised_more rows p row old comes len below old-is comes-is cells i j h =
+      at_added rows row (λ k r. k < p + 1 → get_or r j Absent ≡ raised_cell k j)
+      (λ k m _. below k j (omega (arith, len)))
+      (λ _. subst (λ n. get_or row j Absent ≡ raised_cell n j) (sym len)
+      (cells j ∙ ap (λ (r : List Best). better (get_or r j Absent) (joined comes (get_or onward j Absent))) old-is ∙ ap (λ b. better (cell_at start p j) (joined b (get_or onward j Absent))) comes-is))
+      (λ k m n. absurd (omega (arith, len)))
       i h
-
-  pub unraised_rows : (rows : List (List Best)) (p : ℕ) (row : List Best) → p < length rows → ((i : ℕ) → p ≤ i → get_or rows i [] ≡ get_or start i []) → (i : ℕ) → p + 1 ≤ i → get_or (set rows p row) i [] ≡ get_or start i []
-  unraised_rows rows p row within above i h = at_written rows p row within (λ k r. p + 1 ≤ k → r ≡ get_or start k []) (λ m. absurd (omega arith)) (λ k apart m. above k (omega arith)) i h
-
-  pub raised_lengths : (rows : List (List Best)) (p : ℕ) (row old : List Best) → p < length rows → ((i : ℕ) → length (get_or rows i []) ≡ length (get_or start i [])) → old ≡ get_or start p [] → length row ≡ length old → (i : ℕ) → length (get_or (set rows p row) i []) ≡ length (get_or start i [])
-  raised_lengths rows p row old within same old-is len i = at_written rows p row within (λ k r. length r ≡ length (get_or start k [])) (len ∙ ap length old-is) (λ k apart. same k) i
 
   -- past the last row there is nothing to raise
   raised_past : (i j : ℕ) → low < length start → length start ≤ i → cell_at start i j ≡ Absent → cell_at start i low ≡ Absent → nat_eq i low ≡ false → raised_cell i j ≡ Absent
@@ -89,25 +125,14 @@ module _ (start : List (List Best)) (low : ℕ) (by : Best) (onward : List Best)
       absent rows (omega arith) j ∙ sym (raised_past i j within h (absent start h j) (absent start h low) (ne_eqb i low apart)))
       (cases_lt i (length start))
 
--- ---- rows that are cut, one after another
-
-take_none : {X : Type 0} (n : ℕ) → take {A = X} n [] ≡ []
-take_none zero = refl
-take_none (suc n) = refl
-
-module _ (start : List (List Best)) (side : ℕ) where
-  pub cut_more : (rows : List (List Best)) (p : ℕ) (row old : List Best) → p < length rows → ((i : ℕ) → i < p → get_or rows i [] ≡ take side (get_or start i [])) → old ≡ get_or start p [] → row ≡ take side old → (i : ℕ) → i < p + 1 → get_or (set rows p row) i [] ≡ take side (get_or start i [])
-  cut_more rows p row old within below old-is row-is i h =
-      at_written rows p row within (λ k r. k < p + 1 → r ≡ take side (get_or start k [])) (λ _. row-is ∙ ap (take side) old-is) (λ k apart m. below k (omega arith)) i h
-
-  pub cut_all : (rows : List (List Best)) (p : ℕ) → length rows ≡ length start → length start ≤ p → ((i : ℕ) → i < p → get_or rows i [] ≡ take side (get_or start i [])) → (i : ℕ) → get_or rows i [] ≡ take side (get_or start i [])
-  cut_all rows p same done below i =
-      ⊎_elim
-      (λ (h : i < length start). below i (omega arith))
-      (λ (h : length start ≤ i). get_or_past rows i [] (omega arith) ∙ sym (ap (take side) (get_or_past start i [] h) ∙ take_none side))
-      (cases_lt i (length start))
-
 -- ---- where there are no rows
+
+pub none_past_all : (rows : List (List Best)) (i side : ℕ) → length rows ≤ i → ((k j : ℕ) → k < i → side ≤ j → cell_at rows k j ≡ Absent) → NonePast side rows
+none_past_all rows i side whole below k j h =
+    ⊎_elim
+    (λ (b : k < i). below k j b h)
+    (λ (past : i ≤ k). ap (λ (r : List Best). get_or r j Absent) (get_or_past rows k [] (omega arith)))
+    (cases_lt k i)
 
 pub none_between : (rows : List (List Best)) (i j : Option ℕ) → length rows ≡ 0 → cell_between rows i j ≡ Absent
 none_between [] (Some i) (Some j) none = refl

@@ -83,7 +83,7 @@ module _ (facts : List Difference) (value : ℕ → Option ℤ) (places : Places
   }
 
   -- the same, over what the code read
-  pub IsOrder-step : AreSmall value → (grid : IsGrid places rows) (given : Difference) (range : IsInRange (2 ^ 65) given) (fact : Difference) (fact_is : fact ≡ based value given) (from to : ℕ) (low_placed : place_of places fact.low ≡ Some from) (high_placed : place_of places fact.high ≡ Some to) (gains : Bool) (seen by : Best) (least : ℤ) (onward : List Best) (onward_is : (j : ℕ) → get_or onward j Absent ≡ or_nothing (nat_eq to j) (cell_at rows to j)) (said : IsTrue gains ↔ Reaches seen least) (seen_is : seen ≡ get_or onward from Absent) (least_is : least ≡ pos 1 +ℤ neg_ℤ fact.gap) (by_is : by ≡ through gains fact.gap) (after : Places) (raised : List (List Best)) (same_places : (x : ℕ) → place_of after x ≡ place_of places x) (len : hash_map_len after ≡ hash_map_len places) (cells : (i j : ℕ) → cell_at raised i j ≡ better (cell_at rows i j) (joined (joined (or_nothing (nat_eq i from) (cell_at rows i from)) by) (get_or onward j Absent))) → IsOrder (facts ++ given ∷ []) value after raised (is_absurd || gains)
+  pub IsOrder-step : AreSmall value → (grid : IsGrid places rows) (given : Difference) (range : IsInRange (2 ^ 65) given) (fact : Difference) (fact_is : fact ≡ based value given) (from to : ℕ) (low_placed : place_of places fact.low ≡ Some from) (high_placed : place_of places fact.high ≡ Some to) (gains : Bool) (seen by : Best) (least : ℤ) (onward : List Best) (onward_is : (j : ℕ) → j < hash_map_len places → get_or onward j Absent ≡ or_nothing (nat_eq to j) (cell_at rows to j)) (said : IsTrue gains ↔ Reaches seen least) (seen_is : seen ≡ get_or onward from Absent) (least_is : least ≡ pos 1 +ℤ neg_ℤ fact.gap) (by_is : by ≡ through gains fact.gap) (after : Places) (raised : List (List Best)) (same_places : (x : ℕ) → place_of after x ≡ place_of places x) (len : hash_map_len after ≡ hash_map_len places) (cells : (i j : ℕ) → cell_at raised i j ≡ better (cell_at rows i j) (joined (joined (or_nothing (nat_eq i from) (cell_at rows i from)) by) (get_or onward j Absent))) → IsOrder (facts ++ given ∷ []) value after raised (is_absurd || gains)
   IsOrder-step small grid given range fact fact_is from to low_placed high_placed gains seen by least onward onward_is said seen_is least_is by_is after raised same_places len cells =
       IsOrder-more given range after raised (is_absurd || gains)
       (subst (λ f. IsClosure (map (based value) facts ++ f ∷ []) after raised (is_absurd || gains)) fact_is

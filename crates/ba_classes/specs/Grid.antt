@@ -32,19 +32,26 @@ pub record IsLast (places : Places) (node : ℕ) : Type 0 where
   pub placed : place_of places node ≡ Some place
   pub last : place + 1 ≡ hash_map_len places
 
--- each row has w cells or more
-abbrev pub IsWide : ℕ → List (List Best) → Type 0
-IsWide w rows = (i : ℕ) → i < length rows → w ≤ length (slice_index_or rows i [])
-
 -- no cell was changed
 abbrev pub SameCells : List (List Best) → List (List Best) → Type 0
 SameCells old new = (i j : ℕ) → cell_at new i j ≡ cell_at old i j
 
--- the named nodes have different places, the first so many; there are cells for them, and other cells are absent
+-- no cell at a place below the side was changed
+abbrev pub SameBelow : ℕ → List (List Best) → List (List Best) → Type 0
+SameBelow side old new = (i j : ℕ) → j < side → cell_at new i j ≡ cell_at old i j
+
+-- a cell that was absent is absent
+abbrev pub NoneNew : List (List Best) → List (List Best) → Type 0
+NoneNew old new = (i j : ℕ) → cell_at old i j ≡ Absent → cell_at new i j ≡ Absent
+
+-- the cells from the side on are absent
+abbrev pub NonePast : ℕ → List (List Best) → Type 0
+NonePast side rows = (i j : ℕ) → side ≤ j → cell_at rows i j ≡ Absent
+
+-- the named nodes have different places, the first so many; there are rows for them, and other
+-- rows are empty. Cells past the last place may be left from nodes that gave theirs back
 pub record IsGrid (places : Places) (rows : List (List Best)) : Type 0 where
   pub below : (x p : ℕ) → place_of places x ≡ Some p → p < hash_map_len places
   pub apart : (x y p : ℕ) → place_of places x ≡ Some p → place_of places y ≡ Some p → x ≡ y
   pub tall : hash_map_len places ≤ length rows
-  pub wide : IsWide (hash_map_len places) rows
   pub no_row : (i j : ℕ) → hash_map_len places ≤ i → cell_at rows i j ≡ Absent
-  pub no_column : (i j : ℕ) → hash_map_len places ≤ j → cell_at rows i j ≡ Absent

@@ -23,6 +23,17 @@ impl Best {
         }
     }
 
+    /// Whether no chain of `other` is better than these.
+    pub fn covers(self, other: Best) -> bool
+        ensures { IsTrue result → better self other ≡ self }
+    {
+        match (self, other) {
+            (_, Best::Absent) | (Best::Unbounded, _) => true,
+            (Best::Sum(left), Best::Sum(right)) => right <= left,
+            _ => false,
+        }
+    }
+
     /// The best of two sets of chains.
     pub fn better(self, other: Best) -> Best
         ensures { result ≡ better self other }

@@ -4,6 +4,9 @@ ghost use Rattle.ba_classes.specs.Merged.{Connected, IsLabel};
 use std::alloc::{AllocError, Global};
 use std::marker::Model;
 
+/// For how many further terms and merges there is room at first.
+const ROOM: usize = 16;
+
 /// Terms numbered from 0, and the merges that were made of them.
 ///
 /// Each term has a label, and a merge relabels, from the term that is the greater label on. A
@@ -32,7 +35,7 @@ impl Classes {
     {
         Ok(Classes {
             labels: numbers(alloc, count)?,
-            merges: Vec::new(alloc),
+            merges: Vec::with_capacity(alloc, ROOM)?,
         })
     }
 
@@ -104,7 +107,7 @@ fn numbers(alloc: Global, count: u32) -> Result<Vec<u32>, AllocError>
     ensures len { IfOk result (λ it. length it.items ≡ count) }
     ensures in_order { IfOk result (λ it. EachIndex it.items (λ k. slice_index it.items k ≡ k)) }
 {
-    let mut all = Vec::new(alloc);
+    let mut all = Vec::with_capacity(alloc, count as usize + ROOM)?;
     for number in 0..count {
         all.push(number)?;
     }

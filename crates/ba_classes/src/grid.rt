@@ -1,21 +1,24 @@
-ghost use Rattle.std.specs.Prelude.{◌≡◌, ◌≢◌, ℕ, ◌+◌, ◌^◌, ◌<◌, ◌≤◌, [], length, slice_index_or, slice_set, ℤ, pos, neg_ℤ, ◌≤ℤ◌, take, IsTrue, IfOk, IfSome, OnOk, Some, None, nat_eq, ◌⊎◌};
+ghost use Rattle.std.specs.Prelude.{◌≡◌, ◌≢◌, ℕ, ◌+◌, ◌^◌, ◌<◌, ◌≤◌, [], length, slice_index_or, slice_set, ℤ, pos, neg_ℤ, ◌≤ℤ◌, take, IsTrue, IfOk, IfSome, OnOk, OnErr, Some, None, nat_eq, ◌⊎◌};
 ghost use Rattle.std.specs.HashMap.{hash_map_len};
 ghost use Rattle.ba_classes.specs.Best.{IsWithin, Reaches, better, joined, or_nothing};
-ghost use Rattle.ba_classes.specs.Grid.{IsGrid, IsLast, IsWide, SameCells, between, cell_at, place_of};
+ghost use Rattle.ba_classes.specs.Grid.{IsGrid, IsLast, NoneNew, NonePast, SameBelow, SameCells, between, cell_at, place_of};
 
 use super::best::Best;
 use super::row::Row;
+use ba_model::{Duplicate, Shared};
 use std::alloc::{AllocError, Global};
 use std::collections::HashMap;
 
 /// The best chains between the nodes that were named. A named node has a place, which is the number
 /// of its row and of its column.
+///
+/// Copies share their rows: a row that changes is replaced by a changed copy of its own.
 #[derive(Drop)]
 pub struct Grid {
     places: HashMap<u32, usize>,
     /// The nodes by their places. It is tested where it is read.
     names: Vec<u32>,
-    rows: Vec<Row>,
+    rows: Vec<Shared<Row>>,
     ghost in_order: { IsGrid places rows.items },
 }
 
@@ -46,8 +49,9 @@ impl Grid {
             return Ok(place);
         }
         let place = self.places.len();
-        widen(&mut self.rows, place + 1)?;
-        heighten(&mut self.rows, place + 1)?;
+        let alloc = *self.rows.allocator();
+        cut(alloc, &mut self.rows, place)?;
+        add_row(alloc, &mut self.rows, place)?;
         self.names.truncate(place);
         self.names.push(node)?;
         self.places.insert(node, place)?;
@@ -71,33 +75,40 @@ impl Grid {
     /// The best chains that go on from the node of a place, the empty one too.
     pub fn onward(&self, place: usize) -> Result<Row, AllocError>
         requires { place < hash_map_len self.now.places }
-        ensures { IfOk result (λ row. (j : ℕ) →
+        ensures below { IfOk result (λ row. (j : ℕ) → j < hash_map_len self.now.places →
             slice_index_or row j Best.Absent
             ≡ or_nothing (nat_eq place j) (cell_at self.now.rows.items place j)) }
+        ensures past { IfOk result (λ row. (j : ℕ) → hash_map_len self.now.places ≤ j →
+            slice_index_or row j Best.Absent ≡ Best.Absent) }
     {
-        let mut row = self.rows[place].copy(*self.rows.allocator())?;
-        row.add_nothing(place);
-        Ok(row)
+        self.rows[place].onward(*self.rows.allocator(), place, self.places.len())
     }
 
-    /// Adds the chains that come to the place `low`, go on by `by`, and go on from there by `onward`.
-    pub fn raise(&mut self, low: usize, by: Best, onward: &Row)
-        requires low { low < hash_map_len self.old.places }
+    /// The rows with the chains that come to the place `low`, go on by `by`, and go on from there
+    /// by `onward`.
+    pub fn raised(&self, low: usize, by: Best, onward: &Row) -> Result<Vec<Shared<Row>>, AllocError>
+        requires low { low < hash_map_len self.now.places }
         requires comes { (i : ℕ) →
-            IsWithin (2 ^ 98) (or_nothing (nat_eq i low) (cell_at self.old.rows.items i low)) }
+            IsWithin (2 ^ 98) (or_nothing (nat_eq i low) (cell_at self.now.rows.items i low)) }
         requires by { IsWithin (2 ^ 66) by }
         requires goes { (j : ℕ) → IsWithin (2 ^ 98) (slice_index_or onward.now j Best.Absent) }
-        requires room { (j : ℕ) → hash_map_len self.old.places ≤ j →
-            slice_index_or onward.now j Best.Absent ≡ Best.Absent }
-        ensures len { hash_map_len self.new.places ≡ hash_map_len self.old.places }
-        ensures places { (x : ℕ) → place_of self.new.places x ≡ place_of self.old.places x }
-        ensures cells { (i j : ℕ) →
-            cell_at self.new.rows.items i j
-            ≡ better (cell_at self.old.rows.items i j)
-            (joined (joined (or_nothing (nat_eq i low) (cell_at self.old.rows.items i low)) by)
-            (slice_index_or onward.now j Best.Absent)) }
+        ensures grid { IfOk result (λ rows. IsGrid self.now.places rows.items) }
+        ensures cells { IfOk result (λ rows. (i j : ℕ) →
+            cell_at rows.items i j
+            ≡ better (cell_at self.now.rows.items i j)
+            (joined (joined (or_nothing (nat_eq i low) (cell_at self.now.rows.items i low)) by)
+            (slice_index_or onward.now j Best.Absent))) }
     {
-        raise(&mut self.rows, low, by, onward);
+        raised(*self.rows.allocator(), &self.rows, low, by, onward)
+    }
+
+    /// Puts rows for the same places where the old ones are.
+    pub fn set_rows(&mut self, rows: Vec<Shared<Row>>)
+        requires { IsGrid self.old.places rows.items }
+        ensures places { self.new.places ≡ self.old.places }
+        ensures rows { self.new.rows.items ≡ rows.items }
+    {
+        self.rows = rows;
     }
 
     /// How many nodes have places.
@@ -142,7 +153,8 @@ impl Grid {
         }
     }
 
-    /// Takes the last place from the node that has it.
+    /// Takes the last place from the node that has it. The rows' cells at that place are left until
+    /// another node gets it.
     pub fn give_back(&mut self, node: u32)
         requires { IsLast self.old.places node }
         ensures len { hash_map_len self.new.places + 1 ≡ hash_map_len self.old.places }
@@ -156,10 +168,9 @@ impl Grid {
         let side = self.places.len();
         self.names.truncate(side);
         self.rows.truncate(side);
-        cut(&mut self.rows, side);
     }
 
-    /// The same nodes with the same places and chains.
+    /// The same nodes with the same places and chains. The rows are shared.
     pub fn copy(&self, alloc: Global) -> Result<Grid, AllocError>
         ensures places { IfOk result (λ other. other.places.entries ≡ self.now.places.entries) }
         ensures rows { IfOk result (λ other. other.rows.items ≡ self.now.rows.items) }
@@ -187,73 +198,103 @@ fn copy_places(places: &HashMap<u32, usize>) -> Result<HashMap<u32, usize>, Allo
     places.clone()
 }
 
-fn copy_rows(alloc: Global, rows: &[Row]) -> Result<Vec<Row>, AllocError>
+fn copy_rows(alloc: Global, rows: &[Shared<Row>]) -> Result<Vec<Shared<Row>>, AllocError>
     ensures { IfOk result (λ other. other.items ≡ rows.now) }
 {
-    let mut others = Vec::new(alloc);
+    let mut others = Vec::with_capacity(alloc, rows.len())?;
     for row in rows {
         others.push(row.copy(alloc)?)?;
     }
     Ok(others)
 }
 
-// Makes each row have at least `side` cells. Without memory some may be as they were.
-fn widen(rows: &mut [Row], side: usize) -> Result<(), AllocError>
-    ensures same { SameCells rows.old rows.new }
-    ensures kept { (w : ℕ) → IsWide w rows.old → IsWide w rows.new }
-    ensures wide { OnOk result (IsWide side rows.new) }
+// Takes away the cells that rows have from the place `side` on. Without memory some may be left.
+fn cut(alloc: Global, rows: &mut [Shared<Row>], side: usize) -> Result<(), AllocError>
+    ensures same { SameBelow side rows.old rows.new }
+    ensures none_new { NoneNew rows.old rows.new }
+    ensures none_past { OnOk result (NonePast side rows.new) }
 {
     for row in rows.iter_mut() {
-        row.widen(side)?;
+        cut_row(alloc, row, side)?;
     }
     Ok(())
 }
 
-// Adds empty rows until there are at least `side`. Without memory some may be missing.
-fn heighten(rows: &mut Vec<Row>, side: usize) -> Result<(), AllocError>
+// The same for one row. Without memory nothing changes.
+fn cut_row(alloc: Global, row: &mut Shared<Row>, side: usize) -> Result<(), AllocError>
+    ensures ok { OnOk result (row.new ≡ take side row.old) }
+    ensures err { OnErr result (row.new ≡ row.old) }
+{
+    if row.len() <= side {
+        return Ok(());
+    }
+    match row.get_mut() {
+        Some(own) => own.cut(side),
+        None => *row = Shared::new(alloc, row.first(alloc, side)?)?,
+    }
+    Ok(())
+}
+
+// Adds an empty row at the place, unless there is one.
+fn add_row(alloc: Global, rows: &mut Vec<Shared<Row>>, place: usize) -> Result<(), AllocError>
+    requires { place ≤ length rows.old.items }
     ensures same { SameCells rows.old.items rows.new.items }
     ensures longer { length rows.old.items ≤ length rows.new.items }
-    ensures kept { (w : ℕ) → w ≤ side → IsWide w rows.old.items → IsWide w rows.new.items }
-    ensures tall { OnOk result (side ≤ length rows.new.items) }
+    ensures tall { OnOk result (place < length rows.new.items) }
 {
-    for _ in rows.len()..side {
-        let mut row = Row::new(*rows.allocator());
-        row.widen(side)?;
-        rows.push(row)?;
+    if rows.len() == place {
+        rows.push(Shared::new(alloc, Row::new(alloc))?)?;
     }
     Ok(())
 }
 
-// Cuts each row to `side` cells.
-fn cut(rows: &mut [Row], side: usize)
-    ensures { (i : ℕ) →
-        slice_index_or rows.new i [] ≡ take side (slice_index_or rows.old i []) }
-{
-    for row in rows.iter_mut() {
-        row.cut(side);
-    }
-}
-
-// Each row with the chains that come to the place `low`, go on by `by`, and go on from there by
+// The rows with the chains that come to the place `low`, go on by `by`, and go on from there by
 // `onward`.
-fn raise(rows: &mut [Row], low: usize, by: Best, onward: &Row)
-    requires low { low < length rows.old }
+fn raised(
+    alloc: Global,
+    rows: &[Shared<Row>],
+    low: usize,
+    by: Best,
+    onward: &Row,
+) -> Result<Vec<Shared<Row>>, AllocError>
+    requires low { low < length rows.now }
     requires comes { (i : ℕ) →
-        IsWithin (2 ^ 98) (or_nothing (nat_eq i low) (cell_at rows.old i low)) }
+        IsWithin (2 ^ 98) (or_nothing (nat_eq i low) (cell_at rows.now i low)) }
     requires by { IsWithin (2 ^ 66) by }
     requires goes { (j : ℕ) → IsWithin (2 ^ 98) (slice_index_or onward.now j Best.Absent) }
-    requires room { (i j : ℕ) → i < length rows.old → length (slice_index_or rows.old i []) ≤ j →
-        slice_index_or onward.now j Best.Absent ≡ Best.Absent }
-    ensures lengths { (i : ℕ) →
-        length (slice_index_or rows.new i []) ≡ length (slice_index_or rows.old i []) }
-    ensures cells { (i j : ℕ) →
-        cell_at rows.new i j
-        ≡ better (cell_at rows.old i j)
-        (joined (joined (or_nothing (nat_eq i low) (cell_at rows.old i low)) by)
-        (slice_index_or onward.now j Best.Absent)) }
+    ensures len { IfOk result (λ others. length others.items ≡ length rows.now) }
+    ensures cells { IfOk result (λ others. (i j : ℕ) →
+        cell_at others.items i j
+        ≡ better (cell_at rows.now i j)
+        (joined (joined (or_nothing (nat_eq i low) (cell_at rows.now i low)) by)
+        (slice_index_or onward.now j Best.Absent))) }
 {
-    for (place, row) in rows.iter_mut().enumerate() {
+    let mut others = Vec::with_capacity(alloc, rows.len())?;
+    for (place, row) in rows.iter().enumerate() {
         let comes = row.at(low).or_nothing(place == low).joined(by);
-        row.raise(comes, onward);
+        others.push(raised_row(alloc, row, comes, onward)?)?;
+    }
+    Ok(others)
+}
+
+// The row with the chains that go on from `left` by the row `onward`. Where none is better than
+// those there are, the row is shared.
+fn raised_row(
+    alloc: Global,
+    row: &Shared<Row>,
+    left: Best,
+    onward: &Row,
+) -> Result<Shared<Row>, AllocError>
+    requires left { IsWithin (2 ^ 99) left }
+    requires onward { (j : ℕ) → IsWithin (2 ^ 99) (slice_index_or onward.now j Best.Absent) }
+    ensures { IfOk result (λ other. (j : ℕ) →
+        slice_index_or other j Best.Absent
+        ≡ better (slice_index_or row.now j Best.Absent)
+        (joined left (slice_index_or onward.now j Best.Absent))) }
+{
+    if row.gains(left, onward) {
+        Shared::new(alloc, row.raised(alloc, left, onward)?)
+    } else {
+        row.copy(alloc)
     }
 }

@@ -90,8 +90,9 @@ impl Order {
         let to = self.grid.place(based.high)?;
         let onward = self.grid.onward(to)?;
         let gains = onward.at(from).reaches(1 - based.gap);
+        let rows = self.grid.raised(from, through(gains, based.gap), &onward)?;
         self.facts.push(Difference { low, gap, high })?;
-        self.grid.raise(from, through(gains, based.gap), &onward);
+        self.grid.set_rows(rows);
         self.is_absurd |= gains;
         Ok(())
     }
@@ -180,7 +181,8 @@ impl Order {
         &self.facts
     }
 
-    /// The same facts.
+    /// The same facts. The best sums are shared until one of the orders gets a fact that changes
+    /// them.
     pub fn copy(&self, alloc: Global) -> Result<Order, AllocError>
         ensures { IfOk result (λ other. other ≡ self.now) }
     {

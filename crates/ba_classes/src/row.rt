@@ -1,5 +1,5 @@
-ghost use Rattle.std.specs.Prelude.{◌≡◌, ℕ, ◌+◌, ◌^◌, ◌<◌, ◌≤◌, [], length, slice_index_or, slice_set, take, pos, IfOk, OnOk};
-ghost use Rattle.ba_classes.specs.Best.{IsWithin, better, joined};
+ghost use Rattle.std.specs.Prelude.{◌≡◌, ℕ, ◌+◌, ◌^◌, ◌<◌, ◌≤◌, [], false, length, nat_eq, slice_index_or, take, IfOk};
+ghost use Rattle.ba_classes.specs.Best.{IsWithin, better, joined, or_nothing};
 
 use super::best::Best;
 use std::alloc::{AllocError, Global};
@@ -35,25 +35,11 @@ impl Row {
         self.cells.get(place).copied().unwrap_or(Best::Absent)
     }
 
-    /// Makes room for `len` places. Without memory there may be more room than before.
-    pub fn widen(&mut self, len: usize) -> Result<(), AllocError>
-        ensures same { (j : ℕ) →
-            slice_index_or self.new j Best.Absent ≡ slice_index_or self.old j Best.Absent }
-        ensures longer { length self.old ≤ length self.new }
-        ensures room { OnOk result (len ≤ length self.new) }
+    /// How many places it has cells for.
+    pub fn len(&self) -> usize
+        ensures { result ≡ length self.now }
     {
-        for _ in self.cells.len()..len {
-            self.cells.push(Best::Absent)?;
-        }
-        Ok(())
-    }
-
-    pub fn copy(&self, alloc: Global) -> Result<Row, AllocError>
-        ensures { IfOk result (λ other. other ≡ self.now) }
-    {
-        Ok(Row {
-            cells: Vec::from_slice(alloc, &self.cells)?,
-        })
+        self.cells.len()
     }
 
     /// Takes away the chains to the places from `len` on.
@@ -63,42 +49,67 @@ impl Row {
         self.cells.truncate(len);
     }
 
-    /// Makes the place have the empty chain too.
-    pub fn add_nothing(&mut self, place: usize)
-        requires { place < length self.old }
-        ensures { self.new ≡ slice_set self.old place (better (slice_index_or self.old place Best.Absent) (Best.Sum (pos 0))) }
+    /// The chains to the places below `len`.
+    pub fn first(&self, alloc: Global, len: usize) -> Result<Row, AllocError>
+        requires { len ≤ length self.now }
+        ensures { IfOk result (λ row. row ≡ take len self.now) }
     {
-        let cell = &mut self.cells[place];
-        *cell = cell.or_nothing(true);
+        Ok(Row {
+            cells: Vec::from_slice(alloc, &self.cells[..len])?,
+        })
     }
 
-    /// Adds the chains that go on from `left` by the row `onward`.
-    pub fn raise(&mut self, left: Best, onward: &Row)
+    /// The chains to the places below `side`, the empty one to `place` too.
+    pub fn onward(&self, alloc: Global, place: usize, side: usize) -> Result<Row, AllocError>
+        requires { place < side }
+        ensures below { IfOk result (λ row. (j : ℕ) → j < side →
+            slice_index_or row j Best.Absent
+            ≡ or_nothing (nat_eq place j) (slice_index_or self.now j Best.Absent)) }
+        ensures past { IfOk result (λ row. (j : ℕ) → side ≤ j →
+            slice_index_or row j Best.Absent ≡ Best.Absent) }
+    {
+        let len = self.len().min(side).max(place + 1);
+        let mut cells = Vec::with_capacity(alloc, len)?;
+        for other in 0..len {
+            cells.push(self.at(other).or_nothing(place == other))?;
+        }
+        Ok(Row { cells })
+    }
+
+    /// Whether a chain that goes on from `left` by the row `onward` is better than those there are.
+    pub fn gains(&self, left: Best, onward: &Row) -> bool
         requires left { IsWithin (2 ^ 99) left }
         requires onward { (j : ℕ) → IsWithin (2 ^ 99) (slice_index_or onward.now j Best.Absent) }
-        requires room { (j : ℕ) → length self.old ≤ j → slice_index_or onward.now j Best.Absent ≡ Best.Absent }
-        ensures len { length self.new ≡ length self.old }
-        ensures cells { (j : ℕ) →
-            slice_index_or self.new j Best.Absent
-            ≡ better (slice_index_or self.old j Best.Absent) (joined left (slice_index_or onward.now j Best.Absent)) }
+        ensures { result ≡ false → (j : ℕ) →
+            better (slice_index_or self.now j Best.Absent)
+            (joined left (slice_index_or onward.now j Best.Absent))
+            ≡ slice_index_or self.now j Best.Absent }
     {
         if let Best::Absent = left {
-            return;
+            return false;
         }
-        raise(&mut self.cells, left, &onward.cells);
+        for place in 0..onward.len() {
+            if !self.at(place).covers(left.joined(onward.at(place))) {
+                return true;
+            }
+        }
+        false
     }
-}
 
-// Each cell with the chains that go on from `left` by the cell of `onward` at its place.
-fn raise(cells: &mut [Best], left: Best, onward: &[Best])
-    requires left { IsWithin (2 ^ 99) left }
-    requires onward { (j : ℕ) → IsWithin (2 ^ 99) (slice_index_or onward.now j Best.Absent) }
-    requires room { (j : ℕ) → length cells.old ≤ j → slice_index_or onward.now j Best.Absent ≡ Best.Absent }
-    ensures { (j : ℕ) →
-        slice_index_or cells.new j Best.Absent
-        ≡ better (slice_index_or cells.old j Best.Absent) (joined left (slice_index_or onward.now j Best.Absent)) }
-{
-    for place in 0..cells.len().min(onward.len()) {
-        cells[place] = cells[place].better(left.joined(onward[place]));
+    /// These chains and those that go on from `left` by the row `onward`.
+    pub fn raised(&self, alloc: Global, left: Best, onward: &Row) -> Result<Row, AllocError>
+        requires left { IsWithin (2 ^ 99) left }
+        requires onward { (j : ℕ) → IsWithin (2 ^ 99) (slice_index_or onward.now j Best.Absent) }
+        ensures { IfOk result (λ row. (j : ℕ) →
+            slice_index_or row j Best.Absent
+            ≡ better (slice_index_or self.now j Best.Absent)
+            (joined left (slice_index_or onward.now j Best.Absent))) }
+    {
+        let len = self.len().max(onward.len());
+        let mut cells = Vec::with_capacity(alloc, len)?;
+        for place in 0..len {
+            cells.push(self.at(place).better(left.joined(onward.at(place))))?;
+        }
+        Ok(Row { cells })
     }
 }

@@ -37,7 +37,7 @@ use Rattle.ba_decide.proofs.StepLemmas.{tracks_allows, tracks_asks, tracks_begin
 use Rattle.ba_decide.proofs.TrackLemmas.{Says, Tracks, TurnsHere, at_cases, at_within, quiet, same_event, same_said}
 use Rattle.ba_decide.specs.Journal.{Entry, Heard, Means, Runs, SaysNothing, Serves, ServesHeard, said, too_long, lost}
 use Rattle.ba_decide.specs.Journal.Runs.{none, next}
-use Rattle.ba_decide.specs.Told.{AreOfKey, At, GivesAll, Headline, IsAsker, IsDenied, IsSafe, OfText, WasTold}
+use Rattle.ba_decide.specs.Told.{AreOfKey, At, GivesAll, Headline, IsAsker, IsDenied, IsReadDenied, IsSafe, OfText, WasTold}
 
 -- ---- steps
 
@@ -234,6 +234,24 @@ module _ (effort : Effort) (journal : List Entry) (e : Entry) (old new : Live) (
         subst (All (IsSafe old.policy journal name)) (sym judged.0) (all_safe old.policy journal name h.asker effort _ by (tracks.each name h.asker h.is_open).asker_is judged.1),
       )
 
+  read_blocked_here : (name key : List ℕ) (members : List Member) (queries : List Query) (by : List Allowed) (reason : Reason) → Says e (event.Read name key members) (decided.Read (read.Blocked queries by reason))
+      → AreOfKey old.policy key members queries × IsReadDenied old.policy effort journal name queries reason
+  read_blocked_here name key members queries by reason says =
+      let h : Reads effort name key members (read.Blocked queries by reason) old new = meant effort (length journal + 1) e old new (event.Read name key members) (decided.Read (read.Blocked queries by reason)) serves says (λ bytes z. z) in
+      let judged = h.judged in
+      let behind = judged.1 in
+      let asker_is = (tracks.each name h.asker h.is_open).asker_is in (
+        record { found = h.found; named = h.is_key.named; arguments = h.arguments; given = h.is_key.given; queries_are = judged.0 },
+        record {
+          front = behind.front;
+          query = behind.query;
+          back = behind.back;
+          are = judged.0 ∙ behind.are;
+          safe = all_safe old.policy journal name h.asker effort behind.front by asker_is behind.allowed;
+          denied = record { context = h.asker.context; trace = h.asker.trace; asker = asker_is; blocked = behind.blocked };
+        },
+      )
+
 -- ---- all entries
 
 record Holds (policy : Policy) (effort : Effort) (journal : List Entry) (now : Live) : Type 0 where
@@ -251,8 +269,9 @@ headline_more : (policy : Policy) (effort : Effort) (journal : List Entry) (e : 
     → ((name text : List ℕ) (by : Allowed) → Says e (event.Ask name text) (decided.Allowed by) → OfText policy text (IsSafe policy journal name))
     → ((name text : List ℕ) (reason : Reason) → Says e (event.Ask name text) (decided.Blocked reason) → OfText policy text (λ query. IsDenied policy effort journal name query reason))
     → ((name key : List ℕ) (members : List Member) (queries : List Query) (by : List Allowed) → Says e (event.Read name key members) (decided.Read (read.Allowed queries by)) → AreOfKey policy key members queries × All (IsSafe policy journal name) queries)
+    → ((name key : List ℕ) (members : List Member) (queries : List Query) (by : List Allowed) (reason : Reason) → Says e (event.Read name key members) (decided.Read (read.Blocked queries by reason)) → AreOfKey policy key members queries × IsReadDenied policy effort journal name queries reason)
     → Headline policy effort (journal ++ e ∷ [])
-headline_more policy effort journal e head allowed blocked keys =
+headline_more policy effort journal e head allowed blocked keys stops =
     record {
       allowed = λ place name text by at.
           elim (at_cases policy journal e place _ _ at) [
@@ -268,6 +287,11 @@ headline_more policy effort journal e head allowed blocked keys =
           elim (at_cases policy journal e place _ _ at) [
             | inl there ↦ subst (λ (js : List Entry). AreOfKey policy key members queries × All (IsSafe policy js name) queries) (sym (take_front journal e place (at_within policy journal e place _ _ there))) (head.read place name key members queries by there)
             | inr (same, says) ↦ subst (λ (js : List Entry). AreOfKey policy key members queries × All (IsSafe policy js name) queries) (sym (take_here journal e place same)) (keys name key members queries by says)
+          ];
+      read_blocked = λ place name key members queries by reason at.
+          elim (at_cases policy journal e place _ _ at) [
+            | inl there ↦ subst (λ (js : List Entry). AreOfKey policy key members queries × IsReadDenied policy effort js name queries reason) (sym (take_front journal e place (at_within policy journal e place _ _ there))) (head.read_blocked place name key members queries by reason there)
+            | inr (same, says) ↦ subst (λ (js : List Entry). AreOfKey policy key members queries × IsReadDenied policy effort js name queries reason) (sym (take_here journal e place same)) (stops name key members queries by reason says)
           ];
     }
 
@@ -286,6 +310,7 @@ holds_start policy loaded budget effort start fresh =
         allowed = λ place name text by at. absurd (no_entry place _ _ at);
         blocked = λ place name text reason at. absurd (no_entry place _ _ at);
         read = λ place name key members queries by at. absurd (no_entry place _ _ at);
+        read_blocked = λ place name key members queries by reason at. absurd (no_entry place _ _ at);
       };
     }
 
@@ -294,7 +319,7 @@ holds_own effort journal e old new tracks head serves =
     record {
       policy_is = serves.stays.policy;
       tracks = serves_step effort journal e old new tracks serves;
-      headline = headline_more old.policy effort journal e head (allowed_here effort journal e old new tracks serves) (blocked_here effort journal e old new tracks serves) (read_here effort journal e old new tracks serves);
+      headline = headline_more old.policy effort journal e head (allowed_here effort journal e old new tracks serves) (blocked_here effort journal e old new tracks serves) (read_here effort journal e old new tracks serves) (read_blocked_here effort journal e old new tracks serves);
     }
 
 holds_more : (policy : Policy) (effort : Effort) (journal : List Entry) (e : Entry) (old new : Live) → Holds policy effort journal old → Serves effort (length journal + 1) e old new → Holds policy effort (journal ++ e ∷ []) new

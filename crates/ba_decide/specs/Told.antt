@@ -1,5 +1,5 @@
 -- What a request was told, by the lines alone, and what that says of its questions.
-use Rattle.std.specs.Prelude.{◌≡◌, ℕ, ◌+◌, ◌<◌, ◌≤◌, List, All, Ok, Some, slice_get, take, ⊤}
+use Rattle.std.specs.Prelude.{◌≡◌, ℕ, ◌+◌, ◌<◌, ◌≤◌, List, ◌∷◌, ◌++◌, All, Ok, Some, slice_get, take, ⊤}
 use Rattle.ba_comply.specs.Comply.{Agree}
 use Rattle.ba_comply.specs.declared.trace.TraceEntry.{TraceEntry}
 use Rattle.ba_decide.specs.Journal.{Entry, said}
@@ -141,8 +141,18 @@ pub record AreOfKey (policy : Policy) (key : List ℕ) (members : List Member) (
   pub given : context_of found.arguments members ≡ Some arguments
   pub queries_are : queries ≡ key_queries policy found arguments
 
+-- The queries in front are safe, and the next one is denied for this reason.
+pub record IsReadDenied (policy : Policy) (effort : Effort) (journal : List Entry) (name : List ℕ)
+    (queries : List Query) (reason : Reason) : Type 0 where
+  pub front : List Query
+  pub query : Query
+  pub back : List Query
+  pub are : queries ≡ front ++ query ∷ back
+  pub safe : All (IsSafe policy journal name) front
+  pub denied : IsDenied policy effort journal name query reason
+
 -- Each allowed question is safe after the lines before it, and so is each query of a key that may
--- be read; each block has its reason.
+-- be read; each block has its reason, and of a key's queries the first that is blocked has it.
 pub record Headline (policy : Policy) (effort : Effort) (journal : List Entry) : Type 0 where
   pub allowed : (place : ℕ) (name text : List ℕ) (by : Allowed) →
       At journal place (event.Ask name text) (decided.Allowed by) →
@@ -150,6 +160,12 @@ pub record Headline (policy : Policy) (effort : Effort) (journal : List Entry) :
   pub blocked : (place : ℕ) (name text : List ℕ) (reason : Reason) →
       At journal place (event.Ask name text) (decided.Blocked reason) →
       OfText policy text (λ query. IsDenied policy effort (take place journal) name query reason)
+  pub read_blocked : (place : ℕ) (name key : List ℕ) (members : List Member)
+      (queries : List Query) (by : List Allowed) (reason : Reason) →
+      At journal place (event.Read name key members)
+      (decided.Read (read.Blocked queries by reason)) →
+      AreOfKey policy key members queries
+      × IsReadDenied policy effort (take place journal) name queries reason
   pub read : (place : ℕ) (name key : List ℕ) (members : List Member) (queries : List Query)
       (by : List Allowed) →
       At journal place (event.Read name key members) (decided.Read (read.Allowed queries by)) →

@@ -22,6 +22,7 @@ fn reason_name(reason: Refusal) -> &'static str
         Refusal::Requests => "requests",
         Refusal::Key => "key",
         Refusal::Args => "args",
+        Refusal::Comment => "comment",
         Refusal::Asks => "asks",
         Refusal::Unasked => "unasked",
         Refusal::Rows => "rows",

@@ -1,11 +1,11 @@
 -- Which fact an unknown is a term of, where the facts' terms are the unknowns, one after another.
-use Rattle.std.proofs.Common.{◌≡◌, ◌∙◌, ℕ, zero, suc, ◌+◌, ◌<◌, ◌≤◌, ◌⊎◌, ◌↔◌, inl, inr, Bool, true, false, IsTrue, List, [], ◌∷◌, ◌++◌, length, Some, None, refl, sym, ap, subst, arith}
+use Rattle.std.proofs.Common.{◌≡◌, ◌∙◌, ℕ, zero, suc, ◌+◌, ◌<◌, ◌≤◌, ◌⊎◌, ◌↔◌, inl, inr, Bool, true, false, IsTrue, List, [], ◌∷◌, ◌++◌, length, Option, Some, None, refl, sym, ap, subst, arith}
 use Rattle.std.proofs.Math.Nat.{eq-or-lt_of_le}
 use Rattle.std.proofs.lemmas.Bool.{cases_lt, false≢true}
 use Rattle.std.proofs.lemmas.Option.{get_or_from_slice_get, none-some, same_Some, slice_get_within}
 use Rattle.std.specs.Bool.{then_some}
 use Rattle.std.specs.List.{Any, slice_get, slice_index_or}
-use Rattle.ba_facts.specs.Laid.{AreLaid, BeginsBy, IsHolder, IsTermOf, unknowns_from}
+use Rattle.ba_facts.specs.Laid.{AreLaid, BeginsBy, IsHolder, IsHolderAt, IsTermOf, unknowns_from}
 use Rattle.ba_facts.specs.declared.term.Fact.{Fact}
 use Rattle.ba_facts.specs.declared.term.Term.{Term}
 use Rattle.ba_facts.specs.declared.term.Term.TheVariants.{Unknown}
@@ -91,6 +91,17 @@ compare a b = elim (cases_lt a b) [ inl less ↦ inl less | inr late ↦ elim (e
 abbrev pub HaveNone : List Fact → ℕ → ℕ → Type 0
 HaveNone facts u number = (i : ℕ) → number ≤ i → IsTermOf facts u i → ⊥
 
+-- none before the number has it
+abbrev pub HaveNoneBefore : List Fact → ℕ → ℕ → Type 0
+HaveNoneBefore facts u number = (i : ℕ) → i < number → IsTermOf facts u i → ⊥
+
+-- none before the one number has it, and none from the other on
+pub record Between (facts : List Fact) (u first end : ℕ) : Type 0 where
+  pub up : first ≤ end
+  pub within : end ≤ length facts
+  pub before : HaveNoneBefore facts u first
+  pub behind : HaveNone facts u end
+
 pub none_past : (facts : List Fact) (u number : ℕ) → number ≡ length facts → HaveNone facts u number
 none_past facts u number all i past h =
     let below = slice_get_within facts i h.fact h.there in
@@ -134,6 +145,40 @@ module _ (facts : List Fact) (end u : ℕ) (laid : AreLaid 0 facts end) where
       held i h same =
           let one : h.fact ≡ fact = same_fact i h.fact fact h.there (subst (λ n. slice_get facts n ≡ Some fact) same there) in
           any_at fact.terms h.column u (subst (λ (f : Fact). slice_get f.terms h.column ≡ Some (Unknown u)) one h.has)
+
+  -- where a fact begins by the unknown, none before it has it, and where it begins behind, none from it on
+  pub none_before : (number first : ℕ) (fact : Fact) → slice_get facts number ≡ Some fact → slice_get fact.terms 0 ≡ Some (Unknown first) → first ≤ u → HaveNoneBefore facts u number
+  none_before number first fact there first_is low i less h =
+      let order = in_order 0 end facts i number h.column 0 u first h.fact fact laid less h.there h.has there first_is in
+      omega (arith, order, low)
+
+  pub none_from : (number first : ℕ) (fact : Fact) → slice_get facts number ≡ Some fact → slice_get fact.terms 0 ≡ Some (Unknown first) → u < first → HaveNone facts u number
+  none_from number first fact there first_is late i least h = elim (compare number i) [
+    | inl less ↦
+        let order = in_order 0 end facts number i 0 h.column first u fact h.fact laid less there first_is h.there h.has in
+        omega (arith, order, late)
+    | inr (inl same) ↦
+        let one : h.fact ≡ fact = same_fact i h.fact fact h.there (subst (λ n. slice_get facts n ≡ Some fact) same there) in
+        let begins = subst (λ (f : Fact). BeginsBy f u) one (term_begins 0 end facts i h.column u h.fact laid h.there h.has) in
+        let is = number_of_unknown first begins.first (same_Some (Unknown first) (Unknown begins.first) (sym first_is ∙ begins.first_is)) in
+        let low = begins.low in
+        omega (arith, is, low, late)
+    | inr (inr more) ↦ omega (arith, least, more)
+  ]
+
+  -- where none before the number has it and none behind, the fact of the number has it, or none has
+  pub only_at : (number : ℕ) (holder : Option ℕ) → HaveNoneBefore facts u number → HaveNone facts u (number + 1) → IsHolderAt facts u number holder → IsHolder facts u holder
+  only_at number holder before behind is i = (
+    λ e. let it = (is i).0 e in subst (IsTermOf facts u) (sym it.0) it.1,
+    λ h. let same = at_number_alone i h in (is i).1 (same, subst (IsTermOf facts u) same h),
+  )
+    where
+      at_number_alone : (i : ℕ) → IsTermOf facts u i → i ≡ number
+      at_number_alone i h = elim (compare number i) [
+        | inl less ↦ absurd (behind i (omega (arith, less)) h)
+        | inr (inl same) ↦ sym same
+        | inr (inr more) ↦ absurd (before i more h)
+      ]
 
   pub no_holder : HaveNone facts u 0 → IsHolder facts u None
   no_holder none i = (λ e. absurd (none-some i e), λ h. absurd (none i (omega arith) h))

@@ -29,3 +29,4 @@ mod MemberLemmas
 pub mod LaidLemmas
 pub mod LessonLemmas
 pub mod SortLemmas
+pub mod EmptyOrder

@@ -31,6 +31,11 @@ pub record IsTermOf (facts : List Fact) (u number : ℕ) : Type 0 where
 abbrev pub IsHolder : List Fact → ℕ → Option ℕ → Type 0
 IsHolder facts u holder = (number : ℕ) → (holder ≡ Some number) ↔ IsTermOf facts u number
 
+-- the number, if its fact has the unknown
+abbrev pub IsHolderAt : List Fact → ℕ → ℕ → Option ℕ → Type 0
+IsHolderAt facts u number holder =
+    (n : ℕ) → (holder ≡ Some n) ↔ ((n ≡ number) × IsTermOf facts u number)
+
 -- the fact's first term is an unknown of this number or a lesser one
 pub record BeginsBy (fact : Fact) (u : ℕ) : Type 0 where
   pub first : ℕ

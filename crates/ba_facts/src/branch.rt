@@ -1,8 +1,8 @@
-ghost use Rattle.std.specs.Prelude.{◌≡◌, ◌∷◌, ◌++◌, ◌↔◌, ◌+◌, ◌-◌, ◌≤◌, ◌^◌, [], length, map, take, Any, IsTrue, IfOk, OnOk, OnErr};
+ghost use Rattle.std.specs.Prelude.{◌≡◌, ◌∷◌, ◌++◌, ◌↔◌, ℕ, ◌+◌, ◌-◌, ◌≤◌, ◌^◌, [], length, map, slice_get, take, Any, IsTrue, IfOk, OnOk, OnErr, Some};
 ghost use Rattle.std.specs.List.{range_with_len};
 ghost use Rattle.std.specs.Option.{option_copied};
 ghost use Rattle.ba_facts.specs.Knowing.{IsBound, IsLeastOf, IsLiteralIn, LessonIsThere, sort_of};
-ghost use Rattle.ba_facts.specs.Laid.{BeginsBy, IsHolder, IsLaid};
+ghost use Rattle.ba_facts.specs.Laid.{BeginsBy, IsHolder, IsHolderAt, IsLaid};
 ghost use Rattle.ba_facts.specs.Laws.{with_lesson};
 ghost use Rattle.ba_facts.specs.Shown.{Absurd, Refutes, Shows, TheSame};
 ghost use Rattle.ba_facts.specs.declared.term.Term.TheVariants.{Unknown};
@@ -89,9 +89,37 @@ impl Branch {
         }
     }
 
-    /// The number of the fact that the unknown is a term of, if it is one of a fact's. The newest
-    /// facts are looked at first.
+    /// The number of the fact that the unknown is a term of, if it is one of a fact's. It is looked
+    /// for by halving, since the facts' first terms rise; where one has no terms, from the newest on.
     pub fn holder(&self, unknown: u32) -> Option<usize>
+        requires { IsLaid self.now }
+        ensures { IsHolder self.now.facts unknown result }
+    {
+        let mut first = 0;
+        let mut end = self.facts.len();
+        while end - first > 1 {
+            let middle = first + (end - first) / 2;
+            match first_of(self.facts.get(middle)) {
+                Some(begin) if begin <= unknown => first = middle,
+                Some(_) => end = middle,
+                None => return self.last_holder(unknown),
+            }
+        }
+        self.holder_at(first, unknown)
+    }
+
+    /// The number, if it is that of a fact that the unknown is a term of.
+    fn holder_at(&self, number: usize, unknown: u32) -> Option<usize>
+        ensures { IsHolderAt self.now.facts unknown number result }
+    {
+        match self.facts.find(number) {
+            Some(fact) => has_unknown(fact, unknown).then_some(number),
+            None => None,
+        }
+    }
+
+    /// The number of the fact that the unknown is a term of, looked for from the newest on.
+    fn last_holder(&self, unknown: u32) -> Option<usize>
         requires { IsLaid self.now }
         ensures { IsHolder self.now.facts unknown result }
     {
@@ -205,6 +233,16 @@ impl Branch {
     {
         let copy = self.copy(alloc)?;
         Owned::new(alloc, copy)
+    }
+}
+
+/// The number of the unknown that is the fact's first term, if it is one.
+fn first_of(fact: &Fact) -> Option<u32>
+    ensures { (u : ℕ) → (result ≡ Some u) ↔ (slice_get fact.now.terms 0 ≡ Some (Unknown u)) }
+{
+    match fact.terms.find(0) {
+        Some(Term::Unknown(first)) => Some(*first),
+        _ => None,
     }
 }
 

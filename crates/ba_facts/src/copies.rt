@@ -1,11 +1,26 @@
-//! Copies of lists, with room for some more.
-ghost use Rattle.std.specs.Prelude.{◌≡◌, ◌++◌, IfOk, OnOk};
+//! Room in lists, and copies of lists with room for some more.
+ghost use Rattle.std.specs.Prelude.{◌≡◌, ◌++◌, ◌∷◌, [], IfOk, OnErr, OnOk};
 
 use ba_model::{Duplicate, Shared};
 use std::alloc::{AllocError, Global};
 
 /// For how many more elements a copy has room.
 const ROOM: usize = 8;
+
+/// For how many elements a list gets room at once with its first one.
+const FIRST_ROOM: usize = 16;
+
+/// Adds an element, and with the first one makes room for more. Without memory nothing changes.
+pub(crate) fn add_item<T: Drop>(items: &mut Vec<T>, item: T) -> Result<(), AllocError>
+    ensures ok { OnOk result (items.new.items ≡ items.old.items ++ item ∷ []) }
+    ensures err { OnErr result (items.new.items ≡ items.old.items) }
+{
+    if items.is_empty() {
+        items.reserve(FIRST_ROOM)?;
+    }
+    items.push(item)?;
+    Ok(())
+}
 
 /// The same elements.
 pub(crate) fn copy_plain<T: Copy>(alloc: Global, items: &[T]) -> Result<Vec<T>, AllocError>

@@ -2,7 +2,7 @@
 ghost use Rattle.std.specs.Prelude.{◌≡◌, ◌∷◌, ◌++◌, ◌-◌, ◌↔◌, [], length, take, IsTrue, IfOk, OnOk, OnErr};
 ghost use Rattle.ba_facts.specs.Apart.{AreListed, IsApart};
 
-use crate::copies::{copy_plain, copy_shared};
+use crate::copies::{add_item, copy_plain, copy_shared};
 use crate::term::Lesson;
 use ba_model::{Op, Same, Shared};
 use std::alloc::{AllocError, Global};
@@ -61,8 +61,7 @@ impl Lessons {
         if is_apart(&lesson) {
             self.apart.push(self.all.len())?;
         }
-        self.all.push(lesson)?;
-        Ok(())
+        add_item(&mut self.all, lesson)
     }
 
     pub(crate) fn drop_last(&mut self)

@@ -7,6 +7,7 @@ ghost use Rattle.ba_facts.specs.declared.term.Term.TheVariants.{Unknown};
 ghost use Rattle.ba_model.specs.declared.value.Value.{Value};
 ghost use Rattle.std.specs.Option.{option_copied};
 
+use crate::copies::add_item;
 use crate::term::{Term, TermRef};
 use ba_model::{Duplicate, Same, Value};
 use std::alloc::{AllocError, Global};
@@ -47,8 +48,8 @@ impl TermRef<'_> {
 pub(crate) struct Numbers {
     unknowns: Vec<Option<u32>>,
     values: BTreeMap<Value, u32>,
-    params: BTreeMap<u32, u32>,
-    vars: BTreeMap<u32, u32>,
+    params: Vec<Option<u32>>,
+    vars: Vec<Option<u32>>,
 }
 
 impl Numbers {
@@ -58,8 +59,8 @@ impl Numbers {
         Numbers {
             unknowns: Vec::new(alloc),
             values: BTreeMap::new(alloc),
-            params: BTreeMap::new(alloc),
-            vars: BTreeMap::new(alloc),
+            params: Vec::new(alloc),
+            vars: Vec::new(alloc),
         }
     }
 
@@ -77,8 +78,8 @@ impl Numbers {
         match term {
             TermRef::Unknown(n) => number_at(&self.unknowns, n),
             TermRef::Val(value) => self.values.get(value).copied(),
-            TermRef::Param(n) => self.params.get(&n).copied(),
-            TermRef::Var(n) => self.vars.get(&n).copied(),
+            TermRef::Param(n) => number_at(&self.params, n),
+            TermRef::Var(n) => number_at(&self.vars, n),
         }
     }
 
@@ -97,10 +98,10 @@ impl Numbers {
                 self.values.insert(value.copy(alloc)?, number)?;
             }
             TermRef::Param(n) => {
-                self.params.insert(n, number)?;
+                set_number(&mut self.params, n, number)?;
             }
             TermRef::Var(n) => {
-                self.vars.insert(n, number)?;
+                set_number(&mut self.vars, n, number)?;
             }
         }
         Ok(())
@@ -206,7 +207,7 @@ impl Names {
     {
         let alloc = *self.terms.allocator();
         let number = self.terms.len() as u32;
-        self.terms.push(term.copy(alloc)?)?;
+        add_item(&mut self.terms, term.copy(alloc)?)?;
         match self.numbers.put(alloc, term, number) {
             Ok(()) => Ok(()),
             Err(error) => {

@@ -13,9 +13,7 @@ use std::alloc::{AllocError, Global};
 pub(crate) fn rises(order: &SharedOrder, low: Place, gap: u32, high: Place) -> bool
     ensures { IsTrue result ↔ RisesBy order.now low (pos gap) high }
 {
-    order
-        .get()
-        .shows(low.node, between(low, gap, high), high.node)
+    order.shows(low.node, between(low, gap, high), high.node)
 }
 
 /// Whether what is at the one place is shown to be at most what is at the other, and back.
@@ -32,7 +30,7 @@ pub(crate) fn most(order: &SharedOrder, low: Place, high: Place) -> Option<i128>
     requires { ¬ (IsAbsurd order.now) }
     ensures { IsGreatest (λ n. RisesBy order.now low n high) result }
 {
-    match order.get().gap(low.node, high.node) {
+    match order.gap(low.node, high.node) {
         Some(gap) => Some(beyond(gap, low, high)),
         None => None,
     }

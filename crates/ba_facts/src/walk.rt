@@ -9,6 +9,7 @@ mod visit;
 
 use crate::branch::Branch;
 use crate::term::Side;
+pub(crate) use atoms::places_of;
 use ba_model::Part;
 pub use visit::{Offered, Visit};
 

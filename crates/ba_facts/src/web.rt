@@ -18,7 +18,7 @@ ghost use Rattle.ba_facts.specs.declared.term.Term.{Term};
 ghost use Rattle.ba_facts.specs.declared.term.Term.TheVariants.{Unknown};
 ghost use Rattle.ba_model.specs.declared.query.Op.{Op};
 
-use crate::copies::copy_plain;
+use crate::copies::{add_item, copy_plain};
 use crate::found::{Found, differ, own_found, own_literal};
 use crate::groups::Groups;
 use crate::marking::{deny, mark_of, set_mark};
@@ -84,7 +84,7 @@ impl Web {
             names: Names::new(alloc),
             classes: Groups::new(),
             marks: Vec::new(alloc),
-            order: SharedOrder::new(alloc),
+            order: SharedOrder::new(),
             several: false,
         }
     }
@@ -126,7 +126,7 @@ impl Web {
         let number = next_number(self.names.len())?;
         self.classes.make_room(alloc, number)?;
         self.marks.truncate(number as usize);
-        self.marks.push(Mark::own(unknowns, number, term))?;
+        add_item(&mut self.marks, Mark::own(unknowns, number, term))?;
         self.names.add(term)?;
         Ok(number)
     }
@@ -620,7 +620,7 @@ impl Web {
     pub(crate) fn is_rising(&self) -> bool
         ensures { (k : Known) → IsWeb k self.now → IsTrue result ↔ IsRising k }
     {
-        self.order.get().absurd()
+        self.order.absurd()
     }
 
     /// The same web.

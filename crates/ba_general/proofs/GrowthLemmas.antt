@@ -600,7 +600,7 @@ slot_closed : (values : List Value) (slot : Option Branch) → SlotAt values Non
 slot_closed values None h = refl
 slot_closed values (Some c) h = absurd h
 
-zip_set : {X Y : Type 0} (R : X → Y → Type 0) (xs : List X) (ys : List Y) (n : ℕ) (x : X) (y : Y) → AllZip R xs ys → R x y →
+pub zip_set : {X Y : Type 0} (R : X → Y → Type 0) (xs : List X) (ys : List Y) (n : ℕ) (x : X) (y : Y) → AllZip R xs ys → R x y →
     AllZip R (slice_set xs n x) (slice_set ys n y)
 zip_set R [] [] n x y h r = tt
 zip_set R [] (v ∷ ys) n x y h r = absurd h

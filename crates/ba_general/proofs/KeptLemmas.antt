@@ -11,7 +11,6 @@ use Rattle.ba_general.proofs.OneRestLemmas.{rest_one}
 use Rattle.ba_general.specs.Layouts.{Layout, layout_after, start_layout}
 use Rattle.ba_general.specs.Leaving.{AreOthers, CanNotBeLeftOut, Gaps, IsLeftOut, IsTried, IsWithout, Leaves, MaybeIs, gaps_after, gaps_with, made, made_from, middle}
 use Rattle.ba_general.specs.declared.making.Made.{Made}
-use Rattle.ba_general.specs.declared.others.Taken.{Taken}
 
 -- ---- how many
 
@@ -106,12 +105,5 @@ tried_gives p taken its first end rest (Err e2) e without h = tt
 
 -- ---- what is left
 
-pub out_gives : (p : Problem) (taken rest : List Step) (first end : ℕ) (told : Result Taken AllocError) → first < end → IsLeftOut p taken first end rest →
-    IfOk told (λ it. it.steps ≡ rest) → IfOk told (λ it. Leaves p taken first end it.steps)
-out_gives p taken rest first end (Ok it) some out e = subst (Leaves p taken first end) (sym e) (Leaves.out some out)
-out_gives p taken rest first end (Err error) some out e = tt
-
-pub halves_give : (p : Problem) (taken half : List Step) (first end : ℕ) (told : Result Taken AllocError) → 1 < end - first → CanNotBeLeftOut p taken first end →
-    Leaves p taken (middle first end) end half → IfOk told (λ it. Leaves p half first (middle first end) it.steps) → IfOk told (λ it. Leaves p taken first end it.steps)
-halves_give p taken half first end (Ok it) many none back front = Leaves.halves many none back front
-halves_give p taken half first end (Err error) many none back front = tt
+pub out_leaves : (p : Problem) (taken rest kept : List Step) (first end : ℕ) → first < end → IsLeftOut p taken first end rest → kept ≡ rest → Leaves p taken first end kept
+out_leaves p taken rest kept first end some out e = subst (Leaves p taken first end) (sym e) (Leaves.out some out)

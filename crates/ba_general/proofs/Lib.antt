@@ -35,3 +35,4 @@ pub mod TooWideLemmas
 pub mod WholePassLemmas
 pub mod OwnStepsLemmas
 pub mod OwnMatchLemmas
+pub mod TwoRunsLemmas

@@ -429,23 +429,9 @@ module _ (pick : Pick) (budget : ℕ) (c : Course) (p : Problem) (problem_is : c
   pub may_close : (it : Settled) → AllClosed c.slots → length c.steps ≤ budget → it ≡ settled.Proved (record { problem = c.problem; steps = c.steps }) → Ends pick p budget it
   may_close it closed few is = of_problem it (ends_closed pick budget c searches it closed few is)
 
--- ---- the search as it is after what was told of it
-
-module _ (pick : Pick) (budget : ℕ) (old new : Course) (p : Problem) (problem_is : old.problem ≡ p) (searches : Searches pick old.problem old.steps old.slots) (few : length old.steps ≤ budget) where
-  pub ahead_saturated : (number : ℕ) (r : Result Settled AllocError) → (new ≡ old) × IsLeastSaturated old number → IfOk r (IsLeafOf new number) → IfOk r (Ends pick p budget)
-  ahead_saturated number r h leaf = may_saturate pick budget old p problem_is searches number r h.1 few (subst (λ c. IfOk r (IsLeafOf c number)) h.0 leaf)
-
-  pub ahead_closed : (it : Settled) → (new ≡ old) × AllClosed old.slots → it ≡ settled.Proved (record { problem = new.problem; steps = new.steps }) → Ends pick p budget it
-  ahead_closed it h is = may_close pick budget old p problem_is searches it h.1 few (subst (λ (c : Course). it ≡ settled.Proved (record { problem = c.problem; steps = c.steps })) h.0 is)
-
 pub ends_of : (pick : Pick) (budget : ℕ) (c : Course) (p : Problem) → c.problem ≡ p → length c.steps ≡ budget → (r : Result Settled AllocError) → IfOk r (Ends pick c.problem (length c.steps)) →
     IfOk r (Ends pick p budget)
 ends_of pick budget c p problem_is spent r h = subst (λ q. IfOk r (Ends pick q budget)) problem_is (subst (λ n. IfOk r (Ends pick c.problem n)) spent h)
 
-pub all_closed_still : (old new : Course) → new ≡ old → AllClosed old.slots → AllClosed new.slots
-all_closed_still old new same h = subst (λ (c : Course). AllClosed c.slots) (sym same) h
-
-pub open_still : (old new : Course) (number : ℕ) → new ≡ old → IsLeastSaturated old number → open_at new.slots number ≢ None
-open_still old new number same h =
-    subst (λ (c : Course). open_at c.slots number ≢ None) (sym same)
-    (λ none. let wrong : Some h.branch ≡ None = sym (open_is old.slots number h.branch h.saturated.open_) ∙ none in cc)
+pub least_open : (c : Course) (number : ℕ) → IsLeastSaturated c number → open_at c.slots number ≢ None
+least_open c number h none = let wrong : Some h.branch ≡ None = sym (open_is c.slots number h.branch h.saturated.open_) ∙ none in cc

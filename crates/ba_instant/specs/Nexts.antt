@@ -19,8 +19,6 @@ use Rattle.ba_instant.specs.declared.scan.NewStep.{NewStep}
 use Rattle.ba_instant.specs.declared.due.Next.{Next}
 use Rattle.ba_instant.specs.declared.waiting.Waiting.{Waiting}
 use Rattle.ba_instant.specs.declared.due.Next.TheVariants as nexts
-use Rattle.ba_instant.specs.declared.ends.Ahead.{Ahead}
-use Rattle.ba_instant.specs.declared.ends.Ahead.TheVariants.{Moved, Saturated, Closed}
 use Rattle.ba_settle.specs.declared.ends.Leaf.{Leaf}
 use Rattle.ba_settle.specs.declared.ends.Settled.{Settled}
 use Rattle.ba_instant.specs.declared.agenda.Agenda.{Agenda}
@@ -175,12 +173,6 @@ pub record HasMoved (pick : Pick) (old new : Course) (waiting : Waiting) : Type 
   pub searches : Searches pick new.problem new.steps new.slots
   pub waiting_ : AreWaiting pick new waiting
   pub count : length new.steps ≡ length old.steps + 1
-
--- or none was
-abbrev pub IsAhead : Pick → Course → Course → Waiting → Ahead → Type 0
-IsAhead pick old new waiting Moved = HasMoved pick old new waiting
-IsAhead pick old new waiting (Saturated number) = (new ≡ old) × IsLeastSaturated old number
-IsAhead pick old new waiting Closed = (new ≡ old) × AllClosed old.slots
 
 -- ---- the end
 

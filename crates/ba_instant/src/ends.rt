@@ -4,7 +4,7 @@ ghost use Rattle.ba_model.specs.Limits.{most_budget};
 ghost use Rattle.ba_kernel.specs.Courses.{AllClosed, ProblemFits};
 ghost use Rattle.ba_kernel.specs.SearchStates.{open_at};
 ghost use Rattle.ba_settle.specs.Dues.{Ends, Searches};
-ghost use Rattle.ba_instant.specs.Nexts.{AreLeftAt, AreWaiting, IsAhead, IsLeafOf, IsTaken};
+ghost use Rattle.ba_instant.specs.Nexts.{AreLeftAt, AreWaiting, HasMoved, IsLeafOf, IsTaken};
 ghost use Rattle.ba_settle.specs.declared.ends.Settled.TheVariants.{Proved as ByProof, Spent};
 ghost use Rattle.ba_settle.specs.declared.order.Pick.TheVariants.{First};
 
@@ -47,11 +47,15 @@ pub fn settle_in(
     let mut search = Search::start(alloc, problem)?;
     let mut waiting = Waiting::none(alloc);
     for _taken in 0..budget {
-        let ahead = advance(alloc, &mut search, pick, &mut waiting)?;
-        match ahead {
-            Ahead::Moved => (),
-            Ahead::Saturated(number) => return saturated(alloc, search, number),
-            Ahead::Closed => return Ok(closed(search)),
+        let next = next_step(alloc, &search, pick, &mut waiting)?;
+        match next {
+            Next::Take(due) => {
+                let (then, left) = take(alloc, search, pick, due)?;
+                search = then;
+                waiting = left;
+            }
+            Next::Saturated(number) => return saturated(alloc, search, number),
+            Next::Closed => return Ok(closed(search)),
         }
     }
     end(alloc, search, pick, &mut waiting)
@@ -66,40 +70,6 @@ impl Settle for InOrder {
 
     fn settle(&self, alloc: Global, problem: Problem, budget: u32) -> Result<Settled, AllocError> {
         settle(alloc, problem, budget)
-    }
-}
-
-/// What became of a search that was to take a step.
-#[derive(Clone, Copy)]
-pub enum Ahead {
-    /// It was taken.
-    Moved,
-    /// None was, since the branch of the number has no new step.
-    Saturated(u32),
-    /// None was, since no branch is open.
-    Closed,
-}
-
-/// Takes the next step, if there is one.
-fn advance(
-    alloc: Global,
-    search: &mut Search,
-    pick: Pick,
-    waiting: &mut Waiting,
-) -> Result<Ahead, AllocError>
-    requires few { length search.old.steps < most_budget }
-    requires waiting { AreWaiting pick search.old waiting.old }
-    requires searches { Searches pick search.old.problem search.old.steps search.old.slots }
-    ensures { IfOk result (IsAhead pick search.old search.new waiting.new) }
-{
-    let next = next_step(alloc, search, pick, waiting)?;
-    match next {
-        Next::Take(due) => {
-            *waiting = take(alloc, search, pick, due)?;
-            Ok(Ahead::Moved)
-        }
-        Next::Saturated(number) => Ok(Ahead::Saturated(number)),
-        Next::Closed => Ok(Ahead::Closed),
     }
 }
 
@@ -122,25 +92,26 @@ fn end(
     }
 }
 
-/// Takes the step, which is due. All branches but its own wait then, and what is left of the agenda
-/// is that one's.
-fn take(alloc: Global, search: &mut Search, pick: Pick, due: Due) -> Result<Waiting, AllocError>
-    requires few { length search.old.steps < most_budget }
-    requires taken { IsTaken pick search.old due }
-    requires searches { Searches pick search.old.problem search.old.steps search.old.slots }
-    ensures searches { OnOk result
-        (Searches pick search.new.problem search.new.steps search.new.slots) }
-    ensures waiting { IfOk result (AreWaiting pick search.new) }
-    ensures problem { OnOk result (search.new.problem ≡ search.old.problem) }
-    ensures steps { OnOk result (search.new.steps ≡ search.old.steps ++ due.found.step ∷ []) }
+/// The search after the step, which is due. All branches but its own wait then, and what is left of
+/// the agenda is that one's.
+fn take(
+    alloc: Global,
+    search: Search,
+    pick: Pick,
+    due: Due,
+) -> Result<(Search, Waiting), AllocError>
+    requires few { length search.steps < most_budget }
+    requires taken { IsTaken pick search due }
+    requires searches { Searches pick search.problem search.steps search.slots }
+    ensures { IfOk result (λ it. HasMoved pick search it.0 it.1) }
 {
     let Due { found, agenda } = due;
-    let quiet = quiet_round(search, &found);
-    let left = left_after(alloc, search, &found, agenda)?;
-    let mut waiting = Waiting::beside(alloc, search, &found.step, left);
-    search.take(alloc, found.step)?;
-    keep_quiet(alloc, search, pick, quiet, &mut waiting)?;
-    Ok(waiting)
+    let quiet = quiet_round(&search, &found);
+    let left = left_after(alloc, &search, &found, agenda)?;
+    let mut waiting = Waiting::beside(alloc, &search, &found.step, left);
+    let then = search.moved(alloc, found.step)?;
+    keep_quiet(alloc, &then, pick, quiet, &mut waiting)?;
+    Ok((then, waiting))
 }
 
 /// The proof that the search is, of which no branch is open.

@@ -21,6 +21,11 @@ put_after : (slots : Slots) (n : ℕ) (x : Option Branch) (cases : List Branch) 
 put_after slots n x [] e = set_before slots [] n x None e ∙ append-nil (slice_set slots n None)
 put_after slots n x (b ∷ others) e = set_before slots (other_cases (b ∷ others)) n x (Some b) e
 
+set_twice : {X : Type 0} (xs : List X) (n : ℕ) (x y : X) → slice_set (slice_set xs n x) n y ≡ slice_set xs n y
+set_twice [] n x y = refl
+set_twice (z ∷ xs) zero x y = refl
+set_twice (z ∷ xs) (suc n) x y = ap (λ l. z ∷ l) (set_twice xs n x y)
+
 -- a branch of the slots that the step leads on from
 pub record Led (p : Problem) (slots : Slots) (n : ℕ) (step : Step) (cases : List Branch) : Type 0 where
   pub branch : Branch
@@ -41,6 +46,34 @@ pub slots_after : (slots now others : Slots) (m n : ℕ) (cases : List Branch) (
 slots_after slots now others m n cases first m_is below now_is first_is others_is =
     let same : slice_set now m first ≡ slice_set (slots ++ other_cases cases) n (first_case cases) = cc (m_is, now_is, first_is, others_is) in
     same ∙ put_after slots n (get_or slots n None) cases (slice_get-get_or slots n None below)
+
+-- ---- where the step's branch was taken away before
+
+set_long : {X : Type 0} (xs : List X) (n : ℕ) (x : X) → length (slice_set xs n x) ≡ length xs
+set_long [] n x = refl
+set_long (z ∷ xs) zero x = refl
+set_long (z ∷ xs) (suc n) x = ap suc (set_long xs n x)
+
+after_set : (slots : Slots) (n : ℕ) (x : Option Branch) (cases : List Branch) → after (slice_set slots n x) n cases ≡ after slots n cases
+after_set slots n x [] = set_twice slots n x None
+after_set slots n x (b ∷ others) = ap (λ l. l ++ other_cases (b ∷ others)) (set_twice slots n x (Some b))
+
+pub leads_taken : (p : Problem) (slots : Slots) (m : ℕ) (taken : Option Branch) (step : Step) (cases : List Branch) → m ≡ branch_of step → taken ≡ open_at slots m → LeadsAt p taken step cases →
+    LeadsAt p (open_at slots (branch_of step)) step cases
+leads_taken p slots m taken step cases m_is taken_is leads =
+    subst (λ n. LeadsAt p (open_at slots n) step cases) m_is (subst (λ it. LeadsAt p it step cases) taken_is leads)
+
+pub below_taken : (p : Problem) (slots now : Slots) (m : ℕ) (step : Step) (cases : List Branch) → now ≡ slice_set slots m None → LeadsAt p (open_at slots (branch_of step)) step cases →
+    branch_of step < length now
+below_taken p slots now m step cases now_is leads =
+    let l = led p slots (branch_of step) step cases leads in
+    let within = slice_get_within slots (branch_of step) (Some l.branch) l.open_ in
+    let long = ap length now_is ∙ set_long slots m None in
+    omega (arith, within, long)
+
+pub after_taken : (slots now left : Slots) (m n : ℕ) (cases : List Branch) → m ≡ n → now ≡ slice_set slots m None → left ≡ after now n cases → left ≡ after slots n cases
+after_taken slots now left m n cases m_is now_is left_is =
+    left_is ∙ (ap (λ (it : Slots). after it n cases) (now_is ∙ ap (λ i. slice_set slots i None) m_is) ∙ after_set slots n None cases)
 
 taken_back : (slots others : Slots) → take (length slots) (slots ++ others) ≡ slots
 taken_back [] others = refl

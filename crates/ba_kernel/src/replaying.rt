@@ -1,5 +1,5 @@
 //! Steps that are taken from a problem's start, one after another.
-ghost use Rattle.std.specs.Prelude.{◌≡◌, ◌≤◌, ◌<◌, ◌∷◌, ◌++◌, [], IfErr, OnOk, length};
+ghost use Rattle.std.specs.Prelude.{◌≡◌, ◌≤◌, ◌<◌, ◌∷◌, ◌++◌, [], IfErr, IfOk, length};
 ghost use Rattle.ba_model.specs.Limits.{most_steps};
 ghost use Rattle.ba_kernel.specs.Courses.{ProblemFits};
 ghost use Rattle.ba_kernel.specs.Replays.{IsNextRefused, Replays};
@@ -38,7 +38,7 @@ pub fn replay(
 {
     let mut search = Search::start(alloc, problem)?;
     for step in steps.into_vec() {
-        take_next(alloc, &mut search, step)?;
+        search = go_on(alloc, search, step)?;
     }
     match search.close() {
         Ok(proved) => Ok(proved),
@@ -46,16 +46,16 @@ pub fn replay(
     }
 }
 
-/// Takes the next step, or tells its number with its fault.
-fn take_next(alloc: Global, search: &mut Search, step: Step) -> Result<(), Failure<ReplayFault>>
-    requires { length search.old.steps < most_steps }
-    ensures problem { OnOk result (search.new.problem ≡ search.old.problem) }
-    ensures steps { OnOk result (search.new.steps ≡ search.old.steps ++ step ∷ []) }
-    ensures fault { IfErr result (IsNextRefused search.old step) }
+/// The search after the next step, or its number with its fault.
+fn go_on(alloc: Global, search: Search, step: Step) -> Result<Search, Failure<ReplayFault>>
+    requires { length search.steps < most_steps }
+    ensures problem { IfOk result (λ it. it.problem ≡ search.problem) }
+    ensures steps { IfOk result (λ it. it.steps ≡ search.steps ++ step ∷ []) }
+    ensures fault { IfErr result (IsNextRefused search step) }
 {
     let number = search.steps().len() as u32;
-    match search.apply(alloc, step) {
-        Ok(()) => Ok(()),
+    match search.go_on(alloc, step) {
+        Ok(next) => Ok(next),
         Err(Failure::NoMemory) => Err(Failure::NoMemory),
         Err(Failure::Fault(fault)) => Err(Failure::Fault(ReplayFault::Refused { number, fault })),
     }

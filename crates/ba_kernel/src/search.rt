@@ -1,10 +1,10 @@
-ghost use Rattle.std.specs.Prelude.{◌≡◌, ◌≢◌, ◌∷◌, ◌++◌, ◌<◌, ◌^◌, ◌↔◌, [], length, map, IfOk, IfErr, IsOk, IsTrue, OnOk, OnErr, Some, None, if◌then◌else◌, ◌==◌};
+ghost use Rattle.std.specs.Prelude.{◌≡◌, ◌≢◌, ◌∷◌, ◌++◌, ◌<◌, ◌^◌, ◌↔◌, [], length, map, IfOk, IfErr, IsOk, IsTrue, OnOk, OnErr, Some, None, if◌then◌else◌, ◌==◌, slice_set};
 ghost use Rattle.std.specs.Option.{option_copied};
 ghost use Rattle.ba_model.specs.Limits.{most_steps};
 ghost use Rattle.ba_kernel.specs.Courses.{AllClosed, IsStart, ProblemFits, Takes, after, branch_of};
 ghost use Rattle.ba_kernel.specs.News.{IsNewAt, IsNewRound};
 ghost use Rattle.ba_kernel.specs.Spares.{IsLastOn, IsSpare};
-ghost use Rattle.ba_kernel.specs.SearchStates.{IsCourse, IsErrorOf, IsPassed, IsLed, first_case, open_at, other_cases};
+ghost use Rattle.ba_kernel.specs.SearchStates.{IsCourse, IsErrorOf, IsPassed, IsLed, IsTidy, LeadsAt, PassesAt, first_case, open_at, other_cases};
 
 use crate::cases::{again, cases_of, closes};
 use crate::laws::runs_are_tidy;
@@ -87,6 +87,43 @@ impl Search {
         self.test(&step)?;
         self.take(alloc, step)?;
         Ok(())
+    }
+
+    /// The search after a step, if it passes its tests: the same as by [`Search::apply`], but the
+    /// step's branch isn't kept, so that nothing is copied. Where it fails the search is let go.
+    pub fn go_on(self, alloc: Global, step: Step) -> Result<Search, Failure<StepFault>>
+        requires { length self.steps < most_steps }
+        ensures taken { IfOk result (λ it. Takes self.problem self.slots step it.slots) }
+        ensures steps { IfOk result (λ it. it.steps ≡ self.steps ++ step ∷ []) }
+        ensures problem { IfOk result (λ it. it.problem ≡ self.problem) }
+        ensures fault { IfErr result (IsErrorOf self step) }
+    {
+        self.test(&step)?;
+        let next = self.moved(alloc, step)?;
+        Ok(next)
+    }
+
+    /// The same of a step that passes its tests, which aren't made again: a new step is one.
+    pub fn moved(self, alloc: Global, step: Step) -> Result<Search, AllocError>
+        requires few { length self.steps < most_steps }
+        requires passes { IsPassed self step }
+        ensures taken { IfOk result (λ it. Takes self.problem self.slots step it.slots) }
+        ensures steps { IfOk result (λ it. it.steps ≡ self.steps ++ step ∷ []) }
+        ensures problem { IfOk result (λ it. it.problem ≡ self.problem) }
+    {
+        runs_are_tidy();
+        let problem = self.problem;
+        let mut steps = self.steps;
+        let mut slots = self.slots;
+        let branch = take_branch(&mut slots, step.branch() as usize);
+        let cases = cases_on(alloc, &problem, branch, &step)?;
+        add_step(alloc, &mut slots, &mut steps, step, cases)?;
+        Ok(Search {
+            problem,
+            steps,
+            slots,
+            before: None,
+        })
     }
 
     /// Takes a step that passes its tests, which aren't made again: a new step is one.
@@ -304,6 +341,33 @@ impl Search {
             ↔ IsNewAt self.now.problem (open_at self.now.slots (branch_of step.now)) step.now }
     {
         self.new_round(step).is_some()
+    }
+}
+
+// Takes the branch of the number away, which is open no more.
+fn take_branch(slots: &mut Vec<Option<Owned<Branch>>>, number: usize) -> Option<Owned<Branch>>
+    requires { number < length slots.old.items }
+    ensures branch { result ≡ open_at slots.old.items number }
+    ensures slots { slots.new.items ≡ slice_set slots.old.items number None }
+{
+    slots[number].take()
+}
+
+// The cases that a step leads to on the branch, where it passes its tests.
+fn cases_on(
+    alloc: Global,
+    problem: &Problem,
+    branch: Option<Owned<Branch>>,
+    step: &Step,
+) -> Result<Vec<Owned<Branch>>, AllocError>
+    requires fits { ProblemFits problem.now }
+    requires tidy { (b : Branch) → branch ≡ Some b → IsTidy problem.now b }
+    requires passes { PassesAt problem.now branch step.now }
+    ensures { IfOk result (λ cases. LeadsAt problem.now branch step.now cases.items) }
+{
+    match branch {
+        Some(branch) => cases_of(alloc, problem, branch, step),
+        None => unreachable!(),
     }
 }
 

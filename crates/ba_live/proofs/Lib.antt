@@ -6,3 +6,4 @@ pub mod KeyLemmas
 pub mod LiveLemmas
 pub mod SoundLemmas
 pub mod ToldLemmas
+pub mod PlainLemmas

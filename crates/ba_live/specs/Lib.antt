@@ -4,3 +4,4 @@ pub mod Steps
 pub mod Subjects
 pub mod Wellformed
 pub mod Laws
+pub mod Plain

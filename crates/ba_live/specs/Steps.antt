@@ -23,6 +23,7 @@ use Rattle.ba_script.specs.declared.line.Member.{Member}
 use Rattle.ba_settle.specs.Settling.{Effort}
 use Rattle.ba_sql_query.specs.Texts.{query_of}
 use Rattle.ba_sql_query.specs.declared.fault.ReadQueryFault.{ReadQueryFault}
+use Rattle.ba_live.specs.Plain.{IsPlain}
 use Rattle.ba_live.specs.Askers.{asked_more, new_open, with_line, with_told}
 use Rattle.ba_live.specs.Books.{Expects, Forgets, HasFront, LeavesAll, LeavesAsked, Opens, asked_at, many_open, open_at}
 use Rattle.ba_live.specs.declared.decision.Decision.{Decision}
@@ -94,6 +95,7 @@ pub record Allows (effort : Effort) (line : ℕ) (name text : List ℕ) (it : Al
     : Type 0 where
   pub asker : Open
   pub is_open : open_at old name ≡ Some asker
+  pub plain : IsPlain text
   pub few : asker.asks < MAX_OPEN_ASKS
   pub query : Query
   pub reads : query_of old.policy.schema old.policy.params text ≡ Ok query
@@ -115,6 +117,7 @@ pub record CountsAsk (name : List ℕ) (asker : Open) (old new : Live) : Type 0 
 pub record Blocks (effort : Effort) (name text : List ℕ) (it : Reason) (old new : Live)
     : Type 0 where
   pub asker : Open
+  pub plain : IsPlain text
   pub counts : CountsAsk name asker old new
   pub query : Query
   pub reads : query_of old.policy.schema old.policy.params text ≡ Ok query
@@ -124,14 +127,18 @@ pub record Blocks (effort : Effort) (name text : List ℕ) (it : Reason) (old ne
 
 pub record FailsToRead (name text : List ℕ) (fault : ReadQueryFault) (old new : Live) : Type 0 where
   pub asker : Open
+  pub plain : IsPlain text
   pub counts : CountsAsk name asker old new
   pub reads : query_of old.policy.schema old.policy.params text ≡ Err fault
 
-abbrev pub RefusesAsk : Live → List ℕ → Refusal → Type 0
-RefusesAsk it name refusal.Unbegun = open_at it name ≡ None
-RefusesAsk it name refusal.Asks =
-    (asker : Open) × (open_at it name ≡ Some asker) × (MAX_OPEN_ASKS ≤ asker.asks)
-RefusesAsk it name _ = ⊥
+abbrev pub RefusesAsk : Live → List ℕ → List ℕ → Refusal → Type 0
+RefusesAsk it name text refusal.Unbegun = open_at it name ≡ None
+RefusesAsk it name text refusal.Comment =
+    ((asker : Open) × (open_at it name ≡ Some asker)) × ¬ (IsPlain text)
+RefusesAsk it name text refusal.Asks =
+    ((asker : Open) × (open_at it name ≡ Some asker) × (MAX_OPEN_ASKS ≤ asker.asks)) ×
+    IsPlain text
+RefusesAsk it name text _ = ⊥
 
 abbrev pub DecidesAsk : Effort → ℕ → List ℕ → List ℕ → Decision → Live → Live → Type 0
 DecidesAsk effort line name text (decided.Allowed it) old new =
@@ -140,7 +147,7 @@ DecidesAsk effort line name text (decided.Blocked it) old new = Blocks effort na
 DecidesAsk effort line name text (decided.Unread fault) old new =
     FailsToRead name text fault old new
 DecidesAsk effort line name text (decided.Refused why) old new =
-    RefusesAsk old name why × LeavesAll old new
+    RefusesAsk old name text why × LeavesAll old new
 DecidesAsk effort line name text _ old new = ⊥
 
 -- ---- reads of cache keys

@@ -11,6 +11,7 @@ ghost use Rattle.ba_live.specs.declared.open.Open.{Open};
 use crate::decision::{Decision, Refusal};
 use crate::live::Live;
 use crate::open::{Asked, MAX_OPEN_ASKS};
+use crate::plain::is_plain;
 use crate::step::refused;
 use ba_judge::{Asking, Judgement, judge};
 use ba_model::{Duplicate, Failure, Query, Shared, Str};
@@ -41,6 +42,9 @@ impl Live {
         let Some(open) = self.requests.get(name) else {
             return Ok(refused(Refusal::Unbegun));
         };
+        if !is_plain(text.as_str()) {
+            return Ok(refused(Refusal::Comment));
+        }
         if open.asks >= MAX_OPEN_ASKS {
             return Ok(refused(Refusal::Asks));
         }

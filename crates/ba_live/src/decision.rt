@@ -30,8 +30,10 @@ pub enum Refusal {
     Key,
     /// Its arguments lack one of the key's, have another name, or a value that isn't of its kind.
     Args,
-    /// It asks, or reads a key with more queries than may be asked, of a request that has asked as
-    /// often as it may.
+    /// It asks in a text that has a comment or a byte 0. Databases differ in where a comment begins
+    /// and ends, and some end a text at that byte.
+    Comment,
+    /// It asks, or reads a key, where its request would come to more questions than it may ask.
     Asks,
     /// It tells rows of a line that is no allowed question of an open request, or was told.
     Unasked,

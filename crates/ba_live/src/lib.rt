@@ -8,6 +8,7 @@ mod decision;
 pub mod laws;
 mod live;
 mod open;
+mod plain;
 mod read;
 mod step;
 

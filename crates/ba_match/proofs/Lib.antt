@@ -1,5 +1,6 @@
 pub mod BindingLemmas
 pub mod PatternLemmas
+pub mod AlikeLemmas
 pub mod FreeLemmas
 pub mod SearchLemmas
 pub mod OrderLemmas

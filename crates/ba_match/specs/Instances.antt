@@ -1,5 +1,5 @@
 -- A template's steps with a match's values and places: steps of the question's own problem.
-use Rattle.std.specs.Prelude.{◌≡◌, ℕ, ◌+◌, List, [], ◌∷◌, Option, Some, None, length, map, option_map, slice_get, take, unwrap_or}
+use Rattle.std.specs.Prelude.{◌≡◌, ℕ, ◌+◌, List, [], ◌∷◌, Option, Some, None, length, map, slice_get, take, unwrap_or}
 use Rattle.std.specs.List.{AllZip, sum_by}
 use Rattle.ba_model.specs.declared.value.Value.{Value}
 use Rattle.ba_comply.specs.declared.trace.TraceEntry.{TraceEntry}

@@ -1,4 +1,5 @@
 pub mod Bindings
+pub mod Alike
 pub mod Conditions
 pub mod Matching
 pub mod Searches

@@ -2,6 +2,7 @@
 ghost use Rattle.std.specs.Prelude.{◌≡◌, ◌↔◌, ◌≤◌, IfOk, IsTrue, MatchOption, Some, None, length, map, option_and_then, replicate, slice_get, slice_set};
 ghost use Rattle.std.specs.Option.{option_copied};
 ghost use Rattle.ba_kernel.specs.Problems.{atom_at, fixed_value, operand_at, part_at, query_at};
+ghost use Rattle.ba_match.specs.Alike.{MayBe, MayBecome};
 ghost use Rattle.ba_match.specs.Bindings.{AreAllFixed, Narrows};
 ghost use Rattle.ba_template.specs.Found.{with_values};
 
@@ -29,7 +30,7 @@ impl Bindings {
     pub fn free(alloc: Global, count: usize) -> Result<Bindings, AllocError>
         ensures { IfOk result (λ it. it ≡ replicate count None) }
     {
-        let mut values = Vec::new(alloc);
+        let mut values = Vec::with_capacity(alloc, count)?;
         for _ in 0..count {
             values.push(None)?;
         }
@@ -40,7 +41,7 @@ impl Bindings {
     pub fn copy(&self, alloc: Global) -> Result<Bindings, AllocError>
         ensures { IfOk result (λ it. it ≡ self.now) }
     {
-        let mut values = Vec::new(alloc);
+        let mut values = Vec::with_capacity(alloc, self.values.len())?;
         for fixed in self.values.iter() {
             values.push(copy_fixed(alloc, fixed)?)?;
         }
@@ -122,6 +123,29 @@ impl Bindings {
         ensures { IsTrue result ↔ ((n ≡ m) × (length self.now ≤ n)) }
     {
         n == m && self.is_gone(n)
+    }
+
+    /// Whether a variable may have this value: it is there, and free or fixed to it.
+    fn may_be(&self, n: u32, value: &Value) -> bool
+        ensures { IsTrue result ↔ MayBe (slice_get self.now n) value.now }
+    {
+        match self.at(n) {
+            None => false,
+            Some(None) => true,
+            Some(Some(fixed)) => fixed.same(value),
+        }
+    }
+
+    /// Whether the operand may become the other one.
+    pub fn may_become(&self, pattern: &Operand, operand: &Operand) -> bool
+        ensures { IsTrue result ↔ MayBecome self.now pattern.now operand.now }
+    {
+        match (pattern, operand) {
+            (Operand::Var(n), Operand::Val(value)) => self.may_be(*n, value),
+            (Operand::Var(n), Operand::Var(m)) => self.is_unchanged(*n, *m),
+            (Operand::Var(_), _) => false,
+            _ => pattern.same(operand),
+        }
     }
 
     fn bind_operand(

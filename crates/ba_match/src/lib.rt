@@ -3,6 +3,7 @@
 #![tactic(auto)]
 
 mod accepted;
+mod alike;
 mod bindings;
 mod condition;
 mod instances;

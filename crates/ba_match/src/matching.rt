@@ -6,6 +6,7 @@ ghost use Rattle.ba_match.specs.Matching.{IsFound};
 ghost use Rattle.ba_match.specs.Searches.{Finds, FindsBy, IsLeft, IsNoneBefore};
 ghost use Rattle.ba_template.specs.Found.{with_values};
 
+use crate::alike::are_alike;
 use crate::bindings::Bindings;
 use crate::condition::{all_hold, are_of_kinds, may_hold};
 use ba_comply::{Trace, TraceEntry};
@@ -138,7 +139,8 @@ impl<'a> Search<'a> {
     }
 }
 
-/// What is fixed once the entry's query is that of the entry of the trace, if it can be.
+/// What is fixed once the entry's query is that of the entry of the trace, if it can be. What is
+/// fixed is copied only where the queries are alike.
 fn with_query(
     alloc: Global,
     entry: &ProblemEntry,
@@ -147,6 +149,9 @@ fn with_query(
 ) -> Result<Option<Bindings>, AllocError>
     ensures { IfOk result (IsNarrowed (λ values. query_at values entry.now.query ≡ told.now.query) bound.now) }
 {
+    if !are_alike(bound, &entry.query, &told.query) {
+        return Ok(None);
+    }
     let mut new = bound.copy(alloc)?;
     let made = new.bind_query(alloc, &entry.query, &told.query)?;
     if made { Ok(Some(new)) } else { Ok(None) }

@@ -1,10 +1,10 @@
 -- What a call on a source over a reader takes, as far as its loop has come.
-use Rattle.std.proofs.Common.{◌≡◌, ◌≢◌, ◌∙◌, inl, inr, ℕ, suc, ◌+◌, ◌-◌, ◌<◌, ◌≤◌, ◌==◌, Bool, true, false, not, cond, nat_lt, List, [], ◌∷◌, ◌++◌, length, take, drop, Option, Some, None, Result, Ok, Err, OnOk, is_err, is_some, position, refl, sym, ap, subst, arith, append_assoc, append-nil}
+use Rattle.std.proofs.Common.{◌≡◌, ◌≢◌, ◌∙◌, inl, inr, ℕ, suc, ◌+◌, ◌-◌, ◌<◌, ◌≤◌, ◌==◌, Bool, true, false, IsTrue, not, cond, nat_lt, List, [], ◌∷◌, ◌++◌, length, take, drop, Option, Some, None, Result, Ok, Err, OnOk, is_err, is_some, position, refl, sym, ap, subst, arith, append_assoc, append-nil}
 use Rattle.std.specs.Prelude.{slice_range}
 use Rattle.std.specs.Io.KnownBytes.{Consumes, IsAtEnd, Keeps, prepend_known}
 use Rattle.std.specs.List.{after_first, before_first, position_or_len}
 use Rattle.std.proofs.KnownBytes.{Consumes-kept, Consumes-nil}
-use Rattle.std.proofs.lemmas.Bool.{eqb-false, eqb-true, ltb-false, ltb-true}
+use Rattle.std.proofs.lemmas.Bool.{eqb-false, eqb-true, false≢true, ltb-false, ltb-true}
 use Rattle.std.proofs.lemmas.List.{drop-drop, drop-take, drop_all, length-take, take_all}
 use Rattle.std.proofs.lemmas.List.Elements.{All-append, All-cons, All-nil, All-same}
 use Rattle.std.proofs.lemmas.List.Sums.{passes_at_first, split_at_first}
@@ -12,6 +12,7 @@ use Rattle.ba_source.specs.StdSource.{HasNoFeed, StandsFor, TakesKnown, TakesLin
 use Rattle.ba_source.specs.Taking.{Answer}
 use Rattle.ba_source.specs.declared.source.SourceFail.TheVariants as fail
 use Rattle.ba_source.specs.declared.std_source.Line.{Line}
+use Rattle.ba_source.specs.declared.std_source.StdSource.{StdSource}
 
 -- ---- bytes that were read
 
@@ -185,3 +186,35 @@ onward limit old mid rest new xs line longer b h keeps no_feed some stands same 
     by None more e = tt
     by (Some before) None e = absurd e
     by (Some before) (Some more) e = e ∙ sym (append_assoc h.read xs more)
+
+-- ---- whether the reader was asked
+
+abbrev pub HasFeed : List ℕ → Type 0
+HasFeed bytes = IsTrue (is_some (position is_feed bytes))
+
+-- before the first bytes of a line are taken nothing was asked; after them none of the unread ones was a line feed
+abbrev pub Held : {R : Type 0} → StdSource R → StdSource R → Bool → Type 0
+Held old mid false = (mid.reader ≡ old.reader) × (mid.unread ≡ old.unread)
+Held old mid true = ¬ (HasFeed old.unread)
+
+some_unread : (bytes : List ℕ) → HasFeed bytes → bytes ≢ []
+some_unread [] feed none = false≢true feed
+some_unread (b ∷ bytes) feed none = cc
+
+pub held_reader : {R : Type 0} (old mid : StdSource R) (begun : Bool) → Held old mid begun → HasFeed old.unread → mid.reader ≡ old.reader
+held_reader old mid false held feed = held.0
+held_reader old mid true held feed = absurd (held feed)
+
+pub held_fill : {R : Type 0} (old mid new : StdSource R) (begun : Bool) → Held old mid begun → (mid.unread ≢ [] → (new.reader ≡ mid.reader) × (new.unread ≡ mid.unread)) → HasFeed old.unread →
+    (new.reader ≡ old.reader) × (new.unread ≡ old.unread)
+held_fill old mid new false held waits feed =
+    let there = subst (λ bytes. bytes ≢ []) (sym held.1) (some_unread old.unread feed) in
+    let same = waits there in
+    (same.0 ∙ held.0, same.1 ∙ held.1)
+held_fill old mid new true held waits feed = absurd (held feed)
+
+pub held_next : {R : Type 0} (old mid new : StdSource R) (begun : Bool) → Held old mid begun → (mid.unread ≢ [] → (new.reader ≡ mid.reader) × (new.unread ≡ mid.unread)) →
+    is_some (position is_feed new.unread) ≡ false → ¬ (HasFeed old.unread)
+held_next old mid new begun held waits none feed =
+    let same = held_fill old mid new begun held waits feed in
+    false≢true (sym none ∙ subst HasFeed (sym same.1) feed)

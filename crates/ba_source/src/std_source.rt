@@ -1,5 +1,5 @@
 // A source over a reader of std.
-ghost use Rattle.std.specs.Prelude.{◌≡◌, ℕ, ◌+◌, ◌≤◌, ◌++◌, [], List as Sequence, IfOk, IfSome, IsErrOf, OnOk, is_some, length, min, position};
+ghost use Rattle.std.specs.Prelude.{◌≡◌, ◌≢◌, ℕ, ◌+◌, ◌≤◌, ◌++◌, [], List as Sequence, IfOk, IfSome, IsErrOf, IsTrue, OnOk, is_some, length, min, position};
 ghost use Rattle.std.specs.Io.KnownBytes.{IsAtEnd, Keeps};
 ghost use Rattle.std.specs.List.{after_first, before_first};
 ghost use Rattle.ba_outside.specs.Causes.{last_count, NeverFalls, Rose};
@@ -14,7 +14,8 @@ use std::io::{self, Read};
 
 /// A source over a reader, such as standard input. It tells nothing of which lines are left, and
 /// counts as a fault each read that fails (want of memory too). The reader is asked for more bytes
-/// only where no whole line is left of what it gave. The last line may do without a line feed.
+/// only where no whole line is left of what it gave, and then for a piece at a time, until a line
+/// is whole. The last line may do without a line feed.
 #[derive(Drop)]
 pub struct StdSource<R> {
     reader: R,
@@ -119,8 +120,11 @@ impl<R: Read + Drop> StdSource<R> {
         })
     }
 
-    // Sees to it that something is unread, unless the reader is at its end.
+    // Sees to it that something is unread, unless the reader is at its end. Where something is the
+    // reader isn't asked.
     fn fill(&mut self) -> io::Result<()>
+        ensures waits { self.old.unread ≢ [] →
+            (self.new.reader ≡ self.old.reader) × (self.new.unread ≡ self.old.unread) }
         ensures taken { self.new.taken.value ≡ self.old.taken.value }
         ensures faults { self.new.faults.value ≡ self.old.faults.value }
         ensures keeps { Keeps (ahead R.remaining self.old) (ahead R.remaining self.new) }
@@ -137,6 +141,7 @@ impl<R: Read + Drop> StdSource<R> {
         ensures faults { Rose self.old.faults.value self.new.faults.value }
         ensures falls { NeverFalls self.old.faults.value self.new.faults.value }
         ensures ahead { ahead R.remaining self.new ≡ ahead R.remaining self.old }
+        ensures reader { self.new.reader ≡ self.old.reader }
     {
         self.faults.raise(1);
         SourceFail::Fault
@@ -149,6 +154,7 @@ impl<R: Read + Drop> StdSource<R> {
             ≡ min (self.old.taken.value + count_taken result) last_count }
         ensures faults { self.new.faults.value ≡ self.old.faults.value }
         ensures ahead { ahead R.remaining self.new ≡ ahead R.remaining self.old }
+        ensures reader { self.new.reader ≡ self.old.reader }
         ensures tells { (bytes : Sequence ℕ) → StandsFor limit bytes line
             → Tells limit bytes result }
         ensures within { IfOk result (λ line. IfSome line (λ bytes. length bytes.items ≤ limit)) }
@@ -168,6 +174,10 @@ impl<R: Read + Drop> Source for StdSource<R> {
     /// As the trait says. After `Fault` what was read of a line before is lost. Where the reader's
     /// bytes are known, the lines are exactly theirs.
     fn take(&mut self, limit: u64) -> Result<Option<Vec<u8>>, SourceFail>
+        // Where a whole line is unread, the reader isn't asked.
+        ensures waits { IsTrue (is_some (position is_feed self.old.unread))
+            → self.new.reader ≡ self.old.reader }
+
         // Where the bytes are known.
         ensures bytes { TakesKnown limit (ahead R.remaining self.old)
             (ahead R.remaining self.new) result }

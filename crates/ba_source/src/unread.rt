@@ -1,5 +1,5 @@
 // Bytes that were read and not taken yet.
-ghost use Rattle.std.specs.Prelude.{◌≡◌, ◌≤◌, [], IfOk, OnOk, drop, length};
+ghost use Rattle.std.specs.Prelude.{◌≡◌, ◌≢◌, ◌≤◌, [], IfOk, OnOk, drop, length};
 ghost use Rattle.std.specs.Io.KnownBytes.{IsAtEnd, Keeps, prepend_known};
 
 use std::alloc::{AllocError, Global};
@@ -53,8 +53,10 @@ impl Unread {
         self.from += count;
     }
 
-    // Sees to it that there are some, unless the reader is at its end.
+    // Sees to it that there are some, unless the reader is at its end. Where there are some already
+    // the reader isn't asked.
     pub(crate) fn fill<R: Read>(&mut self, reader: &mut R) -> io::Result<()>
+        ensures waits { self.old ≢ [] → (reader.new ≡ reader.old) × (self.new ≡ self.old) }
         ensures keeps { Keeps (prepend_known self.old (R.remaining reader.old))
             (prepend_known self.new (R.remaining reader.new)) }
         ensures end { OnOk result (self.new ≡ [] → IsAtEnd (R.remaining reader.new)) }

@@ -155,6 +155,8 @@ pub fn can_be_of(schema: &Schema, context: &Context, part: &Part, row: &Row) -> 
 {
     let head = part.head.as_slice();
     let values = row.as_slice();
-    is_head_of(schema, context, part, row, head, values)
-        && all_may_hold(context, head, values, part.conds.as_slice())
+    // The conditions first: their constants refuse nearly every part, and the head costs a walk over
+    // its columns for each of them.
+    all_may_hold(context, head, values, part.conds.as_slice())
+        && is_head_of(schema, context, part, row, head, values)
 }

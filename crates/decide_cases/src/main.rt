@@ -3,13 +3,14 @@
 //!
 //! The folder holds a folder for each conversation: `S` the schema, `P` the policy, `in` the lines that
 //! it is sent, `expected` the bytes that it must write, and `status`, with which it must end. It may
-//! have `words`, where others are given than `--schema S --policy P`, and `hint`, the line on why it
-//! ends so that must be told.
+//! have `words`, where others are given than `--schema S --policy P`, `hint`, the line on why it ends
+//! so that must be told, and `fails`: the reads and writes that fail, by their numbers from 0, such as
+//! `read 3` and `write 1`, a line each. Where it has that file, the lines come from memory.
 #![tactic(auto)]
 
 use ba_explain::serve_words;
 use ba_outside::MemSink;
-use ba_source::StdSource;
+use ba_source::{MemSource, Source, StdSource};
 use std::alloc::{AllocError, Global};
 use std::process::ExitCode;
 use std::rt::Files;
@@ -29,6 +30,61 @@ impl End {
         let is_told = wanted.hint.is_none() || self.hint == wanted.hint;
         self.status == wanted.status && self.text == wanted.text && is_told
     }
+}
+
+// The calls that fail, by number.
+#[derive(Drop)]
+struct Failing {
+    reads: Vec<u64>,
+    writes: Vec<u64>,
+}
+
+impl Failing {
+    fn none(alloc: Global) -> Failing {
+        Failing {
+            reads: Vec::new(alloc),
+            writes: Vec::new(alloc),
+        }
+    }
+
+    // Those of a text, a line each.
+    fn of(alloc: Global, text: &str) -> io::Result<Failing> {
+        let mut failing = Failing::none(alloc);
+        for line in text.split_terminator('\n') {
+            failing.add(line)?;
+        }
+        Ok(failing)
+    }
+
+    fn add(&mut self, line: &str) -> io::Result<()> {
+        if let Some(number) = line.strip_prefix("read ") {
+            self.reads.push(number_of(number)?)?;
+            return Ok(());
+        }
+        if let Some(number) = line.strip_prefix("write ") {
+            self.writes.push(number_of(number)?)?;
+            return Ok(());
+        }
+        Err(io::Error::from(io::ErrorKind::InvalidData))
+    }
+}
+
+// The number that the text is.
+fn number_of(text: &str) -> io::Result<u64> {
+    match text.parse::<u64>() {
+        Ok(number) => Ok(number),
+        Err(_) => Err(io::Error::from(io::ErrorKind::InvalidData)),
+    }
+}
+
+// The lines of a text without their line feeds.
+fn lines_of(alloc: Global, text: &[u8]) -> Result<Vec<Vec<u8>>, AllocError> {
+    let mut lines = Vec::new(alloc);
+    let whole = text.strip_suffix(b"\n").unwrap_or(text);
+    for line in whole.split(|byte| *byte == b'\n') {
+        lines.push(line.to_vec(alloc)?)?;
+    }
+    Ok(lines)
 }
 
 // The words of a text, a line each, behind the command's.
@@ -92,12 +148,31 @@ where
     R: Files + AllocGlobal + Clone + Drop,
 {
     let alloc = rt.alloc();
-    let words = words_in(rt, folder)?;
     let lines = bytes_of(rt, folder, "in")?;
+    match text_in(rt, folder, "fails")? {
+        Some(text) => {
+            let Failing { reads, writes } = Failing::of(alloc, text.as_str())?;
+            let mut source = MemSource::new(alloc, lines_of(alloc, &lines)?, reads);
+            end_over(rt, folder, &mut source, writes)
+        }
+        None => {
+            let mut source = StdSource::new(lines.as_slice(), alloc)?;
+            end_over(rt, folder, &mut source, Failing::none(alloc).writes)
+        }
+    }
+}
+
+// The same over the source, where the writes of these numbers fail.
+fn end_over<R, L>(rt: &R, folder: &str, source: &mut L, failing: Vec<u64>) -> io::Result<End>
+where
+    R: Files + AllocGlobal + Clone + Drop,
+    L: Source,
+{
+    let alloc = rt.alloc();
+    let words = words_in(rt, folder)?;
     let prefix = format!(in alloc; "{folder}/")?;
-    let mut source = StdSource::new(lines.as_slice(), alloc)?;
-    let mut sink = MemSink::new(alloc, Vec::new(alloc), Vec::new(alloc));
-    let ended = serve_words(rt, &words, prefix.as_str(), &mut source, &mut sink)?;
+    let mut sink = MemSink::new(alloc, failing, Vec::new(alloc));
+    let ended = serve_words(rt, &words, prefix.as_str(), source, &mut sink)?;
     Ok(End {
         status: ended.status,
         text: sink.bytes().to_vec(alloc)?,

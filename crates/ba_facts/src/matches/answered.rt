@@ -4,7 +4,7 @@ ghost use Rattle.std.specs.List.{AllZip};
 ghost use Rattle.ba_facts.specs.Matches.{AreTheSame, row_of, term_of, terms_at};
 ghost use Rattle.ba_facts.specs.Walks.{CantGive, HasEarlier, IsAnsweredFrom, IsNoFront, IsOther, row_in, term_in};
 
-use crate::walk::{Offered, Visit, Walk};
+use crate::walk::{Offered, Visit, Walk, places_of};
 use ba_model::Operand;
 
 /// A row, as operands over facts.
@@ -111,13 +111,16 @@ impl GivenRow<'_> {
         true
     }
 
-    /// Whether the head has a term already over the chosen facts that isn't the same as the row's.
+    /// Whether the head has a term since the last fact was chosen that isn't the same as the row's.
+    /// Each term is looked at once on the way down.
     fn is_no_front<'a>(&self, walk: &Walk<'a>, head: &'a [Operand], chosen: &[usize]) -> bool
         ensures { IsTrue result → IsNoFront walk.now.branch.now head.now (row_in walk.now self.now)
             chosen.now }
     {
         for i in 0..head.len().min(self.operands.len()) {
-            if self.is_other(walk, chosen, &head[i], &self.operands[i]) {
+            if places_of(&head[i]) == chosen.len()
+                && self.is_other(walk, chosen, &head[i], &self.operands[i])
+            {
                 return true;
             }
         }

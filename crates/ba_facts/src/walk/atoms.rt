@@ -103,7 +103,7 @@ impl<'a> Walk<'a> {
 }
 
 /// How many places have to be chosen until the operand has its term.
-fn places_of(operand: &Operand) -> usize
+pub(crate) fn places_of(operand: &Operand) -> usize
     ensures { result ≡ places_of operand.now }
 {
     match operand {

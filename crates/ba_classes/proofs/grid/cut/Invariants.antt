@@ -1,7 +1,10 @@
-use Rattle.std.proofs.Common.{◌≡◌, ℕ, ◌<◌, ◌≤◌, [], get_or, take}
+use Rattle.std.proofs.Common.{◌≡◌, ℕ, ◌<◌, ◌≤◌}
+use Rattle.ba_classes.specs.Grid.{NoneNew, SameBelow, cell_at}
+use Rattle.ba_classes.specs.declared.best.Best.TheVariants.{Absent}
 use Rattle.ba_classes.proofs.grid.cut.Given as goal
 
 abbrev pub invariant-loop-row : goal.invariant-loop-row
 invariant-loop-row l =
-    ((i : ℕ) → i < l.row-index → get_or l.rows i [] ≡ take l.side (get_or l.initial.rows i []))
-    × ((i : ℕ) → l.row-index ≤ i → get_or l.rows i [] ≡ get_or l.initial.rows i [])
+    SameBelow l.side l.initial.rows l.rows
+    × NoneNew l.initial.rows l.rows
+    × ((i j : ℕ) → i < l.row-index → l.side ≤ j → cell_at l.rows i j ≡ Absent)

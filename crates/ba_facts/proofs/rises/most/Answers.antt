@@ -15,8 +15,7 @@ returns-in-Some c =
     let low = c.args.low in
     let high = c.args.high in
     let fits : SFits w128 gap = search rules in
-    let own = subst (λ (facts : List Difference). IsGreatest (λ k. Shows facts low.node k high.node) (Some gap)) c.get.ensures c.in-Some.ensures.greatest in
-    let whole = most_some c.args.order.now low high gap own in
+    let whole = most_some c.args.order.now low high gap c.in-Some.ensures.greatest in
     let result_fits : SFits w128 c.beyond.result = search rules in
     let is : to_z w128 (of_z w128 c.beyond.result) ≡ (gap -ℤ low.offset) +ℤ high.offset =
     to_z-of_z w128 c.beyond.result result_fits ∙ (c.beyond.ensures ∙ ap (λ g. (g -ℤ low.offset) +ℤ high.offset) (to_z-of_z w128 gap fits)) in
@@ -24,5 +23,4 @@ returns-in-Some c =
 
 pub returns-in-None : goal.returns-in-None
 returns-in-None c =
-    most_none c.args.order.now c.args.low c.args.high
-    (subst (λ (facts : List Difference). IsGreatest (λ k. Shows facts c.args.low.node k c.args.high.node) None) c.get.ensures c.in-None.ensures.greatest)
+    most_none c.args.order.now c.args.low c.args.high c.in-None.ensures.greatest

@@ -1,4 +1,4 @@
-use Rattle.std.proofs.Common.{◌≡◌, refl, subst}
+use Rattle.std.proofs.Common.{refl, subst}
 use Rattle.std.specs.Prelude.{Some}
 use Rattle.ba_general.proofs.ClosesLemmas.{not_closed}
 use Rattle.ba_kernel.specs.Replays.{Closes}

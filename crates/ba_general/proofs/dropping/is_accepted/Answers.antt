@@ -1,5 +1,5 @@
 use Rattle.std.proofs.Common.{subst, sym, ◌∙◌}
-use Rattle.std.specs.Prelude.{◌↔◌, IsTrue}
+use Rattle.std.specs.Prelude.{◌↔◌}
 use Rattle.ba_general.proofs.AtOnceLemmas.{proof_told}
 use Rattle.ba_general.proofs.WholePassLemmas.{all_fit}
 use Rattle.ba_general.proofs.OneFullLemmas.{accepted_fully}

@@ -3,6 +3,9 @@ use Rattle.ba_general.proofs.KeptLemmas.{made_wide, none_without, tried_gives, w
 use Rattle.ba_general.specs.Leaving.{IsWithout, MaybeIs}
 use Rattle.ba_general.proofs.leaving.left_out.Goals as goal
 
+pub returns-then-refused : goal.returns-then-refused
+returns-then-refused c = c.requires.refused c.if-refused.true
+
 pub without-requires-clause-made : goal.without-requires-clause-made
 without-requires-clause-made c = made_wide c.args.problem.now c.args.taken.now.steps c.args.taken.now.made.items c.requires.made
 

@@ -1,6 +1,6 @@
 use Rattle.std.proofs.Common.{◌≡◌, ◌∙◌, ◌+◌, ◌≤◌, ap, arith, length, subst}
-use Rattle.ba_instant.proofs.NextLemmas.{ahead_closed, ahead_saturated, all_closed_still, ends_of, none_waits, open_still, searches_start}
-use Rattle.ba_instant.specs.Nexts.{IsAhead}
+use Rattle.ba_instant.proofs.NextLemmas.{ends_of, may_close, may_saturate, none_waits, searches_start}
+use Rattle.ba_instant.specs.Nexts.{IsNext}
 use Rattle.ba_instant.proofs.ends.settle_in.Goals as goal
 
 pub loop-taken-init : goal.loop-taken-init
@@ -13,37 +13,27 @@ loop-taken-init c = record {
 
 pub loop-taken-preserved : goal.loop-taken-preserved
 loop-taken-preserved c =
-    let moved = subst (IsAhead c.args.pick c.loop-taken.search c.advance.new.search c.advance.new.waiting) c.in-Moved.is c.in_ok-ahead.ensures in
+    let moved = c.in_ok-then-in-Take.ensures in
     record {
       problem = moved.problem ∙ c.loop-taken.invariant.problem;
       searches = moved.searches;
       waiting = moved.waiting_;
-      count = (let e : length c.advance.new.search.steps ≡ c.loop-taken._taken + 1 = omega (arith, moved.count, c.loop-taken.invariant.count) in e);
+      count = (let e : length c.in_ok-then-in-Take.then.steps ≡ c.loop-taken._taken + 1 = omega (arith, moved.count, c.loop-taken.invariant.count) in e);
     }
 
 pub returns-in-Saturated : goal.returns-in-Saturated
 returns-in-Saturated c =
     let few : length c.loop-taken.search.steps ≤ c.args.budget = omega (arith, c.loop-taken.invariant.count, c.loop-taken-test.true) in
-    ahead_saturated c.args.pick c.args.budget c.loop-taken.search c.advance.new.search c.args.problem c.loop-taken.invariant.problem c.loop-taken.invariant.searches few c.in-Saturated.number
-    c.saturated.result (subst (IsAhead c.args.pick c.loop-taken.search c.advance.new.search c.advance.new.waiting) c.in-Saturated.is c.in_ok-ahead.ensures) c.saturated.ensures
+    may_saturate c.args.pick c.args.budget c.loop-taken.search c.args.problem c.loop-taken.invariant.problem c.loop-taken.invariant.searches c.in-Saturated.number
+    c.saturated.result (subst (IsNext c.args.pick c.loop-taken.search) c.in-Saturated.is c.in_ok-next.ensures) few c.saturated.ensures
 
 pub returns-in-Closed : goal.returns-in-Closed
 returns-in-Closed c =
     let few : length c.loop-taken.search.steps ≤ c.args.budget = omega (arith, c.loop-taken.invariant.count, c.loop-taken-test.true) in
-    ahead_closed c.args.pick c.args.budget c.loop-taken.search c.advance.new.search c.args.problem c.loop-taken.invariant.problem c.loop-taken.invariant.searches few c.closed.result
-    (subst (IsAhead c.args.pick c.loop-taken.search c.advance.new.search c.advance.new.waiting) c.in-Closed.is c.in_ok-ahead.ensures) c.closed.ensures
+    may_close c.args.pick c.args.budget c.loop-taken.search c.args.problem c.loop-taken.invariant.problem c.loop-taken.invariant.searches c.closed.result
+    (subst (IsNext c.args.pick c.loop-taken.search) c.in-Closed.is c.in_ok-next.ensures) few c.closed.ensures
 
 pub returns : goal.returns
 returns c =
     let spent : length c.loop-taken.search.steps ≡ c.args.budget = omega (arith, c.loop-taken.invariant.count, c.loop-taken-test.false, c.loop-taken.auto._taken-end) in
     ends_of c.args.pick c.args.budget c.loop-taken.search c.args.problem c.loop-taken.invariant.problem spent c.end.result c.end.ensures
-
-pub closed-requires : goal.closed-requires
-closed-requires c =
-    let end = subst (IsAhead c.args.pick c.loop-taken.search c.advance.new.search c.advance.new.waiting) c.in-Closed.is c.in_ok-ahead.ensures in
-    all_closed_still c.loop-taken.search c.advance.new.search end.0 end.1
-
-pub saturated-requires : goal.saturated-requires
-saturated-requires c =
-    let end = subst (IsAhead c.args.pick c.loop-taken.search c.advance.new.search c.advance.new.waiting) c.in-Saturated.is c.in_ok-ahead.ensures in
-    open_still c.loop-taken.search c.advance.new.search c.in-Saturated.number end.0 end.1

@@ -6,15 +6,15 @@ use Rattle.std.proofs.lemmas.Result.{err_from_is_err_and}
 use Rattle.ba_kernel.proofs.ReplayLemmas.{given_next, refused, stays_open}
 use Rattle.ba_kernel.proofs.replaying.replay.Goals as goal
 
-pub returns-in_err-take_next : goal.returns-in_err-take_next
-returns-in_err-take_next c =
-    let p = err_from_is_err_and c.from_residual-in_err-take_next.result c.from_residual-in_err-take_next.ensures.1 in
+pub returns-in_err-search-2 : goal.returns-in_err-search-2
+returns-in_err-search-2 c =
+    let p = err_from_is_err_and c.from_residual-in_err-search-2.result c.from_residual-in_err-search-2.ensures.1 in
     let gave = c.into_iter-step-iterator.ensures.into_iter_gives in
     let whole = given_next c.args.steps c.into_vec-step-items.result.items c.loop-step.yielded c.into_iter-step-iterator.result c.loop-step.step-iterator c.next.new.self
     c.next.result c.in-Some.step c.into_vec-step-items.ensures gave.0 c.loop-step.yielded_by c.in-Some.is c.next.ensures.steps in
     rw (p.1, p.2)
     (refused c.loop-step.search c.args.problem c.args.steps c.loop-step.yielded _ c.in-Some.step _ c.loop-step.invariant.2 c.loop-step.invariant.3 whole
-    c.in_err-take_next.ensures.fault)
+    c.in_err-search-2.ensures.fault)
 
 pub returns : goal.returns
 returns c =

@@ -1,44 +1,48 @@
-use Rattle.std.proofs.Common.{◌≡◌, ◌↔◌, IsTrue, ◌+◌, ◌-◌, ◌∙◌, sym, subst, arith, length}
-use Rattle.std.proofs.lemmas.Bool.{false≢true}
-use Rattle.ba_facts.proofs.LaidLemmas.{HaveNone, here_or_none, no_holder, none_more, none_past}
-use Rattle.std.specs.List.{Any}
-use Rattle.ba_facts.specs.Laid.{BeginsBy, IsHolder}
+use Rattle.std.proofs.Common.{◌≡◌, ◌+◌, ◌-◌, ◌/◌, Some, arith, length, subst}
+use Rattle.std.specs.List.{slice_get}
 use Rattle.ba_facts.specs.declared.term.Fact.{Fact}
 use Rattle.ba_facts.specs.declared.term.Term.TheVariants.{Unknown}
+use Rattle.ba_facts.proofs.LaidLemmas.{none_before, none_from, none_past, only_at}
 use Rattle.ba_facts.proofs.branch.Branch.holder.Goals as goal
 
-pub loop-number-init : goal.loop-number-init
-loop-number-init c = (let all = c.len-number.ensures in omega (arith, all), none_past c.args.self.now.facts c.args.unknown c.len-number.result c.len-number.ensures)
+pub loop-end-init : goal.loop-end-init
+loop-end-init c = record {
+  up = omega arith;
+  within = (let all = c.len-end.ensures in omega (arith, all));
+  before = λ i less h. omega (arith, less);
+  behind = none_past c.args.self.now.facts c.args.unknown c.len-end.result c.len-end.ensures;
+}
 
-pub get-fact-requires : goal.get-fact-requires
-get-fact-requires c =
-    let most = c.loop-number.invariant.0 in
-    let some = c.loop-number-test.true in
-    omega (arith, most, some)
+pub loop-end-preserved-then-begin-unknown : goal.loop-end-preserved-then-begin-unknown
+loop-end-preserved-then-begin-unknown c =
+    let b = c.args.self.now in
+    let up = c.loop-end.invariant.up in
+    let some = c.loop-end-test.true in
+    let low = c.if-begin-unknown.true in
+    record {
+      up = omega (arith, up, some);
+      within = c.loop-end.invariant.within;
+      before = none_before b.facts (length b.known.unknowns) c.args.unknown c.requires (c.loop-end.first + (c.loop-end.end - c.loop-end.first) / 2) c.in-Some.begin c.get.result.now c.get.ensures (subst (λ (fact : Fact). slice_get fact.terms 0 ≡ Some (Unknown c.in-Some.begin)) c.deref.ensures ((c.first_of.ensures c.in-Some.begin).0 c.in-Some.is)) (omega (arith, low));
+      behind = c.loop-end.invariant.behind;
+    }
 
-pub returns-then-begins_by : goal.returns-then-begins_by
-returns-then-begins_by c =
-    let some = c.loop-number-test.true in
-    let next : c.loop-number.number ≡ c.loop-number.number - 1 + 1 = omega (arith, some) in
-    let begins = subst (λ fact. BeginsBy fact c.args.unknown) c.deref.ensures (c.begins_by.ensures.0 c.if-begins_by.true) in
-    let has = subst (λ (fact : Fact). IsTrue c.has_unknown.result ↔ Any (λ term. term ≡ Unknown c.args.unknown) fact.terms) c.deref-then-begins_by.ensures c.has_unknown.ensures in
-    subst (IsHolder c.args.self.now.facts c.args.unknown) (sym c.then_some.ensures)
-    (here_or_none c.args.self.now.facts (length c.args.self.now.known.unknowns) c.args.unknown c.requires (c.loop-number.number - 1) c.get-fact.result.now c.has_unknown.result c.get-fact.ensures begins
-    (subst (HaveNone c.args.self.now.facts c.args.unknown) next c.loop-number.invariant.1) has)
-
-pub loop-number-preserved : goal.loop-number-preserved
-loop-number-preserved c =
-    let most = c.loop-number.invariant.0 in
-    let some = c.loop-number-test.true in
-    let next : c.loop-number.number ≡ c.loop-number.number - 1 + 1 = omega (arith, some) in (
-      omega (arith, most),
-      none_more c.args.self.now.facts (length c.args.self.now.known.unknowns) c.args.unknown c.requires (c.loop-number.number - 1) c.get-fact.result.now c.get-fact.ensures
-          (λ h. false≢true (sym c.if-begins_by.false ∙ c.begins_by.ensures.1 (subst (λ fact. BeginsBy fact c.args.unknown) (sym c.deref.ensures) h)))
-          (subst (HaveNone c.args.self.now.facts c.args.unknown) next c.loop-number.invariant.1),
-    )
+pub loop-end-preserved : goal.loop-end-preserved
+loop-end-preserved c =
+    let b = c.args.self.now in
+    let up = c.loop-end.invariant.up in
+    let within = c.loop-end.invariant.within in
+    let some = c.loop-end-test.true in
+    let late = c.if-begin-unknown.false in
+    record {
+      up = omega (arith, up, some);
+      within = omega (arith, up, within, some);
+      before = c.loop-end.invariant.before;
+      behind = none_from b.facts (length b.known.unknowns) c.args.unknown c.requires (c.loop-end.first + (c.loop-end.end - c.loop-end.first) / 2) c.in-Some.begin c.get.result.now c.get.ensures (subst (λ (fact : Fact). slice_get fact.terms 0 ≡ Some (Unknown c.in-Some.begin)) c.deref.ensures ((c.first_of.ensures c.in-Some.begin).0 c.in-Some.is)) (omega (arith, late));
+    }
 
 pub returns : goal.returns
 returns c =
-    let done = c.loop-number-test.false in
-    let zero : c.loop-number.number ≡ 0 = omega (arith, done) in
-    no_holder c.args.self.now.facts (length c.args.self.now.known.unknowns) c.args.unknown c.requires (subst (HaveNone c.args.self.now.facts c.args.unknown) zero c.loop-number.invariant.1)
+    let b = c.args.self.now in
+    let done = c.loop-end-test.false in
+    only_at b.facts (length b.known.unknowns) c.args.unknown c.requires c.loop-end.first c.holder_at.result c.loop-end.invariant.before
+    (λ i least h. c.loop-end.invariant.behind i (omega (arith, done, least)) h) c.holder_at.ensures

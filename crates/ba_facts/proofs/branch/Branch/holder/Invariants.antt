@@ -1,10 +1,9 @@
-use Rattle.std.proofs.Common.{◌≤◌, length}
-use Rattle.ba_facts.proofs.LaidLemmas.{HaveNone}
+use Rattle.std.proofs.Common.{◌-◌}
+use Rattle.ba_facts.proofs.LaidLemmas.{Between}
 use Rattle.ba_facts.proofs.branch.Branch.holder.Given as goal
 
--- none of the facts from the number on has the unknown
-abbrev pub invariant-loop-number : goal.invariant-loop-number
-invariant-loop-number l = (l.number ≤ length l.self.facts) × HaveNone l.self.facts l.unknown l.number
+abbrev pub invariant-loop-end : goal.invariant-loop-end
+invariant-loop-end l = Between l.self.facts l.unknown l.first l.end
 
-abbrev pub decreases-loop-number : goal.decreases-loop-number
-decreases-loop-number l = l.number
+abbrev pub decreases-loop-end : goal.decreases-loop-end
+decreases-loop-end l = l.end - l.first

@@ -1,10 +1,8 @@
-use Rattle.std.proofs.Common.{◌≡◌, ◌+◌, ◌-◌, ◌/◌, ◌≤◌, ap, arith, length, refl, subst, sym, ◌∙◌}
-use Rattle.std.proofs.lemmas.Bool.{false≢true}
-use Rattle.ba_model.specs.Limits.{most_steps}
+use Rattle.std.proofs.Common.{◌+◌, ◌-◌, ◌/◌, ◌≤◌, ap, arith, length, refl, subst, sym, ◌∙◌}
 use Rattle.ba_general.proofs.AtOnceLemmas.{last_moved}
 use Rattle.ba_general.proofs.DroppingLemmas.{halves_run}
 use Rattle.ba_general.proofs.RunLemmas.{back_kept, front_kept, middle_in, run_moved}
-use Rattle.ba_general.specs.Conditions.{AtomsFit, PatternFits}
+use Rattle.ba_general.specs.Conditions.{AtomsFit}
 use Rattle.ba_general.specs.Dropping.{IsAccepted}
 use Rattle.ba_general.proofs.dropping.Pass.drop_equal.Goals as goal
 

@@ -1,4 +1,4 @@
-use Rattle.std.proofs.Common.{◌≡◌, ◌≤◌, ap, arith, drop, length, refl, subst, sym, true, ◌∙◌}
+use Rattle.std.proofs.Common.{◌≤◌, ap, arith, drop, length, refl, subst, sym, true, ◌∙◌}
 use Rattle.std.proofs.lemmas.List.{length-replicate}
 use Rattle.ba_general.proofs.AtOnceLemmas.{groups_at_once, last_moved, tried_gone, tried_kept}
 use Rattle.ba_general.proofs.FullLemmas.{atoms_can}

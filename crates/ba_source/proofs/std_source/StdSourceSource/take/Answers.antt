@@ -2,7 +2,7 @@ use Rattle.std.proofs.Common.{rules, ◌≡◌, ◌∙◌, [], ap, length, sym, 
 use Rattle.std.specs.Prelude.{◌==◌}
 use Rattle.std.specs.Io.KnownBytes.{IsAtEnd, prepend_known}
 use Rattle.ba_source.specs.StdSource.{ahead}
-use Rattle.ba_source.proofs.StdLemmas.{Begun, empty_is, found, last, onward, some_is, went_well}
+use Rattle.ba_source.proofs.StdLemmas.{Begun, empty_is, found, held_fill, held_next, held_reader, last, onward, some_is, went_well}
 use Rattle.ba_source.proofs.std_source.StdSourceSource.take.Goals as goal
 
 pub returns-then-is_begun-clause-bytes : goal.returns-then-is_begun-clause-bytes
@@ -36,4 +36,21 @@ loop-preserved g c =
       search rules,
       onward c.args.limit old mid rest (prepend_known c.take_from.new.unread rest) c.fill.new.self.unread c.loop.line c.take_from.new.self c.loop.is_begun
           c.loop.invariant.3 c.fill.ensures.keeps (sym c.take_from.ensures.found ∙ c.if-take_from.false) some c.take_from.ensures.stands same,
+      held_next c.args.self.now c.loop.self c.fill.new.self c.loop.is_begun c.loop.invariant.4 c.fill.ensures.waits (sym c.take_from.ensures.found ∙ c.if-take_from.false),
     )
+
+pub returns-then-is_err-clause-waits : goal.returns-then-is_err-clause-waits
+returns-then-is_err-clause-waits g c = λ feed. c.fail.ensures.reader ∙ (held_fill c.args.self.now c.loop.self c.fill.new.self c.loop.is_begun c.loop.invariant.4 c.fill.ensures.waits feed).0
+
+pub returns-then-is_begun-clause-waits : goal.returns-then-is_begun-clause-waits
+returns-then-is_begun-clause-waits g c = λ feed. c.give.ensures.reader ∙ (held_fill c.args.self.now c.loop.self c.fill.new.self c.loop.is_begun c.loop.invariant.4 c.fill.ensures.waits feed).0
+
+pub returns-else-is_begun-clause-waits : goal.returns-else-is_begun-clause-waits
+returns-else-is_begun-clause-waits g c = λ feed. (held_fill c.args.self.now c.loop.self c.fill.new.self c.loop.is_begun c.loop.invariant.4 c.fill.ensures.waits feed).0
+
+pub returns-then-take_from-clause-waits : goal.returns-then-take_from-clause-waits
+returns-then-take_from-clause-waits g c = λ feed.
+    c.give-then-take_from.ensures.reader ∙ (held_fill c.args.self.now c.loop.self c.fill.new.self c.loop.is_begun c.loop.invariant.4 c.fill.ensures.waits feed).0
+
+pub returns-clause-waits : goal.returns-clause-waits
+returns-clause-waits g c = λ feed. c.fail-2.ensures.reader ∙ held_reader c.args.self.now c.loop.self c.loop.is_begun c.loop.invariant.4 feed
