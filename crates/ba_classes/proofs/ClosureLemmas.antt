@@ -1,7 +1,5 @@
 -- Cells by places and by nodes, and what a fact that is added leaves of them.
-use Rattle.std.proofs.Common.{◌≡◌, ◌≢◌, ℕ, ◌^◌, ◌<◌, ◌≤◌, ℤ, pos, neg_ℤ, ◌+ℤ◌, ◌≤ℤ◌, ◌↔◌, List, [], ◌∷◌, ◌++◌, Bool, true, false, ◌||◌, IsTrue, Option, Some, None, nat_eq, get_or, refl, sym, ap, ◌∙◌, subst, ◌⊎◌, inl, length, ⊎_elim, ◌<ℤ◌, arith}
-use Rattle.std.specs.HashMap.{hash_map_len}
-use Rattle.std.specs.Map.{lookup}
+use Rattle.std.proofs.Common.{◌≡◌, ◌≢◌, ℕ, ◌^◌, ◌<◌, ◌≤◌, ℤ, pos, neg_ℤ, ◌+ℤ◌, ◌≤ℤ◌, ◌↔◌, List, [], ◌∷◌, ◌++◌, Bool, true, false, ◌||◌, IsTrue, Option, Some, None, nat_eq, get_or, refl, sym, ap, ◌∙◌, subst, ◌⊎◌, inl, ⊎_elim, ◌<ℤ◌, arith}
 use Rattle.std.proofs.lemmas.Bool.{cases_lt, cases_eq, ne_eqb, eq-eqb, eqb-true, false≢true}
 use Rattle.std.proofs.lemmas.Int.{ints}
 use Rattle.std.proofs.lemmas.List.Elements.{All-push, All-nil, Contains-push_cases}
@@ -55,19 +53,19 @@ IsExact-same facts cell new same exact = record {
 }
 
 -- naming a node changes nothing of what follows
-pub IsClosure-placed : (facts : List Difference) (places after : Places) (rows wider : List (List Best)) (is_absurd : Bool) (node : ℕ) → node < 2 ^ 32 → ((x p : ℕ) → place_of places x ≡ Some p → place_of after x ≡ Some p) → ((p : ℕ) → p < hash_map_len after → (p < hash_map_len places) ⊎ (place_of after node ≡ Some p)) → ((x y : ℕ) → between after wider x y ≡ between places rows x y) → IsClosure facts places rows is_absurd → IsClosure facts after wider is_absurd
+pub IsClosure-placed : (facts : List Difference) (places after : Places) (rows wider : List (List Best)) (is_absurd : Bool) (node : ℕ) → node < 2 ^ 32 → ((x p : ℕ) → place_of places x ≡ Some p → place_of after x ≡ Some p) → ((p : ℕ) → p < after.count → (p < places.count) ⊎ (place_of after node ≡ Some p)) → ((x y : ℕ) → between after wider x y ≡ between places rows x y) → IsClosure facts places rows is_absurd → IsClosure facts after wider is_absurd
 IsClosure-placed facts places after rows wider is_absurd node small kept named same closure = record {
   in_range = closure.in_range;
   named = λ p h.
       ⊎_elim
-      (λ (old : p < hash_map_len places). let had = closure.named p old in record { node = had.node; small = had.small; placed = kept had.node p had.placed })
+      (λ (old : p < places.count). let had = closure.named p old in record { node = had.node; small = had.small; placed = kept had.node p had.placed })
       (λ (new : place_of after node ≡ Some p). record { node = node; small = small; placed = new })
       (named p h);
   exact = IsExact-same facts (between places rows) (between after wider) same closure.exact;
   flag = closure.flag;
 }
 
-pub IsClosure-none : (places : Places) (rows : List (List Best)) → hash_map_len places ≡ 0 → ((x y : ℕ) → between places rows x y ≡ Absent) → IsClosure [] places rows false
+pub IsClosure-none : (places : Places) (rows : List (List Best)) → places.count ≡ 0 → ((x y : ℕ) → between places rows x y ≡ Absent) → IsClosure [] places rows false
 IsClosure-none places rows unnamed absent = record {
   in_range = All-nil (IsInRange (2 ^ 66));
   named = λ p h. absurd (omega arith);
@@ -112,26 +110,26 @@ module _ (facts : List Difference) (places : Places) (rows : List (List Best)) (
   pub comes_within : (i : ℕ) → IsWithin (2 ^ 98) (or_nothing (nat_eq i from) (cell_at rows i from))
   comes_within i =
       ⊎_elim
-      (λ (h : i < hash_map_len places).
+      (λ (h : i < places.count).
       let has = closure.named i h in
       subst (IsWithin (2 ^ 98)) (sym (reach_placed places rows grid has.node fact.low i from has.placed low_placed))
       (reach_within facts closure.in_range (between places rows) closure.exact has.node fact.low range.low))
-      (λ (h : hash_map_len places ≤ i).
+      (λ (h : places.count ≤ i).
       let apart : i ≢ from = λ e. absurd (omega (arith, e, grid.below fact.low from low_placed)) in
       subst (IsWithin (2 ^ 98)) (sym (outside i from apart (grid.no_row i from h))) tt)
-      (cases_lt i (hash_map_len places))
+      (cases_lt i (places.count))
 
-  pub goes_within : (onward : List Best) → ((j : ℕ) → j < hash_map_len places → get_or onward j Absent ≡ or_nothing (nat_eq to j) (cell_at rows to j)) → ((j : ℕ) → hash_map_len places ≤ j → get_or onward j Absent ≡ Absent) → (j : ℕ) → IsWithin (2 ^ 98) (get_or onward j Absent)
+  pub goes_within : (onward : List Best) → ((j : ℕ) → j < places.count → get_or onward j Absent ≡ or_nothing (nat_eq to j) (cell_at rows to j)) → ((j : ℕ) → places.count ≤ j → get_or onward j Absent ≡ Absent) → (j : ℕ) → IsWithin (2 ^ 98) (get_or onward j Absent)
   goes_within onward onward_is past j =
       ⊎_elim
-      (λ (h : j < hash_map_len places).
+      (λ (h : j < places.count).
       let has = closure.named j h in
       subst (IsWithin (2 ^ 98)) (sym (onward_is j h ∙ reach_placed places rows grid fact.high has.node to j high_placed has.placed))
       (reach_within facts closure.in_range (between places rows) closure.exact fact.high has.node has.small))
-      (λ (h : hash_map_len places ≤ j). subst (IsWithin (2 ^ 98)) (sym (past j h)) tt)
-      (cases_lt j (hash_map_len places))
+      (λ (h : places.count ≤ j). subst (IsWithin (2 ^ 98)) (sym (past j h)) tt)
+      (cases_lt j (places.count))
 
-  module _ (gains : Bool) (gains_is : IsTrue gains ↔ Reaches (reach (between places rows) fact.high fact.low) (pos 1 +ℤ neg_ℤ fact.gap)) (onward : List Best) (onward_is : (j : ℕ) → j < hash_map_len places → get_or onward j Absent ≡ or_nothing (nat_eq to j) (cell_at rows to j)) (after : Places) (raised : List (List Best)) (same_places : (x : ℕ) → place_of after x ≡ place_of places x) (cells : (i j : ℕ) → cell_at raised i j ≡ better (cell_at rows i j) (joined (joined (or_nothing (nat_eq i from) (cell_at rows i from)) (through gains fact.gap)) (get_or onward j Absent))) where
+  module _ (gains : Bool) (gains_is : IsTrue gains ↔ Reaches (reach (between places rows) fact.high fact.low) (pos 1 +ℤ neg_ℤ fact.gap)) (onward : List Best) (onward_is : (j : ℕ) → j < places.count → get_or onward j Absent ≡ or_nothing (nat_eq to j) (cell_at rows to j)) (after : Places) (raised : List (List Best)) (same_places : (x : ℕ) → place_of after x ≡ place_of places x) (cells : (i j : ℕ) → cell_at raised i j ≡ better (cell_at rows i j) (joined (joined (or_nothing (nat_eq i from) (cell_at rows i from)) (through gains fact.gap)) (get_or onward j Absent))) where
     abbrev by_fact : ℕ → ℕ → Best
     by_fact x y = joined (joined (reach (between places rows) x fact.low) (through gains fact.gap)) (reach (between places rows) fact.high y)
 
@@ -157,7 +155,7 @@ module _ (facts : List Difference) (places : Places) (rows : List (List Best)) (
         ∙ ap (λ p. cell_between raised (place_of places x) p) (same_places y)
         ∙ raised_between x y (place_of places x) (place_of places y) refl refl
 
-    pub IsClosure-raised : hash_map_len after ≡ hash_map_len places → IsClosure (facts ++ fact ∷ []) after raised (is_absurd || gains)
+    pub IsClosure-raised : after.count ≡ places.count → IsClosure (facts ++ fact ∷ []) after raised (is_absurd || gains)
     IsClosure-raised len = record {
       in_range = All-push (IsInRange (2 ^ 66)) facts fact closure.in_range range;
       named = λ p h.
@@ -168,7 +166,7 @@ module _ (facts : List Difference) (places : Places) (rows : List (List Best)) (
     }
 
 -- the same, over what the code read: whether it saw a gain, and the chains through the fact
-pub IsClosure-step : (facts : List Difference) (places : Places) (rows : List (List Best)) (is_absurd : Bool) (grid : IsGrid places rows) (closure : IsClosure facts places rows is_absurd) (fact : Difference) (range : IsInRange (2 ^ 66) fact) (from to : ℕ) (low_placed : place_of places fact.low ≡ Some from) (high_placed : place_of places fact.high ≡ Some to) (gains : Bool) (seen by : Best) (least : ℤ) (onward : List Best) (onward_is : (j : ℕ) → j < hash_map_len places → get_or onward j Absent ≡ or_nothing (nat_eq to j) (cell_at rows to j)) (said : IsTrue gains ↔ Reaches seen least) (seen_is : seen ≡ get_or onward from Absent) (least_is : least ≡ pos 1 +ℤ neg_ℤ fact.gap) (by_is : by ≡ through gains fact.gap) (after : Places) (raised : List (List Best)) (same_places : (x : ℕ) → place_of after x ≡ place_of places x) (len : hash_map_len after ≡ hash_map_len places) (cells : (i j : ℕ) → cell_at raised i j ≡ better (cell_at rows i j) (joined (joined (or_nothing (nat_eq i from) (cell_at rows i from)) by) (get_or onward j Absent))) → IsClosure (facts ++ fact ∷ []) after raised (is_absurd || gains)
+pub IsClosure-step : (facts : List Difference) (places : Places) (rows : List (List Best)) (is_absurd : Bool) (grid : IsGrid places rows) (closure : IsClosure facts places rows is_absurd) (fact : Difference) (range : IsInRange (2 ^ 66) fact) (from to : ℕ) (low_placed : place_of places fact.low ≡ Some from) (high_placed : place_of places fact.high ≡ Some to) (gains : Bool) (seen by : Best) (least : ℤ) (onward : List Best) (onward_is : (j : ℕ) → j < places.count → get_or onward j Absent ≡ or_nothing (nat_eq to j) (cell_at rows to j)) (said : IsTrue gains ↔ Reaches seen least) (seen_is : seen ≡ get_or onward from Absent) (least_is : least ≡ pos 1 +ℤ neg_ℤ fact.gap) (by_is : by ≡ through gains fact.gap) (after : Places) (raised : List (List Best)) (same_places : (x : ℕ) → place_of after x ≡ place_of places x) (len : after.count ≡ places.count) (cells : (i j : ℕ) → cell_at raised i j ≡ better (cell_at rows i j) (joined (joined (or_nothing (nat_eq i from) (cell_at rows i from)) by) (get_or onward j Absent))) → IsClosure (facts ++ fact ∷ []) after raised (is_absurd || gains)
 IsClosure-step facts places rows is_absurd grid closure fact range from to low_placed high_placed gains seen by least onward onward_is said seen_is least_is by_is after raised same_places len cells =
     let back : seen ≡ reach (between places rows) fact.high fact.low = seen_is ∙ onward_is from (grid.below fact.low from low_placed) ∙ reach_placed places rows grid fact.high fact.low to from high_placed low_placed in
     let gains_is : IsTrue gains ↔ Reaches (reach (between places rows) fact.high fact.low) (pos 1 +ℤ neg_ℤ fact.gap) =
@@ -205,11 +203,11 @@ module _ (facts : List Difference) (fact : Difference) (already : Shows facts fa
   }
 
 -- the same places and rows have the same closure
-pub IsClosure-copied : (facts : List Difference) (places copied : Places) (rows wider : List (List Best)) (is_absurd : Bool) → copied.entries ≡ places.entries → wider ≡ rows → IsClosure facts places rows is_absurd → IsClosure facts copied wider is_absurd
-IsClosure-copied facts places copied rows wider is_absurd same_entries same_rows closure =
-    let same_place : (x : ℕ) → place_of copied x ≡ place_of places x = λ x. ap (lookup (nat_eq x)) same_entries in
+pub IsClosure-copied : (facts : List Difference) (places copied : Places) (rows wider : List (List Best)) (is_absurd : Bool) → copied ≡ places → wider ≡ rows → IsClosure facts places rows is_absurd → IsClosure facts copied wider is_absurd
+IsClosure-copied facts places copied rows wider is_absurd same_seats same_rows closure =
+    let same_place : (x : ℕ) → place_of copied x ≡ place_of places x = λ x. ap (λ (it : Places). place_of it x) same_seats in
     IsClosure-placed facts places copied rows wider is_absurd 0 (omega arith)
     (λ x p h. same_place x ∙ h)
-    (λ p h. inl (subst (λ es. p < length es) same_entries h))
+    (λ p h. inl (subst (λ (it : Places). p < it.count) same_seats h))
     (λ x y. ap (λ rs. between copied rs x y) same_rows ∙ ap (λ p. cell_between rows p (place_of copied y)) (same_place x) ∙ ap (cell_between rows (place_of places x)) (same_place y))
     closure

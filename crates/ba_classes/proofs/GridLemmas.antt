@@ -3,11 +3,16 @@ use Rattle.std.proofs.Common.{◌≡◌, ◌≢◌, ℕ, ◌+◌, ◌<◌, ◌�
 use Rattle.std.proofs.lemmas.Bool.{cases_lt, cases_eq, eq-eqb, ne_eqb}
 use Rattle.std.proofs.lemmas.List.{get_or-set_same, get_or-set_other, get_or_past, get_or_append_left, get_or_push, length_push}
 use Rattle.ba_classes.specs.Best.{better, joined, or_nothing}
-use Rattle.std.specs.Prelude.{Option, Some, None, cond}
-use Rattle.std.specs.HashMap.{hash_map_len}
-use Rattle.ba_classes.specs.Grid.{IsGrid, NoneNew, NonePast, Places, SameBelow, SameCells, between, cell_at, cell_between, place_of}
+use Rattle.std.specs.Prelude.{Option, Some, None, Result, Ok, Err, OnOk, OnErr, cond}
+use Rattle.ba_classes.specs.Grid.{IsGrid, IsLast, NoneNew, NonePast, Places, SameBelow, SameCells, between, cell_at, cell_between, place_of}
 use Rattle.ba_classes.specs.declared.best.Best.{Best}
 use Rattle.ba_classes.specs.declared.best.Best.TheVariants.{Absent}
+
+some_one : (m n : ℕ) → Some m ≡ Some n → m ≡ n
+some_one m n e = cc
+
+some_none : (m : ℕ) → Some m ≡ None → ⊥
+some_none m e = cc
 
 module _ (rows : List (List Best)) (i : ℕ) (row : List Best) (within : i < length rows) where
   -- a row that is written at a place, read at any
@@ -53,7 +58,7 @@ added_cells start rows row same empty =
 
 -- ---- a node that gets a place, where the rows have an empty row and an empty column
 
-module _ (places after : Places) (rows cut added : List (List Best)) (node place : ℕ) (grid : IsGrid places rows) (place-is : place ≡ hash_map_len places) (same : SameBelow place rows cut) (none_new : NoneNew rows cut) (none_past : NonePast place cut) (same_cells : SameCells cut added) (unnamed : place_of places node ≡ None) (updated : (x : ℕ) → place_of after x ≡ cond (nat_eq node x) (Some place) (place_of places x)) where
+module _ (places after : Places) (rows cut added : List (List Best)) (node place : ℕ) (grid : IsGrid places rows) (place-is : place ≡ places.count) (same : SameBelow place rows cut) (none_new : NoneNew rows cut) (none_past : NonePast place cut) (same_cells : SameCells cut added) (unnamed : place_of places node ≡ None) (updated : (x : ℕ) → place_of after x ≡ cond (nat_eq node x) (Some place) (place_of places x)) where
   named : place_of after node ≡ Some place
   named = updated node ∙ ap (λ b. cond b (Some place) (place_of places node)) (eq-eqb node node refl)
 
@@ -93,6 +98,87 @@ module _ (places after : Places) (rows cut added : List (List Best)) (node place
       ∙ old_cells y (place_of places x) (place_of places y) refl)
       (cases_eq y node))
       (cases_eq x node)
+
+-- whatever comes of it, the grid stays one: the places are as they were, or the node has the next one
+module _ (places after : Places) (rows cut added : List (List Best)) (node place : ℕ) (grid : IsGrid places rows) (place-is : place ≡ places.count) (same : SameBelow place rows cut) (none_new : NoneNew rows cut) (same_cells : SameCells cut added) (tall : place < length added) where
+  no_row_past : (i j : ℕ) → place ≤ i → cell_at added i j ≡ Absent
+  no_row_past i j h = same_cells i j ∙ none_new i j (grid.no_row i j (omega (arith, place-is)))
+
+  kept_cells : (y : ℕ) (p q : Option ℕ) → place_of places y ≡ q → cell_between added p q ≡ cell_between rows p q
+  kept_cells y (Some i) (Some j) e = same_cells i j ∙ same i j (omega (arith, place-is, grid.below y j e))
+  kept_cells y (Some i) None e = refl
+  kept_cells y None q e = refl
+
+  pub kept_between : after ≡ places → (x y : ℕ) → between after added x y ≡ between places rows x y
+  kept_between e x y =
+      subst (λ (it : Places). between it added x y ≡ between places rows x y) (sym e)
+      (kept_cells y (place_of places x) (place_of places y) refl)
+
+  IsGrid-kept : IsGrid places added
+  IsGrid-kept = record {
+    below = grid.below;
+    apart = grid.apart;
+    tall = omega (arith, place-is);
+    no_row = λ i j h. no_row_past i j (omega (arith, place-is));
+  }
+
+  module _ (count : after.count ≡ places.count + 1) (updated : (x : ℕ) → place_of after x ≡ cond (nat_eq node x) (Some place) (place_of places x)) where
+    place_here : (x p : ℕ) → x ≡ node → place_of after x ≡ Some p → p ≡ place
+    place_here x p e h = some_one p place (sym h ∙ updated x ∙ ap (λ b. cond b (Some place) (place_of places x)) (eq-eqb node x (sym e)))
+
+    place_there : (x p : ℕ) → x ≢ node → place_of after x ≡ Some p → place_of places x ≡ Some p
+    place_there x p apart h = sym (updated x ∙ ap (λ b. cond b (Some place) (place_of places x)) (ne_eqb node x (λ e. apart (sym e)))) ∙ h
+
+    IsGrid-added : IsGrid after added
+    IsGrid-added = record {
+      below = λ x p h.
+          ⊎_elim
+          (λ (e : x ≡ node). let is : p ≡ place = place_here x p e h in omega (arith, is, place-is, count))
+          (λ (a : x ≡ node → ⊥). let old : p < places.count = grid.below x p (place_there x p a h) in omega (arith, old, count))
+          (cases_eq x node);
+      apart = λ x y p h k.
+          ⊎_elim
+          (λ (e : x ≡ node).
+          ⊎_elim
+          (λ (f : y ≡ node). e ∙ sym f)
+          (λ (b : y ≡ node → ⊥).
+          let is : p ≡ place = place_here x p e h in
+          let old : p < places.count = grid.below y p (place_there y p b k) in
+          absurd (let no : ⊥ = omega (arith, is, old, place-is) in no))
+          (cases_eq y node))
+          (λ (a : x ≡ node → ⊥).
+          ⊎_elim
+          (λ (f : y ≡ node).
+          let is : p ≡ place = place_here y p f k in
+          let old : p < places.count = grid.below x p (place_there x p a h) in
+          absurd (let no : ⊥ = omega (arith, is, old, place-is) in no))
+          (λ (b : y ≡ node → ⊥). grid.apart x y p (place_there x p a h) (place_there y p b k))
+          (cases_eq y node))
+          (cases_eq x node);
+      tall = omega (arith, place-is, count);
+      no_row = λ i j h. no_row_past i j (omega (arith, place-is, count));
+    }
+
+  pub IsGrid-placed : {T E : Type 0} (r : Result T E) → OnOk r (after.count ≡ places.count + 1) → OnOk r ((x : ℕ) → place_of after x ≡ cond (nat_eq node x) (Some place) (place_of places x)) → OnErr r (after ≡ places) → IsGrid after added
+  IsGrid-placed (Ok done) count updated err = IsGrid-added count updated
+  IsGrid-placed (Err fault) count updated err = subst (λ (it : Places). IsGrid it added) (sym err) IsGrid-kept
+
+-- ---- a node that gives the last place back
+
+pub IsGrid-given_back : (places after : Places) (rows cut : List (List Best)) (node : ℕ) → IsGrid places rows → (last : IsLast places node) → after.count + 1 ≡ places.count → place_of after node ≡ None → ((x : ℕ) → x ≢ node → place_of after x ≡ place_of places x) → length cut ≡ after.count → IsGrid after cut
+IsGrid-given_back places after rows cut node grid last count gone kept len = record {
+  below = λ x p h.
+      let old : place_of places x ≡ Some p = sym (kept x (other x p h)) ∙ h in
+      let within : p < places.count = grid.below x p old in
+      let apart : p ≢ last.place = λ e. other x p h (grid.apart x node p old (last.placed ∙ ap (λ n. Some n) (sym e))) in
+      omega (arith, within, apart, count, last.last);
+  apart = λ x y p h k. grid.apart x y p (sym (kept x (other x p h)) ∙ h) (sym (kept y (other y p k)) ∙ k);
+  tall = omega (arith, len);
+  no_row = λ i j h. ap (λ (r : List Best). get_or r j Absent) (get_or_past cut i [] (omega (arith, len)));
+}
+  where
+    other : (x p : ℕ) → place_of after x ≡ Some p → x ≢ node
+    other x p h e = some_none p (sym h ∙ ap (λ n. place_of after n) e ∙ gone)
 
 module _ (start : List (List Best)) (low : ℕ) (by : Best) (onward : List Best) where
   -- what comes to the place `low` and goes on by `by`

@@ -1,6 +1,5 @@
 -- What an order keeps, when facts are added and nodes are tied.
 use Rattle.std.proofs.Common.{◌≡◌, ◌≢◌, ℕ, ◌+◌, ◌^◌, ◌<◌, ℤ, pos, neg_ℤ, ◌+ℤ◌, ◌-ℤ◌, ◌≤ℤ◌, ◌↔◌, List, [], ◌∷◌, ◌++◌, map, get_or, Bool, true, false, ◌||◌, IsTrue, Option, Some, None, cond, nat_eq, refl, sym, ap, ◌∙◌, subst, ◌⊎◌, ⊎_elim, arith}
-use Rattle.std.specs.HashMap.{hash_map_len}
 use Rattle.std.specs.Map.{lookup}
 use Rattle.std.proofs.lemmas.Bool.{cases_eq, ne_eqb, eq-eqb, eqb-true}
 use Rattle.std.proofs.lemmas.Int.{ints}
@@ -37,7 +36,7 @@ pub through_within : (gains : Bool) (gap : ℤ) → neg_ℤ (pos (2 ^ 66)) ≤�
 through_within true gap above below = tt
 through_within false gap above below = (above, below)
 
-pub IsOrder-none : (value : ℕ → Option ℤ) (places : Places) (rows : List (List Best)) → ((n : ℕ) → value n ≡ None) → hash_map_len places ≡ 0 → ((x y : ℕ) → between places rows x y ≡ Absent) → IsOrder [] value places rows false
+pub IsOrder-none : (value : ℕ → Option ℤ) (places : Places) (rows : List (List Best)) → ((n : ℕ) → value n ≡ None) → places.count ≡ 0 → ((x y : ℕ) → between places rows x y ≡ Absent) → IsOrder [] value places rows false
 IsOrder-none value places rows untied unnamed absent = record {
   in_range = All-nil (IsInRange (2 ^ 65));
   are_tied = λ n v e. absurd (let both : Some v ≡ None = sym e ∙ untied n in cc);
@@ -67,7 +66,7 @@ module _ (facts : List Difference) (value : ℕ → Option ℤ) (places : Places
       record { other = t.other; at_least = Shows-more (fact ∷ []) t.at_least; at_most = Shows-more (fact ∷ []) t.at_most }
 
   -- naming a node changes nothing
-  pub IsOrder-placed : (after : Places) (wider : List (List Best)) (node : ℕ) → node < 2 ^ 32 → ((x p : ℕ) → place_of places x ≡ Some p → place_of after x ≡ Some p) → ((p : ℕ) → p < hash_map_len after → (p < hash_map_len places) ⊎ (place_of after node ≡ Some p)) → ((x y : ℕ) → between after wider x y ≡ between places rows x y) → IsOrder facts value after wider is_absurd
+  pub IsOrder-placed : (after : Places) (wider : List (List Best)) (node : ℕ) → node < 2 ^ 32 → ((x p : ℕ) → place_of places x ≡ Some p → place_of after x ≡ Some p) → ((p : ℕ) → p < after.count → (p < places.count) ⊎ (place_of after node ≡ Some p)) → ((x y : ℕ) → between after wider x y ≡ between places rows x y) → IsOrder facts value after wider is_absurd
   IsOrder-placed after wider node small kept named same = record {
     in_range = order.in_range;
     are_tied = order.are_tied;
@@ -83,7 +82,7 @@ module _ (facts : List Difference) (value : ℕ → Option ℤ) (places : Places
   }
 
   -- the same, over what the code read
-  pub IsOrder-step : AreSmall value → (grid : IsGrid places rows) (given : Difference) (range : IsInRange (2 ^ 65) given) (fact : Difference) (fact_is : fact ≡ based value given) (from to : ℕ) (low_placed : place_of places fact.low ≡ Some from) (high_placed : place_of places fact.high ≡ Some to) (gains : Bool) (seen by : Best) (least : ℤ) (onward : List Best) (onward_is : (j : ℕ) → j < hash_map_len places → get_or onward j Absent ≡ or_nothing (nat_eq to j) (cell_at rows to j)) (said : IsTrue gains ↔ Reaches seen least) (seen_is : seen ≡ get_or onward from Absent) (least_is : least ≡ pos 1 +ℤ neg_ℤ fact.gap) (by_is : by ≡ through gains fact.gap) (after : Places) (raised : List (List Best)) (same_places : (x : ℕ) → place_of after x ≡ place_of places x) (len : hash_map_len after ≡ hash_map_len places) (cells : (i j : ℕ) → cell_at raised i j ≡ better (cell_at rows i j) (joined (joined (or_nothing (nat_eq i from) (cell_at rows i from)) by) (get_or onward j Absent))) → IsOrder (facts ++ given ∷ []) value after raised (is_absurd || gains)
+  pub IsOrder-step : AreSmall value → (grid : IsGrid places rows) (given : Difference) (range : IsInRange (2 ^ 65) given) (fact : Difference) (fact_is : fact ≡ based value given) (from to : ℕ) (low_placed : place_of places fact.low ≡ Some from) (high_placed : place_of places fact.high ≡ Some to) (gains : Bool) (seen by : Best) (least : ℤ) (onward : List Best) (onward_is : (j : ℕ) → j < places.count → get_or onward j Absent ≡ or_nothing (nat_eq to j) (cell_at rows to j)) (said : IsTrue gains ↔ Reaches seen least) (seen_is : seen ≡ get_or onward from Absent) (least_is : least ≡ pos 1 +ℤ neg_ℤ fact.gap) (by_is : by ≡ through gains fact.gap) (after : Places) (raised : List (List Best)) (same_places : (x : ℕ) → place_of after x ≡ place_of places x) (len : after.count ≡ places.count) (cells : (i j : ℕ) → cell_at raised i j ≡ better (cell_at rows i j) (joined (joined (or_nothing (nat_eq i from) (cell_at rows i from)) by) (get_or onward j Absent))) → IsOrder (facts ++ given ∷ []) value after raised (is_absurd || gains)
   IsOrder-step small grid given range fact fact_is from to low_placed high_placed gains seen by least onward onward_is said seen_is least_is by_is after raised same_places len cells =
       IsOrder-more given range after raised (is_absurd || gains)
       (subst (λ f. IsClosure (map (based value) facts ++ f ∷ []) after raised (is_absurd || gains)) fact_is
@@ -115,7 +114,7 @@ module _ (facts : List Difference) (value : ℕ → Option ℤ) (places : Places
         (λ (apart : n ≡ node → ⊥). order.are_tied n w (sym (new_elsewhere n apart) ∙ e))
         (cases_eq n node)
 
-    module _ (after : Places) (cut : List (List Best)) (last : IsLast places node) (len : hash_map_len after + 1 ≡ hash_map_len places) (gone : place_of after node ≡ None) (kept : (x : ℕ) → x ≢ node → place_of after x ≡ place_of places x) (same : (x y : ℕ) → x ≢ node → y ≢ node → between after cut x y ≡ between places rows x y) where
+    module _ (after : Places) (cut : List (List Best)) (last : IsLast places node) (len : after.count + 1 ≡ places.count) (gone : place_of after node ≡ None) (kept : (x : ℕ) → x ≢ node → place_of after x ≡ place_of places x) (same : (x y : ℕ) → x ≢ node → y ≢ node → between after cut x y ≡ between places rows x y) where
       abbrev cells : ℕ → ℕ → Best
       cells = between after cut
 
@@ -126,7 +125,7 @@ module _ (facts : List Difference) (value : ℕ → Option ℤ) (places : Places
       gone_to x None e = rw e refl
       gone_to x (Some p) e = rw (e, gone) refl
 
-      still_named : (p : ℕ) → p < hash_map_len after → HasPlace after p
+      still_named : (p : ℕ) → p < after.count → HasPlace after p
       still_named p h =
           let had = order.closure.named p (omega (arith, len)) in
           let apart : had.node ≢ node = λ e. absurd (
@@ -196,7 +195,7 @@ IsOrder-same facts values more places rows is_absurd same_values order =
     subst (λ value. IsOrder facts value places rows is_absurd) (sym same) order
 
 -- the same values, places and rows
-pub IsOrder-copied : (facts : List Difference) (values more : Values) (places copied : Places) (rows wider : List (List Best)) (is_absurd : Bool) → more.entries ≡ values.entries → copied.entries ≡ places.entries → wider ≡ rows → IsOrder facts (value_of values) places rows is_absurd → IsOrder facts (value_of more) copied wider is_absurd
+pub IsOrder-copied : (facts : List Difference) (values more : Values) (places copied : Places) (rows wider : List (List Best)) (is_absurd : Bool) → more.entries ≡ values.entries → copied ≡ places → wider ≡ rows → IsOrder facts (value_of values) places rows is_absurd → IsOrder facts (value_of more) copied wider is_absurd
 IsOrder-copied facts values more places copied rows wider is_absurd same_values same_places same_rows order =
     IsOrder-same facts values more copied wider is_absurd same_values
     (record {

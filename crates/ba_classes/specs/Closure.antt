@@ -3,7 +3,6 @@ use Rattle.std.specs.Prelude.{◌≡◌, ℕ, ℤ, pos, neg_ℤ, ◌≤ℤ◌, �
 use Rattle.ba_classes.specs.Best.{Reaches, or_nothing}
 use Rattle.ba_classes.specs.Chains.{Shows, IsAbsurd}
 use Rattle.ba_classes.specs.Grid.{Places, place_of, between}
-use Rattle.std.specs.HashMap.{hash_map_len}
 use Rattle.ba_classes.specs.declared.best.Best.{Best}
 use Rattle.ba_classes.specs.declared.best.Best.TheVariants.{Sum, Unbounded}
 use Rattle.ba_classes.specs.declared.order.Difference.{Difference}
@@ -37,6 +36,6 @@ pub record HasPlace (places : Places) (p : ℕ) : Type 0 where
 -- the cells and the flag say what follows from the facts, which are in range, and each place is a node's
 pub record IsClosure (facts : List Difference) (places : Places) (rows : List (List Best)) (is_absurd : Bool) : Type 0 where
   pub in_range : All (IsInRange (2 ^ 66)) facts
-  pub named : (p : ℕ) → p < hash_map_len places → HasPlace places p
+  pub named : (p : ℕ) → p < places.count → HasPlace places p
   pub exact : IsExact facts (between places rows)
   pub flag : IsTrue is_absurd ↔ IsAbsurd facts

@@ -1,17 +1,15 @@
 -- A square of cells whose rows and columns are places, and the places of the nodes that were named.
-use Rattle.std.specs.Prelude.{◌≡◌, ℕ, ◌+◌, ◌<◌, ◌≤◌, List, [], length, slice_index_or, nat_eq, Option, Some, None}
-use Rattle.std.specs.HashMap.{HashMap, get, hash_map_len}
-use Rattle.std.specs.declared.hash.FoldHasher.{FoldHasher}
-use Rattle.std.specs.declared.hash.BuildHasherDefault.{BuildHasherDefault}
+use Rattle.std.specs.Prelude.{◌≡◌, ℕ, ◌+◌, ◌<◌, ◌≤◌, List, [], length, slice_index_or, Option, Some, None}
 use Rattle.ba_classes.specs.declared.best.Best.{Best}
 use Rattle.ba_classes.specs.declared.best.Best.TheVariants.{Absent}
 
--- the places of the named nodes
-abbrev pub Places : Type 0
-Places = HashMap ℕ ℕ (BuildHasherDefault FoldHasher)
+-- the places of the named nodes, by the nodes' numbers, and how many there are
+pub record Places : Type 0 where
+  pub slots : List (Option ℕ)
+  pub count : ℕ
 
 abbrev pub place_of : Places → ℕ → Option ℕ
-place_of places node = get nat_eq places node
+place_of places node = slice_index_or places.slots node None
 
 -- the cell at two places; past the ends it is absent
 abbrev pub cell_at : List (List Best) → ℕ → ℕ → Best
@@ -30,7 +28,7 @@ between places rows x y = cell_between rows (place_of places x) (place_of places
 pub record IsLast (places : Places) (node : ℕ) : Type 0 where
   pub place : ℕ
   pub placed : place_of places node ≡ Some place
-  pub last : place + 1 ≡ hash_map_len places
+  pub last : place + 1 ≡ places.count
 
 -- no cell was changed
 abbrev pub SameCells : List (List Best) → List (List Best) → Type 0
@@ -51,7 +49,7 @@ NonePast side rows = (i j : ℕ) → side ≤ j → cell_at rows i j ≡ Absent
 -- the named nodes have different places, the first so many; there are rows for them, and other
 -- rows are empty. Cells past the last place may be left from nodes that gave theirs back
 pub record IsGrid (places : Places) (rows : List (List Best)) : Type 0 where
-  pub below : (x p : ℕ) → place_of places x ≡ Some p → p < hash_map_len places
+  pub below : (x p : ℕ) → place_of places x ≡ Some p → p < places.count
   pub apart : (x y p : ℕ) → place_of places x ≡ Some p → place_of places y ≡ Some p → x ≡ y
-  pub tall : hash_map_len places ≤ length rows
-  pub no_row : (i j : ℕ) → hash_map_len places ≤ i → cell_at rows i j ≡ Absent
+  pub tall : places.count ≤ length rows
+  pub no_row : (i j : ℕ) → places.count ≤ i → cell_at rows i j ≡ Absent

@@ -1,13 +1,12 @@
 ghost use Rattle.std.specs.Prelude.{◌≡◌, ◌≢◌, ℕ, ◌+◌, ◌^◌, ◌<◌, ◌≤◌, [], length, slice_index_or, slice_set, ℤ, pos, neg_ℤ, ◌≤ℤ◌, take, IsTrue, IfOk, IfSome, OnOk, OnErr, Some, None, nat_eq, ◌⊎◌};
-ghost use Rattle.std.specs.HashMap.{hash_map_len};
 ghost use Rattle.ba_classes.specs.Best.{IsWithin, Reaches, better, joined, or_nothing};
 ghost use Rattle.ba_classes.specs.Grid.{IsGrid, IsLast, NoneNew, NonePast, SameBelow, SameCells, between, cell_at, place_of};
 
 use super::best::Best;
 use super::row::Row;
+use super::seats::Seats;
 use ba_model::{Duplicate, Shared};
 use std::alloc::{AllocError, Global};
-use std::collections::HashMap;
 
 /// The best chains between the nodes that were named. A named node has a place, which is the number
 /// of its row and of its column.
@@ -15,7 +14,7 @@ use std::collections::HashMap;
 /// Copies share their rows: a row that changes is replaced by a changed copy of its own.
 #[derive(Drop)]
 pub struct Grid {
-    places: HashMap<u32, usize>,
+    places: Seats,
     /// The nodes by their places. It is tested where it is read.
     names: Vec<u32>,
     rows: Vec<Shared<Row>>,
@@ -24,11 +23,11 @@ pub struct Grid {
 
 impl Grid {
     pub fn new(alloc: Global) -> Grid
-        ensures unnamed { hash_map_len result.places ≡ 0 }
+        ensures unnamed { result.places.count ≡ 0 }
         ensures absent { (x y : ℕ) → between result.places result.rows.items x y ≡ Best.Absent }
     {
         Grid {
-            places: HashMap::new(alloc),
+            places: Seats::new(alloc),
             names: Vec::new(alloc),
             rows: Vec::new(alloc),
         }
@@ -39,14 +38,14 @@ impl Grid {
         ensures place { IfOk result (λ p. place_of self.new.places node ≡ Some p) }
         ensures kept { (x p : ℕ) →
             place_of self.old.places x ≡ Some p → place_of self.new.places x ≡ Some p }
-        ensures named { (p : ℕ) → p < hash_map_len self.new.places →
-            (p < hash_map_len self.old.places) ⊎ (place_of self.new.places node ≡ Some p) }
+        ensures named { (p : ℕ) → p < self.new.places.count →
+            (p < self.old.places.count) ⊎ (place_of self.new.places node ≡ Some p) }
         ensures same { (x y : ℕ) →
             between self.new.places self.new.rows.items x y
             ≡ between self.old.places self.old.rows.items x y }
     {
-        if let Some(place) = self.places.get(&node).copied() {
-            return Ok(place);
+        if let Some(place) = self.places.get(node) {
+            return Ok(place as usize);
         }
         let place = self.places.len();
         let alloc = *self.rows.allocator();
@@ -54,7 +53,7 @@ impl Grid {
         add_row(alloc, &mut self.rows, place)?;
         self.names.truncate(place);
         self.names.push(node)?;
-        self.places.insert(node, place)?;
+        self.places.add(node)?;
         Ok(place)
     }
 
@@ -66,19 +65,19 @@ impl Grid {
         if self.rows.is_empty() {
             return Best::Absent;
         }
-        match (self.places.get(&x), self.places.get(&y)) {
-            (Some(row), Some(column)) => self.at(*row, *column),
+        match (self.places.get(x), self.places.get(y)) {
+            (Some(row), Some(column)) => self.at(row as usize, column as usize),
             _ => Best::Absent,
         }
     }
 
     /// The best chains that go on from the node of a place, the empty one too.
     pub fn onward(&self, place: usize) -> Result<Row, AllocError>
-        requires { place < hash_map_len self.now.places }
-        ensures below { IfOk result (λ row. (j : ℕ) → j < hash_map_len self.now.places →
+        requires { place < self.now.places.count }
+        ensures below { IfOk result (λ row. (j : ℕ) → j < self.now.places.count →
             slice_index_or row j Best.Absent
             ≡ or_nothing (nat_eq place j) (cell_at self.now.rows.items place j)) }
-        ensures past { IfOk result (λ row. (j : ℕ) → hash_map_len self.now.places ≤ j →
+        ensures past { IfOk result (λ row. (j : ℕ) → self.now.places.count ≤ j →
             slice_index_or row j Best.Absent ≡ Best.Absent) }
     {
         self.rows[place].onward(*self.rows.allocator(), place, self.places.len())
@@ -87,7 +86,7 @@ impl Grid {
     /// The rows with the chains that come to the place `low`, go on by `by`, and go on from there
     /// by `onward`.
     pub fn raised(&self, low: usize, by: Best, onward: &Row) -> Result<Vec<Shared<Row>>, AllocError>
-        requires low { low < hash_map_len self.now.places }
+        requires low { low < self.now.places.count }
         requires comes { (i : ℕ) →
             IsWithin (2 ^ 98) (or_nothing (nat_eq i low) (cell_at self.now.rows.items i low)) }
         requires by { IsWithin (2 ^ 66) by }
@@ -129,8 +128,8 @@ impl Grid {
     fn is_last(&self, node: u32) -> bool
         ensures { IsTrue result → IsLast self.now.places node }
     {
-        match self.places.get(&node) {
-            Some(place) => *place + 1 == self.places.len(),
+        match self.places.get(node) {
+            Some(place) => place as usize + 1 == self.places.len(),
             None => false,
         }
     }
@@ -157,14 +156,14 @@ impl Grid {
     /// another node gets it.
     pub fn give_back(&mut self, node: u32)
         requires { IsLast self.old.places node }
-        ensures len { hash_map_len self.new.places + 1 ≡ hash_map_len self.old.places }
+        ensures len { self.new.places.count + 1 ≡ self.old.places.count }
         ensures gone { place_of self.new.places node ≡ None }
         ensures kept { (x : ℕ) → x ≢ node → place_of self.new.places x ≡ place_of self.old.places x }
         ensures same { (x y : ℕ) → x ≢ node → y ≢ node →
             between self.new.places self.new.rows.items x y
             ≡ between self.old.places self.old.rows.items x y }
     {
-        self.places.remove(&node);
+        self.places.remove(node);
         let side = self.places.len();
         self.names.truncate(side);
         self.rows.truncate(side);
@@ -172,11 +171,11 @@ impl Grid {
 
     /// The same nodes with the same places and chains. The rows are shared.
     pub fn copy(&self, alloc: Global) -> Result<Grid, AllocError>
-        ensures places { IfOk result (λ other. other.places.entries ≡ self.now.places.entries) }
+        ensures places { IfOk result (λ other. other.places ≡ self.now.places) }
         ensures rows { IfOk result (λ other. other.rows.items ≡ self.now.rows.items) }
     {
         Ok(Grid {
-            places: copy_places(&self.places)?,
+            places: self.places.copy(alloc)?,
             names: Vec::from_slice(alloc, &self.names)?,
             rows: copy_rows(alloc, &self.rows)?,
         })
@@ -190,12 +189,6 @@ impl Grid {
             None => Best::Absent,
         }
     }
-}
-
-fn copy_places(places: &HashMap<u32, usize>) -> Result<HashMap<u32, usize>, AllocError>
-    ensures { IfOk result (λ other. other.entries ≡ places.now.entries) }
-{
-    places.clone()
 }
 
 fn copy_rows(alloc: Global, rows: &[Shared<Row>]) -> Result<Vec<Shared<Row>>, AllocError>

@@ -13,6 +13,7 @@ pub mod image;
 pub mod laws;
 mod order;
 mod row;
+mod seats;
 mod tied;
 
 pub use classes::Classes;
