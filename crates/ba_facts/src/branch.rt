@@ -284,7 +284,7 @@ fn unknown_terms(alloc: Global, first: usize, count: usize) -> Result<List<Term>
     requires { first + count ≤ 2 ^ 32 }
     ensures { IfOk result (λ terms. terms ≡ map Term.Unknown (range_with_len first count)) }
 {
-    let mut terms = Vec::new(alloc);
+    let mut terms = Vec::with_capacity(alloc, count)?;
     for i in 0..count {
         terms.push(Term::Unknown((first + i) as u32))?;
     }

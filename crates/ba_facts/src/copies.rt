@@ -11,14 +11,24 @@ const ROOM: usize = 8;
 const FIRST_ROOM: usize = 16;
 
 /// Adds an element, and with the first one makes room for more. Without memory nothing changes.
+#[inline(always)]
 pub(crate) fn add_item<T: Drop>(items: &mut Vec<T>, item: T) -> Result<(), AllocError>
     ensures ok { OnOk result (items.new.items ≡ items.old.items ++ item ∷ []) }
     ensures err { OnErr result (items.new.items ≡ items.old.items) }
 {
+    make_first_room(items)?;
+    items.push(item)?;
+    Ok(())
+}
+
+/// Makes room for some elements where there are none yet. No element changes.
+#[inline(always)]
+pub(crate) fn make_first_room<T>(items: &mut Vec<T>) -> Result<(), AllocError>
+    ensures { items.new.items ≡ items.old.items }
+{
     if items.is_empty() {
         items.reserve(FIRST_ROOM)?;
     }
-    items.push(item)?;
     Ok(())
 }
 

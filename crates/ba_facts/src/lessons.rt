@@ -54,6 +54,7 @@ impl Lessons {
     }
 
     /// Adds what was learned. Without memory nothing changes.
+    #[inline(always)]
     pub(crate) fn add(&mut self, lesson: Shared<Lesson>) -> Result<(), AllocError>
         ensures ok { OnOk result (self.new ≡ self.old ++ lesson ∷ []) }
         ensures err { OnErr result (self.new ≡ self.old) }
@@ -82,6 +83,7 @@ impl Lessons {
 }
 
 /// Whether the lesson is an inequality.
+#[inline(always)]
 fn is_apart(lesson: &Lesson) -> bool
     ensures { IsTrue result ↔ IsApart lesson.now }
 {

@@ -6,6 +6,7 @@ use crate::groups::Groups;
 use crate::marks::Mark;
 
 /// The mark of the number's class.
+#[inline(always)]
 pub(crate) fn mark_of(classes: &Groups, marks: &Vec<Mark>, n: u32) -> Mark
     requires numbered { n < classes.now.terms }
     requires marked { n < length marks.now.items }
@@ -15,6 +16,7 @@ pub(crate) fn mark_of(classes: &Groups, marks: &Vec<Mark>, n: u32) -> Mark
 }
 
 /// Gives the number's class the mark.
+#[inline(always)]
 pub(crate) fn set_mark(classes: &Groups, marks: &mut Vec<Mark>, n: u32, mark: Mark)
     requires numbered { n < classes.now.terms }
     requires marked { n < length marks.old.items }
@@ -24,6 +26,7 @@ pub(crate) fn set_mark(classes: &Groups, marks: &mut Vec<Mark>, n: u32, mark: Ma
 }
 
 /// Marks the number's class as one with a term that isn't NULL.
+#[inline(always)]
 pub(crate) fn deny(classes: &Groups, marks: &mut Vec<Mark>, n: u32)
     requires numbered { n < classes.now.terms }
     requires marked { n < length marks.old.items }

@@ -7,7 +7,7 @@ ghost use Rattle.ba_facts.specs.declared.term.Term.TheVariants.{Unknown};
 ghost use Rattle.ba_model.specs.declared.value.Value.{Value};
 ghost use Rattle.std.specs.Option.{option_copied};
 
-use crate::copies::add_item;
+use crate::copies::{add_item, make_first_room};
 use crate::term::{Term, TermRef};
 use ba_model::{Duplicate, Same, Value};
 use std::alloc::{AllocError, Global};
@@ -72,6 +72,7 @@ impl Numbers {
         Ok(())
     }
 
+    #[inline(always)]
     fn find(&self, term: TermRef<'_>) -> Option<u32>
         ensures { result ≡ number_in self.now (seen term.entry) }
     {
@@ -84,6 +85,7 @@ impl Numbers {
     }
 
     // Gives the term this number. Without memory no number changes.
+    #[inline(always)]
     fn put(&mut self, alloc: Global, term: TermRef<'_>, number: u32) -> Result<(), AllocError>
         ensures here { OnOk result (number_in self.new (seen term.entry) ≡ Some number) }
         ensures apart { OnOk result ((t : Term) →
@@ -108,6 +110,7 @@ impl Numbers {
     }
 }
 
+#[inline(always)]
 fn number_at(numbers: &[Option<u32>], n: u32) -> Option<u32>
     ensures { result ≡ slice_index_or numbers.now n None }
 {
@@ -118,6 +121,7 @@ fn number_at(numbers: &[Option<u32>], n: u32) -> Option<u32>
 }
 
 // Puts the number at a place. Without memory no number changes.
+#[inline(always)]
 fn set_number(numbers: &mut Vec<Option<u32>>, n: u32, number: u32) -> Result<(), AllocError>
     ensures here { OnOk result (slice_index_or numbers.new.items n None ≡ Some number) }
     ensures apart { OnOk result ((m : ℕ) →
@@ -126,6 +130,7 @@ fn set_number(numbers: &mut Vec<Option<u32>>, n: u32, number: u32) -> Result<(),
 {
     let place = n as usize;
     if numbers.len() <= place {
+        make_first_room(numbers)?;
         numbers.resize(place + 1, None)?;
     }
     numbers[place] = Some(number);
@@ -169,6 +174,7 @@ impl Names {
     }
 
     /// The number of a term, if it has one.
+    #[inline(always)]
     pub(crate) fn find(&self, term: TermRef<'_>) -> Option<u32>
         ensures { (n : ℕ) → (result ≡ Some n) ↔ (slice_get self.now n ≡ Some (seen term.entry)) }
     {
@@ -176,6 +182,7 @@ impl Names {
     }
 
     /// The value of a number's term, if it is a literal.
+    #[inline(always)]
     pub(crate) fn value(&self, n: u32) -> Option<&Value>
         requires { n < length self.now }
         ensures { (v : Value) → slice_get self.now n ≡ Some (Term.Val v) →
@@ -188,6 +195,7 @@ impl Names {
     }
 
     /// The unknown that the number's term is, if it is one.
+    #[inline(always)]
     pub(crate) fn unknown(&self, n: u32) -> Option<u32>
         requires { n < length self.now }
         ensures { (u : ℕ) → (result ≡ Some u) ↔ (slice_get self.now n ≡ Some (Unknown u)) }
@@ -199,6 +207,7 @@ impl Names {
     }
 
     /// Adds a term that has no number. Without memory nothing changes.
+    #[inline(always)]
     pub(crate) fn add(&mut self, term: TermRef<'_>) -> Result<(), AllocError>
         requires new { (n : ℕ) → slice_get self.old n ≢ Some (seen term) }
         requires few { length self.old < 2 ^ 32 }

@@ -5,6 +5,7 @@ ghost use Rattle.std.specs.Prelude.{◌≡◌, ◌+◌, ◌≤◌, ◌^◌, IfEr
 use std::alloc::AllocError;
 
 /// The number in 32 bits.
+#[inline(always)]
 pub fn number_of(number: usize) -> Result<u32, AllocError>
     ensures value { IfOk result (λ it. it ≡ number) }
     ensures past { IfErr result (λ _. 2 ^ 32 ≤ number) }
@@ -16,6 +17,7 @@ pub fn number_of(number: usize) -> Result<u32, AllocError>
 }
 
 /// The number that is so many after the first one, in 32 bits.
+#[inline(always)]
 pub fn number_after(first: usize, count: usize) -> Result<u32, AllocError>
     ensures value { IfOk result (λ it. it ≡ first + count) }
     ensures past { IfErr result (λ _. 2 ^ 32 ≤ first + count) }

@@ -34,6 +34,7 @@ pub enum TermRef<'a> {
 
 impl Term {
     /// The term without a copy of its value.
+    #[inline(always)]
     pub fn by_ref(&self) -> TermRef<'_>
         ensures { seen result ≡ self.now }
     {

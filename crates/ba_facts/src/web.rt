@@ -45,6 +45,7 @@ pub(crate) struct Web {
 
 /// The number of the term that comes after so many: the order has a node for each, and one more. It
 /// takes no memory: exactly a number without such a node is told as want of memory.
+#[inline(always)]
 fn next_number(count: usize) -> Result<u32, AllocError>
     ensures value { IfOk result (λ n. (n ≡ count) × (1 + count < 2 ^ 32)) }
     ensures past { IfErr result (λ _. 2 ^ 32 ≤ 1 + count) }
@@ -132,6 +133,7 @@ impl Web {
     }
 
     /// Makes the two terms one class. Without memory nothing changes.
+    #[inline(always)]
     pub(crate) fn join(&mut self, alloc: Global, x: u32, y: u32) -> Result<(), AllocError>
         requires some { IsSomeWeb self.old }
         requires left { x < length self.old.names }
@@ -154,6 +156,7 @@ impl Web {
     }
 
     /// Marks the classes of two terms that aren't NULL.
+    #[inline(always)]
     pub(crate) fn deny(&mut self, x: u32, y: u32)
         requires some { IsSomeWeb self.old }
         requires left { x < length self.old.names }
@@ -216,6 +219,7 @@ impl Web {
     }
 
     // Makes two terms one class that may have no numbers yet. Without memory what is known stays.
+    #[inline(always)]
     fn unite(
         &mut self,
         alloc: Global,
@@ -357,6 +361,7 @@ impl Web {
     }
 
     /// Whether the two terms are of one class.
+    #[inline(always)]
     pub(crate) fn one_class(&self, a: TermRef<'_>, b: TermRef<'_>) -> bool
         requires { IsSomeWeb self.now }
         ensures { (k : Known) →
@@ -368,6 +373,7 @@ impl Web {
         }
     }
 
+    #[inline(always)]
     fn has_class(&self, x: u32, b: TermRef<'_>) -> bool
         requires some { IsSomeWeb self.now }
         requires numbered { x < length self.now.names }
@@ -417,6 +423,7 @@ impl Web {
     }
 
     /// Whether the two terms are the same: of one class, or each shown to be at most the other.
+    #[inline(always)]
     pub(crate) fn same(&self, a: TermRef<'_>, b: TermRef<'_>) -> bool
         requires { IsSomeWeb self.now }
         ensures { (k : Known) →
@@ -443,6 +450,7 @@ impl Web {
     }
 
     // The mark of the term's class, if the term has a number.
+    #[inline(always)]
     fn class_mark(&self, a: TermRef<'_>) -> Option<Mark>
         requires { IsSomeWeb self.now }
         ensures { MatchOption result ((n : ℕ) → slice_get self.now.names n ≢ Some (seen a.entry))
@@ -456,6 +464,7 @@ impl Web {
     }
 
     /// Whether the term's class has one that isn't NULL.
+    #[inline(always)]
     pub(crate) fn not_null(&self, unknowns: &[Sort], a: TermRef<'_>) -> bool
         requires { IsSomeWeb self.now }
         ensures { (k : Known) → k.unknowns ≡ unknowns.now →
@@ -592,6 +601,7 @@ impl Web {
         }
     }
 
+    #[inline(always)]
     fn place_of(&self, a: TermRef<'_>) -> Option<Place>
         requires { IsSomeWeb self.now }
         ensures { (p : Place) → (result ≡ Some p)
