@@ -62,6 +62,7 @@ pub fn cases_of(
 }
 
 /// Whether the step leaves no case of any branch.
+#[inline(always)]
 pub fn closes(step: &Step) -> bool
     ensures { (p : Problem) (b : Branch) →
         IsTrue result → Passes p b step.now → Leads p b step.now [] }

@@ -3,10 +3,11 @@ ghost use Rattle.std.specs.Prelude.{◌≡◌, ◌<◌, IfOk, Some, length, slic
 ghost use Rattle.std.specs.Option.{option_copied};
 
 use ba_facts::{Branch, Fact};
-use ba_model::Duplicate;
+use ba_model::{Duplicate, Shared};
 use std::alloc::{AllocError, Global};
 
 /// The fact of the number, which is there.
+#[inline(always)]
 pub fn fact_at(branch: &Branch, number: usize) -> &Fact
     requires { number < length branch.now.facts }
     ensures { slice_get branch.now.facts number ≡ Some result.now }
@@ -15,6 +16,7 @@ pub fn fact_at(branch: &Branch, number: usize) -> &Fact
 }
 
 /// The fact of the number, if it is there.
+#[inline(always)]
 pub fn find_fact(branch: &Branch, number: usize) -> Option<&Fact>
     ensures { option_copied result ≡ slice_get branch.now.facts number }
 {
@@ -24,10 +26,15 @@ pub fn find_fact(branch: &Branch, number: usize) -> Option<&Fact>
     }
 }
 
-/// A copy of the fact of the number, which is there.
-pub fn copy_fact(alloc: Global, branch: &Branch, number: usize) -> Result<Fact, AllocError>
+/// The fact of the number, which is there, held in common with the branch.
+#[inline(always)]
+pub fn shared_fact(
+    alloc: Global,
+    branch: &Branch,
+    number: usize,
+) -> Result<Shared<Fact>, AllocError>
     requires { number < length branch.now.facts }
     ensures { IfOk result (λ fact. slice_get branch.now.facts number ≡ Some fact) }
 {
-    fact_at(branch, number).copy(alloc)
+    branch.facts.get(number).copy(alloc)
 }

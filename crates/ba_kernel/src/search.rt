@@ -271,6 +271,7 @@ impl Search {
     }
 
     /// The branch of a number, if it is open.
+    #[inline(always)]
     pub fn branch(&self, number: u32) -> Option<&Branch>
         ensures { option_copied result ≡ open_at self.now.slots number }
     {
@@ -345,6 +346,7 @@ impl Search {
 }
 
 // Takes the branch of the number away, which is open no more.
+#[inline(always)]
 fn take_branch(slots: &mut Vec<Option<Owned<Branch>>>, number: usize) -> Option<Owned<Branch>>
     requires { number < length slots.old.items }
     ensures branch { result ≡ open_at slots.old.items number }
@@ -354,6 +356,7 @@ fn take_branch(slots: &mut Vec<Option<Owned<Branch>>>, number: usize) -> Option<
 }
 
 // The cases that a step leads to on the branch, where it passes its tests.
+#[inline(always)]
 fn cases_on(
     alloc: Global,
     problem: &Problem,
@@ -372,6 +375,7 @@ fn cases_on(
 }
 
 // The first case, and the others as open branches.
+#[inline(always)]
 fn first_and_others(
     alloc: Global,
     cases: Vec<Owned<Branch>>,

@@ -78,6 +78,7 @@ pub enum StepFault {
 
 impl Step {
     /// The number of the branch that it is on.
+    #[inline(always)]
     pub fn branch(&self) -> u32
         ensures { result ≡ branch_of self.now }
     {

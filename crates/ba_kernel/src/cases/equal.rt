@@ -8,7 +8,7 @@ ghost use Rattle.ba_kernel.specs.SearchStates.{IsTidy};
 ghost use Rattle.ba_kernel.specs.Tidy.{HasColumns, Learns, TermsAreThere};
 
 use crate::cases::rounds::round_after;
-use crate::fact::{copy_fact, fact_at};
+use crate::fact::shared_fact;
 use crate::problem::Problem;
 use ba_facts::{Branch, Term, TermAtom};
 use ba_model::{Duplicate, Op, Owned};
@@ -27,8 +27,8 @@ pub fn key_cases(
     requires passes { KeyPasses problem.now.policy.schema branch key left right }
     ensures { IfOk result (λ cases. KeyLeads problem.now branch key left right cases.items) }
 {
-    let f = copy_fact(alloc, &branch, left as usize)?;
-    let g = copy_fact(alloc, &branch, right as usize)?;
+    let f = shared_fact(alloc, &branch, left as usize)?;
+    let g = shared_fact(alloc, &branch, right as usize)?;
     let terms = f.terms.as_slice();
     let others = g.terms.as_slice();
     let mut new = branch;
@@ -90,16 +90,17 @@ fn add_target(
     ensures { OnOk result (LinkLeads problem.now new.old link fact (new.new ∷ [])) }
 {
     let count = new.facts.len();
-    let f = copy_fact(alloc, new, fact as usize)?;
+    let held = shared_fact(alloc, new, fact as usize)?;
+    let f = &*held;
     let table = problem.table_at(f.table);
     let it = table.links.get(link as usize);
     let target = problem.columns(it.target);
     let round = round_after(f.round)?;
     new.add_fact(alloc, f.side, it.target, target, round)?;
-    let added = fact_at(new, count);
-    let terms = added.terms.copy(alloc)?;
+    let other = shared_fact(alloc, new, count)?;
+    let added = &*other;
     let left = f.terms.as_slice();
-    let right = terms.as_slice();
+    let right = added.terms.as_slice();
     let columns = it.columns.as_slice();
     let others = it.target_columns.as_slice();
     equate_columns(alloc, new, left, right, columns, others)?;

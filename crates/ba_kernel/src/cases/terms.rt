@@ -10,6 +10,7 @@ use ba_model::{Duplicate, Operand};
 use std::alloc::{AllocError, Global};
 
 /// A copy of the term.
+#[inline(always)]
 fn copy_seen(alloc: Global, term: TermRef<'_>) -> Result<Term, AllocError>
     ensures { IfOk result (λ it. it ≡ seen term.entry) }
 {
@@ -22,6 +23,7 @@ fn copy_seen(alloc: Global, term: TermRef<'_>) -> Result<Term, AllocError>
 }
 
 /// The term that the operand, which has one, stands for under these facts.
+#[inline(always)]
 pub fn operand_term(
     alloc: Global,
     branch: &Branch,
