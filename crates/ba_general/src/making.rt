@@ -27,7 +27,7 @@ pub fn list_made(
     ensures { IfOk result (λ it. it.items ≡ made problem.now steps.now) }
 {
     let mut layout = Layout::start(alloc, problem)?;
-    let mut all = Vec::new(alloc);
+    let mut all = Vec::with_capacity(alloc, steps.len())?;
     for n in 0..steps.len() {
         all.push(next_made(alloc, problem, &mut layout, steps.get(n))?)?;
     }

@@ -48,7 +48,7 @@ fn front(alloc: Global, steps: &List<Step>, count: usize) -> Result<List<Step>, 
     requires { count ≤ length steps.now }
     ensures { IfOk result (λ it. it ≡ take count steps.now) }
 {
-    let mut all = List::new(alloc);
+    let mut all = List::from_vec(Vec::with_capacity(alloc, steps.len())?);
     for step in &steps.as_slice()[..count] {
         all.push(step.copy(alloc)?)?;
     }
