@@ -6,6 +6,7 @@ mod found;
 mod kept;
 mod part;
 mod place;
+mod plain;
 mod plan;
 mod steps;
 mod tie;
@@ -20,6 +21,7 @@ ghost use Rattle.ba_eval.specs.Visits.{StepsWithin};
 use crate::found::Found;
 use crate::part::Search;
 use crate::place::places_of;
+use crate::plain::{are_few, plain_rows};
 use crate::turn::turned;
 use ba_index::{Indexed, Order};
 use ba_model::{Context, List, Query, Row, RowSet};
@@ -39,6 +41,10 @@ pub fn answer(
 ) -> Result<List<Row>, AllocError>
     ensures { IfOk result (λ list. IsAnswer query.now ctx.now rows.now list) }
 {
+    if are_few(rows, query) {
+        let found = plain_rows(alloc, rows, ctx, query)?;
+        return Ok(found.in_order());
+    }
     answer_with::<Brand>(alloc, rows, ctx, query, Blank::new(1))
 }
 

@@ -59,6 +59,34 @@ impl<'a> Search<'a> {
         }
     }
 
+    /// Adds the rows that the part gives from the chosen rows and one row of each further table. Each choice of rows is tried,
+    /// with no index.
+    pub fn gather_plainly(
+        &self,
+        alloc: Global,
+        from: &[u32],
+        chosen: &mut Vec<&'a Row>,
+        found: &mut Found,
+    ) -> Result<(), AllocError>
+        ensures chosen { OnOk result (chosen.new.items ≡ chosen.old.items) }
+        ensures found { OnOk result (Adds (GivesFrom self.now.ctx.now self.now.rows.now self.now.part.now from.now (map (λ row. row.now) chosen.old.items)) found.old found.new) }
+    {
+        match from.split_first() {
+            None => self.add_row(alloc, chosen, found),
+            Some((table, rest)) => {
+                if self.fails(chosen) {
+                    return Ok(());
+                }
+                for next in rows_of_table(self.rows, *table) {
+                    chosen.push(next)?;
+                    self.gather_plainly(alloc, rest, chosen, found)?;
+                    chosen.pop();
+                }
+                Ok(())
+            }
+        }
+    }
+
     /// Whether the part gives the row from the chosen rows and one row of each further table.
     pub fn finds(
         &self,
