@@ -212,6 +212,9 @@ fn break_over_pairs(
     ensures { IfOk result (λ found. found
         ≡ position_from (dangles link.now (rows_of rows.now link.now.target)) 1 (rows_of rows.now table)) }
 {
+    if link.columns.len() < 2 {
+        return link_break(alloc, table, rows, orders, link);
+    }
     let once = with_pairs_once(alloc, link)?;
     link_break(alloc, table, rows, orders, &once)
 }
