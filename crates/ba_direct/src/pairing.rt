@@ -87,19 +87,6 @@ fn may_pair(view: &Part, part: &Part, to: &[usize], place: usize) -> bool
     table(view.from.as_slice(), to.len()) == table(part.from.as_slice(), place)
 }
 
-/// Whether some place may be paired with the view's next table.
-fn has_next(view: &Part, part: &Part, to: &[usize]) -> bool
-    requires { length to.now ≡ length (part.now).from → ⊥ }
-    ensures { OnFalse result ((ctx : _) → NoneFrom ctx view.now part.now to.now) }
-{
-    for place in 0..part.from.len() {
-        if may_pair(view, part, to, place) {
-            return true;
-        }
-    }
-    false
-}
-
 /// Whether the pairing may go on: by the tables that are paired each atom of the view has its image, and what the query has of
 /// them is known.
 fn may_go_on(ctx: &Context, view: &Part, part: &Part, to: &[usize]) -> bool
@@ -125,9 +112,6 @@ pub fn pair(
     let places = part.from.len();
     if to.len() == places {
         return Ok(covers_by(ctx, view, part, to));
-    }
-    if !has_next(view, part, to) {
-        return Ok(false);
     }
     if !may_go_on(ctx, view, part, to) {
         return Ok(false);

@@ -10,9 +10,6 @@ returns-then-len-places-clause-found t c =
     on_true c.covers_by.result _
     (λ yes. first_here _ _ _ _ (subst (CoversBy c.args.ctx.now c.args.view.now c.args.part.now) c.deref.ensures.value (c.covers_by.ensures.0 yes)))
 
-pub has_next-requires : goal.has_next-requires
-has_next-requires t c = λ e. c.if-len-places.false (grind (arith, common_steps, e))
-
 pub returns-then-branch-clause-found : goal.returns-then-branch-clause-found
 returns-then-branch-clause-found t c =
     first_further _ _ _ _ c.loop-place.to.items c.push.new.self.items _ c.loop-place.place (λ e. c.if-len-places.false (grind (arith, common_steps, e))) c.loop-place.invariant.tried c.loop-place.invariant.kept c.in_ok-push.ensures.items (from_true _ _ c.if-branch.true c.in_ok-pair.ensures.found)
