@@ -38,7 +38,7 @@ pub(crate) fn row_of(
     requires { All (IsValued (length values.now) ctx.now) terms.now }
     ensures { IfOk result (IsRowAt ctx.now values.now terms.now) }
 {
-    let mut row = Vec::new(alloc);
+    let mut row = Vec::with_capacity(alloc, terms.len())?;
     for term in terms {
         row.push(value_of(alloc, ctx, values, term)?)?;
     }
@@ -92,7 +92,7 @@ pub(crate) fn side_of(
     requires { All (FactIsValued (length values.now) ctx.now) facts.now }
     ensures { IfOk result (AreSideRows ctx.now values.now facts.now tables side) }
 {
-    let mut all = Vec::new(alloc);
+    let mut all = Vec::with_capacity(alloc, tables)?;
     for table in 0..tables {
         let rows = fact_rows(alloc, ctx, values, facts, side, table)?;
         all.push(List::from_vec(rows))?;

@@ -44,7 +44,7 @@ fn is_node(known: &Knowledge, n: u32) -> bool
     requires { n < length known.now.unknowns }
     ensures { IsTrue result ↔ IsNode known.now n }
 {
-    is_least(known, n) && is_free(known, Kind::Int, n)
+    is_free(known, Kind::Int, n) && is_least(known, n)
 }
 
 /// The least unknowns of the classes of whole numbers that are valued, in rising order.

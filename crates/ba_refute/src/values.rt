@@ -95,7 +95,7 @@ fn all_values(
         → IsValueOf known.now all nodes.now numbers.now n v) }
 {
     let count = number_of(known.unknowns().len())?;
-    let mut values = Vec::new(alloc);
+    let mut values = Vec::with_capacity(alloc, count as usize)?;
     for n in 0..count {
         let least = known.least_of(n);
         values.push(class_value(alloc, known, marks, nodes, numbers, least)?)?;

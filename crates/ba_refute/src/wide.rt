@@ -113,7 +113,7 @@ fn narrow_number(number: i128) -> Option<Value>
 pub(crate) fn narrow_row(alloc: Global, values: &[WideValue]) -> Result<Option<Row>, AllocError>
     ensures { IfOk result (Narrows (All IsStored) values.now) }
 {
-    let mut row = Vec::new(alloc);
+    let mut row = Vec::with_capacity(alloc, values.len())?;
     for value in values {
         let narrow = value.narrow(alloc)?;
         match narrow {
@@ -128,7 +128,7 @@ pub(crate) fn narrow_row(alloc: Global, values: &[WideValue]) -> Result<Option<R
 pub(crate) fn narrow_rows(alloc: Global, rows: &[WideRow]) -> Result<Option<List<Row>>, AllocError>
     ensures { IfOk result (Narrows (All (All IsStored)) rows.now) }
 {
-    let mut all = Vec::new(alloc);
+    let mut all = Vec::with_capacity(alloc, rows.len())?;
     for row in rows {
         let narrow = narrow_row(alloc, row.as_slice())?;
         match narrow {
@@ -146,7 +146,7 @@ pub(crate) fn narrow_tables(
 ) -> Result<Option<List<List<Row>>>, AllocError>
     ensures { IfOk result (Narrows (All (All (All IsStored))) tables.now) }
 {
-    let mut all = Vec::new(alloc);
+    let mut all = Vec::with_capacity(alloc, tables.len())?;
     for rows in tables {
         let narrow = narrow_rows(alloc, rows.as_slice())?;
         match narrow {
