@@ -1,4 +1,5 @@
 pub mod AnswerLemmas
+pub mod BriefLemmas
 pub mod RowLemmas
 pub mod ToldLemmas
 pub mod ReadLemmas

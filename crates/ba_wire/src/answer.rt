@@ -12,7 +12,7 @@ use json::Writer;
 use std::alloc::{AllocError, Global};
 
 /// Writes a member that is a text.
-fn push_text_member(out: &mut Writer, name: &str, text: &str) -> Result<(), AllocError>
+pub(crate) fn push_text_member(out: &mut Writer, name: &str, text: &str) -> Result<(), AllocError>
     ensures { OnOk result (Puts (key name.now ∷ string text.now ∷ []) out.old out.new) }
 {
     out.key(name)?;
@@ -20,7 +20,7 @@ fn push_text_member(out: &mut Writer, name: &str, text: &str) -> Result<(), Allo
 }
 
 /// Writes a member that is a count.
-fn push_count_member(out: &mut Writer, name: &str, count: u64) -> Result<(), AllocError>
+pub(crate) fn push_count_member(out: &mut Writer, name: &str, count: u64) -> Result<(), AllocError>
     ensures { OnOk result (Puts (key name.now ∷ number (decimal count) ∷ []) out.old out.new) }
 {
     out.key(name)?;
@@ -70,7 +70,7 @@ pub fn row_text(alloc: Global, row: &Row) -> Result<String, AllocError>
 }
 
 /// The text that was written, with a line feed.
-fn line_of(out: Writer) -> Result<String, AllocError>
+pub(crate) fn line_of(out: Writer) -> Result<String, AllocError>
     requires { out.before ≡ [] }
     ensures text { IfOk result (λ s. string_bytes s ≡ print out.tokens ++ 10 ∷ []) }
     ensures reads { tokens (print out.tokens) ≡ out.tokens }

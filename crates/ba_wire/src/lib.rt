@@ -3,6 +3,7 @@
 
 mod answer;
 mod audit;
+mod brief;
 mod fault;
 pub mod laws;
 mod line;

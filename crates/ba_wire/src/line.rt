@@ -6,6 +6,7 @@ ghost use Rattle.ba_wire.specs.Object.{made};
 ghost use Rattle.ba_wire.specs.Printed.{ReadsBack, by_name, block_name, clause_name, unsupported_in, begin, end, publish, block, read_block, unread, memory, printed, json_of, line_bytes};
 
 use crate::answer::answer_text;
+use crate::brief::{begin_text, end_text, refuted_text};
 use crate::names::fault_name;
 use crate::object::Object;
 use crate::reads::read_text;
@@ -150,23 +151,6 @@ pub(crate) fn unsupported_in(fault: &ReadQueryFault) -> Option<&Str>
     }
 }
 
-fn begin_object(alloc: Global, request: &Str, line: u64, version: u32) -> Result<Object, AllocError>
-    ensures { IfOk result (λ it. made it ≡ json_of (begin request.now line version)) }
-{
-    Object::new(alloc)
-        .with_text("begin", request.as_str())?
-        .with_count("line", line)?
-        .with_count("version", version as u64)
-}
-
-fn end_object(alloc: Global, request: &Str, line: u64) -> Result<Object, AllocError>
-    ensures { IfOk result (λ it. made it ≡ json_of (end request.now line)) }
-{
-    Object::new(alloc)
-        .with_text("end", request.as_str())?
-        .with_count("line", line)
-}
-
 fn publish_object(alloc: Global, line: u64, set: &Str, version: u32) -> Result<Object, AllocError>
     ensures { IfOk result (λ it. made it ≡ json_of (publish line set.now version)) }
 {
@@ -201,6 +185,25 @@ fn block_object(
             .with_count("line", line)?
             .with_text("request", request.as_str())?
             .with_count("version", version as u64),
+    }
+}
+
+/// The line of a blocked question.
+fn block_text(
+    alloc: Global,
+    blocked: Block,
+    line: u64,
+    request: &Str,
+    version: u32,
+) -> Result<String, AllocError>
+    ensures text { IfOk result (λ s. string_bytes s
+        ≡ line_bytes (block blocked line request.now version)) }
+    ensures reads_back { IfOk result (λ s.
+        ReadsBack (string_bytes s) (json_of (block blocked line request.now version))) }
+{
+    match blocked {
+        Block::Refuted => refuted_text(alloc, line, request, version),
+        _ => block_object(alloc, blocked, line, request, version)?.line(),
     }
 }
 
@@ -280,8 +283,8 @@ pub fn line_text(alloc: Global, line: &Line) -> Result<String, AllocError>
             begin,
             line,
             version,
-        } => begin_object(alloc, begin, *line, *version)?.line(),
-        Line::End { end, line } => end_object(alloc, end, *line)?.line(),
+        } => begin_text(alloc, begin, *line, *version),
+        Line::End { end, line } => end_text(alloc, end, *line),
         Line::Publish {
             line,
             publish,
@@ -299,7 +302,7 @@ pub fn line_text(alloc: Global, line: &Line) -> Result<String, AllocError>
             line,
             request,
             version,
-        } => block_object(alloc, *blocked, *line, request, *version)?.line(),
+        } => block_text(alloc, *blocked, *line, request, *version),
         Line::Read {
             by,
             key,
