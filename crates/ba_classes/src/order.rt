@@ -21,11 +21,13 @@ pub struct Difference {
 
 /// Facts about the differences of whole numbers, and what follows from them by addition.
 ///
-/// A node is named by its number and needs no making; node 0 stands for the number 0. A contract
-/// sees the list of the facts, the oldest first. Beside it the best sum of the chains between any
-/// two named nodes is kept, so that a question is a look-up; a fact that is added extends them in
-/// the square of the number of nodes. A node whose value the facts show leaves them as soon as those
-/// named after it have: what is asked or said of it then is asked or said of node 0.
+/// A node is named by its number and needs no making; node 0 stands for the number 0. Nodes are best
+/// numbered in turn: the greatest one of the facts takes eight bytes for each number up to its own.
+/// A contract sees the list of the facts, the oldest first. Beside it the best sum of the chains
+/// between any two named nodes is kept, so that a question is a look-up; a fact that is added
+/// extends them in the square of the number of nodes. A node whose value the facts show leaves them
+/// as soon as those named after it have: what is asked or said of it then is asked or said of node
+/// 0.
 #[derive(Drop)]
 pub struct Order {
     facts: Vec<Difference>,
