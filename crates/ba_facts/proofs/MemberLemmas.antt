@@ -11,6 +11,7 @@ use Rattle.ba_model.proofs.ElementLemmas.{Contains-nil}
 use Rattle.ba_classes.specs.Merged.{Connected, IsLabel, Merged, itself}
 use Rattle.ba_classes.specs.declared.order.Difference.{Difference}
 use Rattle.ba_facts.specs.Known.{Known, OneClass, itself}
+use Rattle.ba_facts.specs.Knowing.{IsLeastOf}
 use Rattle.ba_facts.specs.Members.{AreMembers, AreMembersBelow, IsMemberBelow, IsOnlyClass}
 use Rattle.ba_facts.specs.Webs.{AreConnected, IsTerms, IsWhole, PlaceOf}
 use Rattle.ba_facts.specs.declared.marks.Mark.{Mark}
@@ -92,6 +93,18 @@ module _ {k : Known} {terms : List Term} {classes : Merged} {marks : List Mark} 
 
   pub members_alone : (a : Term) (members : List ℕ) → ((n : ℕ) → slice_get terms n ≢ Some a) → ((u : ℕ) → Contains members u ↔ (a ≡ Unknown u)) → AreMembers k a members
   members_alone a members never h = λ u. (λ c. subst (OneClass k a) ((h u).0 c) itself, λ o. (h u).1 (only_alone w a never (Unknown u) o))
+
+  pub least_alone : (u : ℕ) → ((n : ℕ) → slice_get terms n ≢ Some (Unknown u)) → IsLeastOf k u u
+  least_alone u never = record {
+    one_class = itself;
+    none_less = λ m less one. (
+        let same : u ≡ m = inside u m (only_alone w (Unknown u) never (Unknown m) one) in
+        omega (arith, less, same)
+        );
+  }
+    where
+      inside : (u m : ℕ) → Unknown u ≡ Unknown m → u ≡ m
+      inside u m e = cc
 
 pub none_there : {X : Type 0} (o : Option X) (none : Bool) (x : X) → is_some o ≡ not none → IsTrue none → o ≡ Some x → ⊥
 none_there o none x exact empty there = false≢true (sym (ap not empty) ∙ sym exact ∙ ap is_some there)

@@ -172,12 +172,7 @@ impl Knowledge {
     pub fn least_of(&self, unknown: u32) -> u32
         ensures { IsLeastOf self.now unknown result }
     {
-        for number in 0..unknown {
-            if self.one_class(TermRef::Unknown(unknown), TermRef::Unknown(number)) {
-                return number;
-            }
-        }
-        unknown
+        self.web.least_of(unknown)
     }
 
     /// The greatest number by which the one term is shown to be less than the other, if any is

@@ -5,7 +5,7 @@ ghost use Rattle.ba_classes.specs.Chains.{IsAbsurd};
 ghost use Rattle.ba_classes.specs.Image.{IsGreatest};
 ghost use Rattle.ba_classes.specs.Merged.{IsLabel};
 ghost use Rattle.ba_facts.specs.Known.{Known, DifferentLiterals, OneClass, ShownGap, ShownNotNull, seen};
-ghost use Rattle.ba_facts.specs.Knowing.{IsBound, IsClashing, IsLiteralIn, IsRising, IsThere, LessonIsThere};
+ghost use Rattle.ba_facts.specs.Knowing.{IsBound, IsClashing, IsLeastOf, IsLiteralIn, IsRising, IsThere, LessonIsThere};
 ghost use Rattle.ba_facts.specs.Marks.{AreLiterals};
 ghost use Rattle.ba_facts.specs.Members.{AreMembers, AreMembersBelow, IsOnlyClass};
 ghost use Rattle.ba_facts.specs.Shown.{TheSame};
@@ -384,6 +384,31 @@ impl Web {
             Some(y) => self.classes.same(x, y),
             None => false,
         }
+    }
+
+    /// The least unknown that is of one class with this one, by its number.
+    pub(crate) fn least_of(&self, unknown: u32) -> u32
+        requires { IsSomeWeb self.now }
+        ensures { (k : Known) → IsWeb k self.now → IsLeastOf k unknown result }
+    {
+        match self.names.find(TermRef::Unknown(unknown)) {
+            Some(x) => self.least_in(x, unknown),
+            None => unknown,
+        }
+    }
+
+    // The least of the unknowns below this one that are of the number's class, or else this one.
+    fn least_in(&self, x: u32, unknown: u32) -> u32
+        requires some { IsSomeWeb self.now }
+        requires numbered { slice_get self.now.names x ≡ Some (Unknown unknown) }
+        ensures { (k : Known) → IsWeb k self.now → IsLeastOf k unknown result }
+    {
+        for number in 0..unknown {
+            if self.has_class(x, TermRef::Unknown(number)) {
+                return number;
+            }
+        }
+        unknown
     }
 
     /// The unknowns of the term's class, by number.
