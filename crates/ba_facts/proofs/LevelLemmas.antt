@@ -1,14 +1,16 @@
 -- Two terms are the same where they are of one class, or their places are shown to be one.
-use Rattle.std.proofs.Common.{◌≡◌, ◌∙◌, List, Bool, IsTrue, false, pos, inl, inr, sym, subst, ◌↔◌}
+use Rattle.std.proofs.Common.{◌≡◌, ◌∙◌, ℕ, List, Bool, IsTrue, false, pos, inl, inr, refl, sym, subst, ◌↔◌, Some, None}
 use Rattle.std.proofs.lemmas.Bool.{false≢true}
+use Rattle.std.proofs.lemmas.Option.{none-some}
 use Rattle.ba_classes.specs.Merged.{Merged}
 use Rattle.ba_classes.specs.declared.order.Difference.{Difference}
 use Rattle.ba_facts.specs.Known.{Known, OneClass, turned}
 use Rattle.ba_facts.specs.Shown.{TheSame}
-use Rattle.ba_facts.specs.Webs.{AnyRise, IsLevel, IsWhole, RisesBy}
+use Rattle.ba_facts.specs.Webs.{AnyRise, IsLevel, IsWhole, PlaceOf, RisesBy}
 use Rattle.ba_facts.specs.declared.marks.Mark.{Mark}
 use Rattle.ba_facts.specs.declared.marks.Place.{Place}
 use Rattle.ba_facts.specs.declared.term.Term.{Term}
+use Rattle.ba_facts.proofs.MemberLemmas.{unplaced_only}
 use Rattle.ba_facts.proofs.OrderLemmas.{same_place}
 use Rattle.ba_facts.proofs.QueryLemmas.{gap_shown}
 
@@ -53,3 +55,30 @@ module _ {k : Known} {terms : List Term} {classes : Merged} {marks : List Mark} 
           | inr q ↦ second.1 (level r q)
         ]
       ]
+
+-- where no place of the first term is shown to be that of another, its class alone decides
+pub unplaced_same : {k : Known} {terms : List Term} {classes : Merged} {marks : List Mark} {order : List Difference} {several : Bool} → IsWhole k terms classes marks order several → (a b : Term) (r : Bool) →
+    ((p : Place) → PlaceOf terms classes.merges marks a p → ⊥) → IsTrue r ↔ OneClass k a b → IsTrue r ↔ TheSame k a b
+unplaced_same w a b r none h = (λ e. inl (h.0 e), λ s. h.1 (unplaced_only a w none b s))
+
+-- ---- place by place
+
+module _ {terms : List Term} {merges : List (ℕ × ℕ)} {marks : List Mark} {order : List Difference} {a b : Term} where
+  pub level_at : {one other : Place} {r : Bool} → ((p : Place) → (Some one ≡ Some p) ↔ PlaceOf terms merges marks a p) → ((p : Place) → (Some other ≡ Some p) ↔ PlaceOf terms merges marks b p) →
+      IsTrue r ↔ (RisesBy order one (pos 0) other × RisesBy order other (pos 0) one) → IsTrue r ↔ IsLevel terms merges marks order a b
+  level_at {one} {other} {r} first second h = (
+    λ e. record { one = one; other = other; first = (first one).0 refl; second = (second other).0 refl; up = (h.0 e).0; down = (h.0 e).1 },
+    λ l.
+        let p : l.one ≡ one = inside l.one one (sym ((first l.one).1 l.first)) in
+        let q : l.other ≡ other = inside l.other other (sym ((second l.other).1 l.second)) in
+        h.1 (
+          subst (λ (x : Place). RisesBy order x (pos 0) other) p (subst (λ (y : Place). RisesBy order l.one (pos 0) y) q l.up),
+          subst (λ (x : Place). RisesBy order other (pos 0) x) p (subst (λ (y : Place). RisesBy order y (pos 0) l.one) q l.down),
+        ),
+  )
+    where
+      inside : (x y : Place) → Some x ≡ Some y → x ≡ y
+      inside x y e = cc
+
+  pub never_level : ((p : Place) → (None ≡ Some p) ↔ PlaceOf terms merges marks b p) → IsTrue false ↔ IsLevel terms merges marks order a b
+  never_level second = (λ e. absurd (false≢true e), λ l. absurd (none-some l.other ((second l.other).1 l.second)))

@@ -1,6 +1,6 @@
 -- Numbered terms with their classes, marks and order, that they say what is known, and what else
 -- may come to be known.
-use Rattle.std.specs.Prelude.{◌≡◌, ◌≢◌, ℕ, ◌<◌, ◌≤◌, ◌^◌, ℤ, pos, ◌+ℤ◌, ◌-ℤ◌, ◌↔◌, ◌⊎◌, IsTrue, Bool, List, Contains, Some, slice_get, length}
+use Rattle.std.specs.Prelude.{◌≡◌, ◌≢◌, ℕ, ◌<◌, ◌≤◌, ◌^◌, ℤ, pos, ◌+ℤ◌, ◌-ℤ◌, ◌↔◌, ◌⊎◌, IsTrue, Bool, List, Contains, Option, Some, slice_get, length}
 use Rattle.ba_model.specs.declared.query.Op.TheVariants.{Lt, Le}
 use Rattle.ba_model.specs.declared.value.Value.TheVariants.{Int}
 use Rattle.ba_classes.specs.Chains.{Shows}
@@ -20,6 +20,10 @@ use Rattle.ba_facts.specs.declared.web.Web.{Web}
 pub record IsNumbered (terms : List Term) (t : Term) : Type 0 where
   pub number : ℕ
   pub there : slice_get terms number ≡ Some t
+
+-- the term's number, if it has one
+abbrev pub IsNumberOf : List Term → Term → Option ℕ → Type 0
+IsNumberOf terms t number = (n : ℕ) → (number ≡ Some n) ↔ (slice_get terms n ≡ Some t)
 
 -- the numbered terms are different and are there, and there are a class and a mark for each
 pub record IsNaming (k : Known) (terms : List Term) (classes : Merged)

@@ -10,7 +10,7 @@ ghost use Rattle.ba_facts.specs.Marks.{AreLiterals};
 ghost use Rattle.ba_facts.specs.Members.{AreMembers, AreMembersBelow, IsOnlyClass};
 ghost use Rattle.ba_facts.specs.Shown.{TheSame};
 ghost use Rattle.ba_facts.specs.Telling.{AreThere, CanTell, atom, told};
-ghost use Rattle.ba_facts.specs.Webs.{AnyRise, Denies, HasPlace, IsClassMark, IsLevel, IsSomeWeb, IsWeb, Joins, KeepsOrder, PlaceOf, Raises};
+ghost use Rattle.ba_facts.specs.Webs.{AnyRise, Denies, HasPlace, IsClassMark, IsLevel, IsNumberOf, IsSomeWeb, IsWeb, Joins, KeepsOrder, PlaceOf, Raises};
 ghost use Rattle.ba_facts.specs.Finding.{AreFound, AreNumbered, AreThose};
 ghost use Rattle.ba_facts.specs.declared.marks.Place.{Place};
 ghost use Rattle.ba_facts.specs.declared.term.Lesson.{Lesson};
@@ -367,7 +367,18 @@ impl Web {
         ensures { (k : Known) →
             IsWeb k self.now → IsTrue result ↔ OneClass k (seen a.entry) (seen b.entry) }
     {
-        match self.names.find(a) {
+        self.is_of_class(a, self.names.find(a), b)
+    }
+
+    // The same, where the first term has this number, or none.
+    #[inline(always)]
+    fn is_of_class(&self, a: TermRef<'_>, number: Option<u32>, b: TermRef<'_>) -> bool
+        requires some { IsSomeWeb self.now }
+        requires numbered { IsNumberOf self.now.names (seen a) number }
+        ensures { (k : Known) →
+            IsWeb k self.now → IsTrue result ↔ OneClass k (seen a.entry) (seen b.entry) }
+    {
+        match number {
             Some(x) => self.has_class(x, b),
             None => a.same(b),
         }
@@ -447,30 +458,47 @@ impl Web {
         self.place_of(a).is_none()
     }
 
-    /// Whether the two terms are the same: of one class, or each shown to be at most the other.
-    #[inline(always)]
+    /// Whether the two terms are the same: of one class, or each shown to be at most the other. A
+    /// term without a place is the same as those of its class alone.
     pub(crate) fn same(&self, a: TermRef<'_>, b: TermRef<'_>) -> bool
         requires { IsSomeWeb self.now }
         ensures { (k : Known) →
             IsWeb k self.now → IsTrue result ↔ TheSame k (seen a.entry) (seen b.entry) }
     {
-        if self.one_class(a, b) {
-            true
-        } else {
-            self.is_level(a, b)
+        let number = self.names.find(a);
+        match self.place_at(a, number) {
+            Some(place) => self.same_at(a, number, place, b),
+            None => self.is_of_class(a, number, b),
         }
     }
 
-    // Whether the two terms' places are shown to be one.
-    fn is_level(&self, a: TermRef<'_>, b: TermRef<'_>) -> bool
-        requires { IsSomeWeb self.now }
-        ensures { IsTrue result ↔ IsLevel self.now.names self.now.classes.merges
-            self.now.marks.items self.now.order
-            (seen a.entry) (seen b.entry) }
+    // The same, where the first term has this number, or none, and this place.
+    fn same_at(&self, a: TermRef<'_>, number: Option<u32>, place: Place, b: TermRef<'_>) -> bool
+        requires some { IsSomeWeb self.now }
+        requires numbered { IsNumberOf self.now.names (seen a) number }
+        requires placed { (p : Place) → (Some place ≡ Some p)
+            ↔ PlaceOf self.now.names self.now.classes.merges self.now.marks.items (seen a) p }
+        ensures { (k : Known) →
+            IsWeb k self.now → IsTrue result ↔ TheSame k (seen a.entry) (seen b.entry) }
     {
-        match (self.place_of(a), self.place_of(b)) {
-            (Some(one), Some(other)) => are_level(&self.order, one, other),
-            _ => false,
+        if self.is_of_class(a, number, b) {
+            true
+        } else {
+            self.is_level(place, b)
+        }
+    }
+
+    // Whether the term's place and this one are shown to be one.
+    fn is_level(&self, place: Place, b: TermRef<'_>) -> bool
+        requires { IsSomeWeb self.now }
+        ensures { (a : Term) → ((p : Place) → (Some place ≡ Some p)
+            ↔ PlaceOf self.now.names self.now.classes.merges self.now.marks.items a p) →
+            IsTrue result ↔ IsLevel self.now.names self.now.classes.merges
+            self.now.marks.items self.now.order a (seen b.entry) }
+    {
+        match self.place_of(b) {
+            Some(other) => are_level(&self.order, place, other),
+            None => false,
         }
     }
 
@@ -632,8 +660,19 @@ impl Web {
         ensures { (p : Place) → (result ≡ Some p)
             ↔ PlaceOf self.now.names self.now.classes.merges self.now.marks.items (seen a.entry) p }
     {
-        match self.class_mark(a) {
-            Some(mark) => mark.place,
+        self.place_at(a, self.names.find(a))
+    }
+
+    // The place of the term, which has this number, or none.
+    #[inline(always)]
+    fn place_at(&self, a: TermRef<'_>, number: Option<u32>) -> Option<Place>
+        requires some { IsSomeWeb self.now }
+        requires numbered { IsNumberOf self.now.names (seen a) number }
+        ensures { (p : Place) → (result ≡ Some p)
+            ↔ PlaceOf self.now.names self.now.classes.merges self.now.marks.items (seen a.entry) p }
+    {
+        match number {
+            Some(x) => mark_of(&self.classes, &self.marks, x).place,
             None => own_place(a),
         }
     }
