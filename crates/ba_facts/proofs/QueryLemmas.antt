@@ -101,6 +101,10 @@ pub both_one : {k : Known} {a b : Term} (v w : Value) (r : Bool) → IsTrue r �
 both_one v w true h p one q other = (λ e. absurd (false≢true e), λ d. absurd (d.differ (one d.left v d.left_in p ∙ h.0 refl ∙ other w d.right q d.right_in)))
 both_one v w false h p one q other = (λ e. record { left = v; right = w; left_in = p; right_in = q; differ = λ f. false≢true (h.1 f) }, λ d. refl)
 
+-- a class of one literal alone is null where that is NULL
+pub null_alone : {k : Known} {a : Term} (v : Value) (r : Bool) → OneClass k a (Val v) → HasOneLiteral k a → IsTrue r ↔ (v ≡ Null) → IsTrue r ↔ OneClass k a (Val Null)
+null_alone {k} {a} v r there one h = (λ e. subst (λ (u : Value). OneClass k a (Val u)) (h.0 e) there, λ o. h.1 (one v Null there o))
+
 pub one_several : {k : Known} {a b : Term} (v : Value) → OneClass k a (Val v) → DifferentLiterals k b b → IsTrue true ↔ DifferentLiterals k a b
 one_several v p d = (λ e. turned_differ (several_differ v d p), λ e. refl)
 

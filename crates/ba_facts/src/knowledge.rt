@@ -137,7 +137,7 @@ impl Knowledge {
     pub fn shown_null(&self, a: TermRef<'_>) -> bool
         ensures { IsTrue result ↔ ShownNull self.now (seen a.entry) }
     {
-        self.one_class(a, TermRef::Val(&Value::Null))
+        self.web.is_null(a)
     }
 
     /// Whether the term's class has one that is never NULL, or was recorded as not null.

@@ -4,7 +4,7 @@ ghost use Rattle.std.specs.Option.{option_copied};
 ghost use Rattle.ba_classes.specs.Chains.{IsAbsurd};
 ghost use Rattle.ba_classes.specs.Image.{IsGreatest};
 ghost use Rattle.ba_classes.specs.Merged.{IsLabel};
-ghost use Rattle.ba_facts.specs.Known.{Known, DifferentLiterals, OneClass, ShownGap, ShownNotNull, seen};
+ghost use Rattle.ba_facts.specs.Known.{Known, DifferentLiterals, OneClass, ShownGap, ShownNotNull, ShownNull, seen};
 ghost use Rattle.ba_facts.specs.Knowing.{IsBound, IsClashing, IsLeastOf, IsLiteralIn, IsRising, IsThere, LessonIsThere};
 ghost use Rattle.ba_facts.specs.Marks.{AreLiterals};
 ghost use Rattle.ba_facts.specs.Members.{AreMembers, AreMembersBelow, IsOnlyClass};
@@ -28,7 +28,7 @@ use crate::number::number_after;
 use crate::rises::{agreed, are_level, most, raise, replace, rises};
 use crate::shared_order::SharedOrder;
 use crate::term::{Lesson, Sort, TermAtom, TermRef};
-use ba_model::{Op, Value};
+use ba_model::{Op, Same, Value};
 use std::alloc::{AllocError, Global};
 
 /// The terms that something was learned of, by number, with their classes, the marks of these by
@@ -526,6 +526,18 @@ impl Web {
         match self.class_mark(a) {
             Some(mark) => mark.not_null,
             None => own_not_null(unknowns, a),
+        }
+    }
+
+    /// Whether the term's class has the literal NULL. Mostly it has none, or one that isn't.
+    pub(crate) fn is_null(&self, a: TermRef<'_>) -> bool
+        requires { IsSomeWeb self.now }
+        ensures { (k : Known) → IsWeb k self.now → IsTrue result ↔ ShownNull k (seen a.entry) }
+    {
+        match self.literals(a) {
+            Found::Absent => false,
+            Found::One(value) => value.same(&Value::Null),
+            Found::Several => self.one_class(a, TermRef::Val(&Value::Null)),
         }
     }
 
