@@ -1,4 +1,3 @@
-use Rattle.ba_facts.specs.Known.{seen}
 use Rattle.ba_facts.proofs.LevelLemmas.{level_at, never_level}
 use Rattle.ba_facts.proofs.web.Web.is_level.Goals as goal
 

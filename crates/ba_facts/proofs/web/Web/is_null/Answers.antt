@@ -1,6 +1,5 @@
 use Rattle.std.proofs.lemmas.Bool.{false≢true}
 use Rattle.ba_model.specs.declared.value.Value.TheVariants.{Null}
-use Rattle.ba_facts.specs.Known.{seen}
 use Rattle.ba_facts.proofs.QueryLemmas.{null_alone}
 use Rattle.ba_facts.proofs.web.Web.is_null.Goals as goal
 
