@@ -10,7 +10,6 @@ use Rattle.ba_facts.specs.Webs.{AnyRise, IsLevel, IsWhole, PlaceOf, RisesBy}
 use Rattle.ba_facts.specs.declared.marks.Mark.{Mark}
 use Rattle.ba_facts.specs.declared.marks.Place.{Place}
 use Rattle.ba_facts.specs.declared.term.Term.{Term}
-use Rattle.ba_facts.proofs.MemberLemmas.{unplaced_only}
 use Rattle.ba_facts.proofs.OrderLemmas.{same_place}
 use Rattle.ba_facts.proofs.QueryLemmas.{gap_shown}
 
@@ -56,11 +55,6 @@ module _ {k : Known} {terms : List Term} {classes : Merged} {marks : List Mark} 
         ]
       ]
 
--- where no place of the first term is shown to be that of another, its class alone decides
-pub unplaced_same : {k : Known} {terms : List Term} {classes : Merged} {marks : List Mark} {order : List Difference} {several : Bool} → IsWhole k terms classes marks order several → (a b : Term) (r : Bool) →
-    ((p : Place) → PlaceOf terms classes.merges marks a p → ⊥) → IsTrue r ↔ OneClass k a b → IsTrue r ↔ TheSame k a b
-unplaced_same w a b r none h = (λ e. inl (h.0 e), λ s. h.1 (unplaced_only a w none b s))
-
 -- ---- place by place
 
 module _ {terms : List Term} {merges : List (ℕ × ℕ)} {marks : List Mark} {order : List Difference} {a b : Term} where
@@ -82,3 +76,6 @@ module _ {terms : List Term} {merges : List (ℕ × ℕ)} {marks : List Mark} {o
 
   pub never_level : ((p : Place) → (None ≡ Some p) ↔ PlaceOf terms merges marks b p) → IsTrue false ↔ IsLevel terms merges marks order a b
   never_level second = (λ e. absurd (false≢true e), λ l. absurd (none-some l.other ((second l.other).1 l.second)))
+
+  pub never_placed : ((p : Place) → (None ≡ Some p) ↔ PlaceOf terms merges marks a p) → IsTrue false ↔ IsLevel terms merges marks order a b
+  never_placed first = (λ e. absurd (false≢true e), λ l. absurd (none-some l.one ((first l.one).1 l.first)))

@@ -458,38 +458,37 @@ impl Web {
         self.place_of(a).is_none()
     }
 
-    /// Whether the two terms are the same: of one class, or each shown to be at most the other. A
-    /// term without a place is the same as those of its class alone.
+    /// Whether the two terms are the same: of one class, or each shown to be at most the other.
     pub(crate) fn same(&self, a: TermRef<'_>, b: TermRef<'_>) -> bool
         requires { IsSomeWeb self.now }
         ensures { (k : Known) →
             IsWeb k self.now → IsTrue result ↔ TheSame k (seen a.entry) (seen b.entry) }
     {
         let number = self.names.find(a);
-        match self.place_at(a, number) {
-            Some(place) => self.same_at(a, number, place, b),
-            None => self.is_of_class(a, number, b),
-        }
-    }
-
-    // The same, where the first term has this number, or none, and this place.
-    fn same_at(&self, a: TermRef<'_>, number: Option<u32>, place: Place, b: TermRef<'_>) -> bool
-        requires some { IsSomeWeb self.now }
-        requires numbered { IsNumberOf self.now.names (seen a) number }
-        requires placed { (p : Place) → (Some place ≡ Some p)
-            ↔ PlaceOf self.now.names self.now.classes.merges self.now.marks.items (seen a) p }
-        ensures { (k : Known) →
-            IsWeb k self.now → IsTrue result ↔ TheSame k (seen a.entry) (seen b.entry) }
-    {
         if self.is_of_class(a, number, b) {
             true
         } else {
-            self.is_level(place, b)
+            self.is_level(a, number, b)
+        }
+    }
+
+    // Whether the two terms' places are shown to be one, where the first term has this number, or
+    // none. Mostly it has no place, and the other's isn't sought.
+    fn is_level(&self, a: TermRef<'_>, number: Option<u32>, b: TermRef<'_>) -> bool
+        requires some { IsSomeWeb self.now }
+        requires numbered { IsNumberOf self.now.names (seen a) number }
+        ensures { IsTrue result ↔ IsLevel self.now.names self.now.classes.merges
+            self.now.marks.items self.now.order
+            (seen a.entry) (seen b.entry) }
+    {
+        match self.place_at(a, number) {
+            Some(place) => self.is_level_at(place, b),
+            None => false,
         }
     }
 
     // Whether the term's place and this one are shown to be one.
-    fn is_level(&self, place: Place, b: TermRef<'_>) -> bool
+    fn is_level_at(&self, place: Place, b: TermRef<'_>) -> bool
         requires { IsSomeWeb self.now }
         ensures { (a : Term) → ((p : Place) → (Some place ≡ Some p)
             ↔ PlaceOf self.now.names self.now.classes.merges self.now.marks.items a p) →

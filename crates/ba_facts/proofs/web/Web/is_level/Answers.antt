@@ -1,8 +1,9 @@
-use Rattle.ba_facts.proofs.LevelLemmas.{level_at, never_level}
+use Rattle.ba_facts.specs.Known.{seen}
+use Rattle.ba_facts.proofs.LevelLemmas.{never_placed}
 use Rattle.ba_facts.proofs.web.Web.is_level.Goals as goal
 
 pub returns-in-Some : goal.returns-in-Some
-returns-in-Some c = λ a first. level_at first c.in-Some.ensures c.are_level.ensures
+returns-in-Some c = c.is_level_at.ensures (seen c.args.a) c.in-Some.ensures
 
 pub returns-in-None : goal.returns-in-None
-returns-in-None c = λ a first. never_level c.in-None.ensures
+returns-in-None c = never_placed c.in-None.ensures
