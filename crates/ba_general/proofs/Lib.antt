@@ -19,6 +19,7 @@ pub mod VariableLemmas
 pub mod KnowledgeLemmas
 pub mod ValuesLemmas
 pub mod GrowthLemmas
+pub mod GuessLemmas
 pub mod AcceptedLemmas
 pub mod FullLemmas
 pub mod MinimalLemmas

@@ -1,5 +1,5 @@
 -- Atoms that are dropped one by one from what is assumed, as long as the steps still prove the problem.
-use Rattle.std.specs.Prelude.{◌≡◌, ℕ, ◌-◌, Bool, true, false, List, [], ◌∷◌, ◌++◌, All, Option, Some, None, replicate, take, drop}
+use Rattle.std.specs.Prelude.{◌≡◌, ℕ, ◌-◌, ◌<◌, Bool, true, false, List, [], ◌∷◌, ◌++◌, All, Option, Some, None, get_or, length, replicate, take, drop}
 use Rattle.ba_model.specs.declared.query.Atom.{Atom}
 use Rattle.ba_model.specs.declared.query.Operand.{Operand}
 use Rattle.ba_model.specs.declared.query.Operand.TheVariants.{Col, Val, Param, Var}
@@ -8,6 +8,7 @@ use Rattle.ba_kernel.specs.SearchStates.{Proof}
 use Rattle.ba_kernel.specs.declared.problem.Problem.{Problem}
 use Rattle.ba_kernel.specs.declared.step.Step.{Step}
 use Rattle.ba_general.specs.Patterns.{assuming}
+use Rattle.ba_general.specs.declared.dropping.Guess.{Guess}
 
 -- with these atoms assumed the steps are accepted and leave no branch open
 abbrev pub IsAccepted : Problem → List Step → List Atom → Type 0
@@ -108,3 +109,15 @@ IsProofBy p taken (Some it) = Closes p taken × (it ≡ record { problem = p; st
 -- a proof that is there is of the atoms that are kept
 pub record IsLast (g : Problem) (taken : List Step) (atoms : List Atom) (kept : List Bool) (last : Option Proof) : Type 0 where
   pub is : (it : Proof) → last ≡ Some it → it ≡ record { problem = assuming g (kept_atoms atoms kept); steps = taken }
+
+-- ---- a guess
+
+-- the steps are accepted with the atoms that it keeps, and it has the proof
+pub record IsGuess (g : Problem) (taken : List Step) (atoms : List Atom) (guess : Guess) : Type 0 where
+  pub flags : length guess.kept.items ≡ length atoms
+  pub accepted : IsAccepted g taken (kept_atoms atoms guess.kept.items)
+  pub is : guess.proof ≡ record { problem = assuming g (kept_atoms atoms guess.kept.items); steps = taken }
+
+-- what is kept of some is kept of all
+pub record AreAmong (some all : List Bool) : Type 0 where
+  pub each : (i : ℕ) → i < length some → get_or some i false ≡ true → get_or all i false ≡ true

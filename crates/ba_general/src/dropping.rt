@@ -1,12 +1,13 @@
 //! The one pass over the full condition that drops what the steps don't need.
-ghost use Rattle.std.specs.Prelude.{◌≡◌, ◌↔◌, ◌-◌, ◌≤◌, ◌∷◌, ◌++◌, [], IfOk, IsTrue, None, OnOk, drop, length, replicate, take, true};
+ghost use Rattle.std.specs.Prelude.{◌≡◌, ◌↔◌, ◌-◌, ◌≤◌, ◌∷◌, ◌++◌, [], IfOk, IfSome, IsTrue, None, OnOk, drop, length, replicate, take, true};
 ghost use Rattle.ba_model.specs.Limits.{most_steps};
 ghost use Rattle.ba_general.specs.Conditions.{AtomsFit, IsAcceptedFully, AddsGroup, AreUp, DropsGroups, IsCondition, IsFullList, IsFullPass, PatternFits};
-ghost use Rattle.ba_general.specs.Dropping.{AllKept, DropsRun, IsAccepted, IsLast, IsProofBy, IsRefusedAtOnce, IsTriedAtOnce, atom_if, between, kept_atoms, without_run};
+ghost use Rattle.ba_general.specs.Dropping.{AllKept, AreAmong, DropsRun, IsAccepted, IsGuess, IsLast, IsProofBy, IsRefusedAtOnce, IsTriedAtOnce, atom_if, between, kept_atoms, without_run};
 ghost use Rattle.ba_general.specs.Patterns.{assuming};
 
 use crate::condition::{Group, add_group};
 use crate::copies::proof_by;
+use crate::guessing::guessed;
 use crate::pattern::Pattern;
 use ba_kernel::{Proved, Step};
 use ba_model::{Atom, Duplicate, List};
@@ -29,9 +30,10 @@ pub fn under_condition(
     let mut pass = Pass::full(alloc, pattern, steps)?;
     let ends = pass.ends;
     let all = pass.atoms.len();
-    pass.drop_unequal(alloc, ends)?;
-    pass.drop_equal(alloc, ends.apart, all)?;
-    pass.proof(alloc)
+    let guess = pass.guess(alloc, ends.apart)?;
+    pass.drop_unequal(alloc, ends, &guess)?;
+    pass.drop_equal(alloc, ends.apart, all, &guess)?;
+    pass.proof(alloc, guess)
 }
 
 /// Whether the steps are accepted under the full condition.
@@ -45,12 +47,22 @@ pub fn is_accepted(alloc: Global, pattern: &Pattern, steps: &List<Step>) -> Resu
     Ok(proof.is_some())
 }
 
+/// Fewer pairs of equal values are not worth a guess.
+const FEWEST_PAIRS: usize = 3;
+
 /// Where the atoms of each group but the last end.
 #[derive(Clone, Copy, Debug)]
 struct Ends {
     fixed: usize,
     less: usize,
     apart: usize,
+}
+
+/// Some atoms of the full condition with which the steps are accepted, and the proof that they are.
+#[derive(Drop)]
+struct Guess {
+    kept: Vec<bool>,
+    proof: Proved,
 }
 
 /// The full condition, and which of its atoms are still kept.
@@ -61,7 +73,7 @@ struct Pass<'a> {
     atoms: Vec<Atom>,
     kept: Vec<bool>,
     ends: Ends,
-    /// The proof under the atoms that are kept, once some were dropped.
+    /// The proof under the atoms that are kept, once some were dropped by a try.
     last: Option<Proved>,
 }
 
@@ -126,33 +138,66 @@ impl<'a> Pass<'a> {
         Ok(())
     }
 
+    /// The pairs of equal values that join what the question, the entries and the parameters have,
+    /// if the steps are accepted with them alone. A few pairs are tried as soon one by one.
+    fn guess(&self, alloc: Global, first: usize) -> Result<Option<Guess>, AllocError>
+        requires fits { PatternFits self.now.pattern.now }
+        requires few { length self.now.steps.now ≤ most_steps }
+        requires atoms { AtomsFit self.now.pattern.now.problem self.now.atoms.items }
+        requires first { first ≤ length self.now.atoms.items }
+        ensures { IfOk result (λ it. IfSome it (IsGuess self.now.pattern.now.problem self.now.steps.now self.now.atoms.items)) }
+    {
+        if self.atoms.len() - first < FEWEST_PAIRS {
+            return Ok(None);
+        }
+        let entries = self.pattern.problem.entries.as_slice();
+        let kept = guessed(alloc, entries, &self.atoms, first)?;
+        let proof = self.tried_with(alloc, &kept)?;
+        match proof {
+            Some(proof) => Ok(Some(Guess { kept, proof })),
+            None => Ok(None),
+        }
+    }
+
     /// Drops what can be dropped of the groups but the last: all at once, as most proofs need
     /// equal values alone, or else group by group.
-    fn drop_unequal(&mut self, alloc: Global, ends: Ends) -> Result<(), AllocError>
+    fn drop_unequal(
+        &mut self,
+        alloc: Global,
+        ends: Ends,
+        guess: &Option<Guess>,
+    ) -> Result<(), AllocError>
         requires fits { PatternFits self.old.pattern.now }
         requires few { length self.old.steps.now ≤ most_steps }
         requires atoms { AtomsFit self.old.pattern.now.problem self.old.atoms.items }
         requires ends { AreUp ends self.old.atoms.items }
         requires kept { self.old.kept.items ≡ replicate (length self.old.atoms.items) true }
         requires last { IsLast self.old.pattern.now.problem self.old.steps.now self.old.atoms.items self.old.kept.items self.old.last }
+        requires guess { IfSome guess.now (IsGuess self.old.pattern.now.problem self.old.steps.now self.old.atoms.items) }
         ensures groups { OnOk result (DropsGroups (IsAccepted self.old.pattern.now.problem self.old.steps.now) self.old.atoms.items self.old.kept.items self.new.kept.items ends) }
         ensures last { OnOk result (IsLast self.old.pattern.now.problem self.old.steps.now self.old.atoms.items self.new.kept.items self.new.last) }
         ensures same { (self.new.atoms ≡ self.old.atoms) × (self.new.pattern ≡ self.old.pattern) × (self.new.steps ≡ self.old.steps) }
     {
         let Ends { fixed, less, apart } = ends;
-        let gone = self.drops(alloc, 0, apart, fixed < apart)?;
+        let gone = self.drops(alloc, 0, apart, fixed < apart, guess)?;
         if gone {
             return Ok(());
         }
-        self.drop_run(alloc, 0, fixed, false)?;
-        self.drop_run(alloc, fixed, less, false)?;
-        self.drop_run(alloc, less, apart, false)?;
+        self.drop_run(alloc, 0, fixed, false, guess)?;
+        self.drop_run(alloc, fixed, less, false, guess)?;
+        self.drop_run(alloc, less, apart, false, guess)?;
         Ok(())
     }
 
     /// Drops what can be dropped of the last group, as from the last to the first: by halves at
     /// once, as it rarely goes as a whole.
-    fn drop_equal(&mut self, alloc: Global, first: usize, end: usize) -> Result<(), AllocError>
+    fn drop_equal(
+        &mut self,
+        alloc: Global,
+        first: usize,
+        end: usize,
+        guess: &Option<Guess>,
+    ) -> Result<(), AllocError>
         requires fits { PatternFits self.old.pattern.now }
         requires few { length self.old.steps.now ≤ most_steps }
         requires atoms { AtomsFit self.old.pattern.now.problem self.old.atoms.items }
@@ -161,14 +206,15 @@ impl<'a> Pass<'a> {
         requires flags { length self.old.kept.items ≡ length self.old.atoms.items }
         requires kept { AllKept (between first end self.old.kept.items) }
         requires last { IsLast self.old.pattern.now.problem self.old.steps.now self.old.atoms.items self.old.kept.items self.old.last }
+        requires guess { IfSome guess.now (IsGuess self.old.pattern.now.problem self.old.steps.now self.old.atoms.items) }
         ensures run { OnOk result (DropsRun (IsAccepted self.old.pattern.now.problem self.old.steps.now) self.old.atoms.items self.old.kept.items self.new.kept.items first end) }
         ensures flags { OnOk result (length self.new.kept.items ≡ length self.new.atoms.items) }
         ensures last { OnOk result (IsLast self.old.pattern.now.problem self.old.steps.now self.old.atoms.items self.new.kept.items self.new.last) }
         ensures same { (self.new.atoms ≡ self.old.atoms) × (self.new.pattern ≡ self.old.pattern) × (self.new.steps ≡ self.old.steps) }
     {
         let half = first + (end - first) / 2;
-        self.drop_run(alloc, half, end, false)?;
-        self.drop_run(alloc, first, half, false)?;
+        self.drop_run(alloc, half, end, false, guess)?;
+        self.drop_run(alloc, first, half, false, guess)?;
         Ok(())
     }
 
@@ -184,6 +230,7 @@ impl<'a> Pass<'a> {
         first: usize,
         end: usize,
         refused: bool,
+        guess: &Option<Guess>,
     ) -> Result<bool, AllocError>
         requires fits { PatternFits self.old.pattern.now }
         requires few { length self.old.steps.now ≤ most_steps }
@@ -193,6 +240,7 @@ impl<'a> Pass<'a> {
         requires kept { AllKept (between first end self.old.kept.items) }
         requires last { IsLast self.old.pattern.now.problem self.old.steps.now self.old.atoms.items self.old.kept.items self.old.last }
         requires refused { IsTrue refused → IsRefusedAtOnce (IsAccepted self.old.pattern.now.problem self.old.steps.now) self.old.atoms.items self.old.kept.items first end }
+        requires guess { IfSome guess.now (IsGuess self.old.pattern.now.problem self.old.steps.now self.old.atoms.items) }
         ensures run { OnOk result (DropsRun (IsAccepted self.old.pattern.now.problem self.old.steps.now) self.old.atoms.items self.old.kept.items self.new.kept.items first end) }
         ensures gone { IfOk result (λ gone. IsTrue gone → self.new.kept.items ≡ without_run self.old.kept.items first end) }
         ensures flags { OnOk result (length self.new.kept.items ≡ length self.new.atoms.items) }
@@ -202,7 +250,7 @@ impl<'a> Pass<'a> {
         if first >= end {
             return Ok(false);
         }
-        let gone = self.drops(alloc, first, end, !refused)?;
+        let gone = self.drops(alloc, first, end, !refused, guess)?;
         if gone {
             return Ok(true);
         }
@@ -210,19 +258,20 @@ impl<'a> Pass<'a> {
             return Ok(false);
         }
         let middle = first + (end - first) / 2;
-        let later = self.drop_run(alloc, middle, end, false)?;
-        self.drop_run(alloc, first, middle, later)?;
+        let later = self.drop_run(alloc, middle, end, false, guess)?;
+        self.drop_run(alloc, first, middle, later, guess)?;
         Ok(false)
     }
 
     /// Drops all of a run at once, if that is asked and the steps are accepted without it. Else
-    /// what is kept is as before.
+    /// what is kept is as before. Where all that was guessed is still kept, that needs no try.
     fn drops(
         &mut self,
         alloc: Global,
         first: usize,
         end: usize,
         asked: bool,
+        guess: &Option<Guess>,
     ) -> Result<bool, AllocError>
         requires fits { PatternFits self.old.pattern.now }
         requires few { length self.old.steps.now ≤ most_steps }
@@ -232,6 +281,7 @@ impl<'a> Pass<'a> {
         requires flags { length self.old.kept.items ≡ length self.old.atoms.items }
         requires kept { AllKept (between first end self.old.kept.items) }
         requires last { IsLast self.old.pattern.now.problem self.old.steps.now self.old.atoms.items self.old.kept.items self.old.last }
+        requires guess { IfSome guess.now (IsGuess self.old.pattern.now.problem self.old.steps.now self.old.atoms.items) }
         ensures tried { IfOk result (IsTriedAtOnce (IsAccepted self.old.pattern.now.problem self.old.steps.now) self.old.atoms.items self.old.kept.items self.new.kept.items first end asked) }
         ensures last { OnOk result (IsLast self.old.pattern.now.problem self.old.steps.now self.old.atoms.items self.new.kept.items self.new.last) }
         ensures same { (self.new.atoms ≡ self.old.atoms) × (self.new.pattern ≡ self.old.pattern) × (self.new.steps ≡ self.old.steps) }
@@ -240,6 +290,11 @@ impl<'a> Pass<'a> {
             return Ok(false);
         }
         self.set(first, end, false);
+        let known = self.keeps(guess);
+        if known {
+            self.last = None;
+            return Ok(true);
+        }
         let proof = self.tried(alloc)?;
         let Some(proof) = proof else {
             self.set(first, end, true);
@@ -247,6 +302,20 @@ impl<'a> Pass<'a> {
         };
         self.last = Some(proof);
         Ok(true)
+    }
+
+    /// Whether all that was guessed is kept. With it the steps are accepted, since acceptance only
+    /// grows with what is assumed.
+    fn keeps(&self, guess: &Option<Guess>) -> bool
+        requires flags { length self.now.kept.items ≡ length self.now.atoms.items }
+        requires atoms { AtomsFit self.now.pattern.now.problem self.now.atoms.items }
+        requires guess { IfSome guess.now (IsGuess self.now.pattern.now.problem self.now.steps.now self.now.atoms.items) }
+        ensures { IsTrue result → IsAccepted self.now.pattern.now.problem self.now.steps.now (kept_atoms self.now.atoms.items self.now.kept.items) }
+    {
+        match guess {
+            Some(guess) => are_among(&guess.kept, &self.kept),
+            None => false,
+        }
     }
 
     fn set(&mut self, first: usize, end: usize, kept: bool)
@@ -268,25 +337,42 @@ impl<'a> Pass<'a> {
         requires atoms { AtomsFit self.now.pattern.now.problem self.now.atoms.items }
         ensures { IfOk result (IsProofBy (assuming self.now.pattern.now.problem (kept_atoms self.now.atoms.items self.now.kept.items)) self.now.steps.now) }
     {
-        let assumed = self.kept_atoms(alloc)?;
+        self.tried_with(alloc, &self.kept)
+    }
+
+    /// The same of other atoms that are kept.
+    fn tried_with(&self, alloc: Global, kept: &Vec<bool>) -> Result<Option<Proved>, AllocError>
+        requires fits { PatternFits self.now.pattern.now }
+        requires few { length self.now.steps.now ≤ most_steps }
+        requires flags { length kept.now.items ≡ length self.now.atoms.items }
+        requires atoms { AtomsFit self.now.pattern.now.problem self.now.atoms.items }
+        ensures { IfOk result (IsProofBy (assuming self.now.pattern.now.problem (kept_atoms self.now.atoms.items kept.now.items)) self.now.steps.now) }
+    {
+        let assumed = self.kept_atoms(alloc, kept)?;
         let problem = self.pattern.assuming(alloc, assumed)?;
         proof_by(alloc, problem, self.steps)
     }
 
     /// The proof that the steps are under the atoms that are kept, with which they are accepted. It
-    /// is made already, if some atoms were dropped.
-    fn proof(&mut self, alloc: Global) -> Result<Proved, AllocError>
+    /// is made already, if the last that were dropped were tried, or just the guess is left.
+    fn proof(&mut self, alloc: Global, guess: Option<Guess>) -> Result<Proved, AllocError>
         requires fits { PatternFits self.old.pattern.now }
         requires few { length self.old.steps.now ≤ most_steps }
         requires flags { length self.old.kept.items ≡ length self.old.atoms.items }
         requires atoms { AtomsFit self.old.pattern.now.problem self.old.atoms.items }
         requires last { IsLast self.old.pattern.now.problem self.old.steps.now self.old.atoms.items self.old.kept.items self.old.last }
+        requires guess { IfSome guess (IsGuess self.old.pattern.now.problem self.old.steps.now self.old.atoms.items) }
         requires accepted { IsAccepted self.old.pattern.now.problem self.old.steps.now (kept_atoms self.old.atoms.items self.old.kept.items) }
         ensures { IfOk result (λ it. it ≡ record { problem = assuming self.old.pattern.now.problem (kept_atoms self.old.atoms.items self.old.kept.items); steps = self.old.steps.now }) }
     {
         let last = self.last.take();
         if let Some(proof) = last {
             return Ok(proof);
+        }
+        if let Some(Guess { kept, proof }) = guess {
+            if kept == self.kept {
+                return Ok(proof);
+            }
         }
         let proof = self.tried(alloc)?;
         match proof {
@@ -295,13 +381,13 @@ impl<'a> Pass<'a> {
         }
     }
 
-    fn kept_atoms(&self, alloc: Global) -> Result<List<Atom>, AllocError>
-        requires { length self.now.kept.items ≡ length self.now.atoms.items }
-        ensures { IfOk result (λ it. it ≡ kept_atoms self.now.atoms.items self.now.kept.items) }
+    fn kept_atoms(&self, alloc: Global, kept: &Vec<bool>) -> Result<List<Atom>, AllocError>
+        requires { length kept.now.items ≡ length self.now.atoms.items }
+        ensures { IfOk result (λ it. it ≡ kept_atoms self.now.atoms.items kept.now.items) }
     {
         let mut all = List::new(alloc);
         for n in 0..self.atoms.len() {
-            add_if(alloc, &mut all, &self.atoms[n], self.kept[n])?;
+            add_if(alloc, &mut all, &self.atoms[n], kept[n])?;
         }
         Ok(all)
     }
@@ -314,4 +400,17 @@ fn add_if(alloc: Global, all: &mut List<Atom>, atom: &Atom, kept: bool) -> Resul
         all.push(atom.copy(alloc)?)?;
     }
     Ok(())
+}
+
+/// Whether each that is kept of some is kept of all.
+fn are_among(some: &Vec<bool>, all: &Vec<bool>) -> bool
+    requires { length some.now.items ≡ length all.now.items }
+    ensures { IsTrue result → AreAmong some.now.items all.now.items }
+{
+    for n in 0..some.len() {
+        if some[n] && !all[n] {
+            return false;
+        }
+    }
+    true
 }

@@ -6,6 +6,7 @@ mod copies;
 mod dropping;
 mod gap;
 mod general;
+mod guessing;
 pub mod laws;
 mod layout;
 mod leaving;

@@ -1,10 +1,23 @@
 use Rattle.std.proofs.Common.{◌≡◌, ◌≤◌, ap, arith, length, refl, subst, sym, ◌∙◌}
 use Rattle.ba_general.proofs.AtOnceLemmas.{last_moved, last_none}
+use Rattle.ba_general.proofs.GuessLemmas.{guess_moved}
 use Rattle.ba_general.proofs.LeftLemmas.{condition_accepted}
 use Rattle.ba_general.proofs.WholePassLemmas.{all_fit, behind, condition_left, ends_up, pass_condition, proof_left, proof_of_pattern, still_kept}
 use Rattle.ba_general.specs.Conditions.{AtomsFit}
 use Rattle.ba_general.specs.Dropping.{IsAccepted, kept_atoms}
 use Rattle.ba_general.proofs.dropping.under_condition.Goals as goal
+
+pub guess-requires-clause-atoms : goal.guess-requires-clause-atoms
+guess-requires-clause-atoms c =
+    let pass = c.in_ok-pass.pass in
+    let fit = all_fit c.args.pattern.now pass.atoms.items pass.ends c.requires.fits c.in_ok-pass.ensures.full.full in
+    subst (λ p. AtomsFit p.now.problem c.in_ok-pass.pass.atoms.items) (sym c.in_ok-pass.ensures.of.0) fit
+
+pub guess-requires-clause-first : goal.guess-requires-clause-first
+guess-requires-clause-first c =
+    let pass = c.in_ok-pass.pass in
+    let up = ends_up c.args.pattern.now.operands pass.atoms.items pass.ends c.in_ok-pass.ensures.full.full in
+    up.all
 
 pub drop_unequal-requires-clause-atoms : goal.drop_unequal-requires-clause-atoms
 drop_unequal-requires-clause-atoms c =
@@ -63,6 +76,23 @@ drop_equal-requires-clause-last c =
     let one = c.drop_unequal.ensures.same in
     last_moved pass.pattern.now.problem p1.pattern.now.problem pass.steps.now p1.steps.now pass.atoms.items p1.atoms.items p1.kept.items p1.kept.items p1.last p1.last
     (ap (λ p. p.now.problem) (sym one.1)) (ap (λ s. s.now) (sym one.2)) (ap (λ xs. xs.items) (sym one.0)) refl refl c.in_ok-drop_unequal.ensures.last
+
+pub drop_equal-requires-clause-guess : goal.drop_equal-requires-clause-guess
+drop_equal-requires-clause-guess c =
+    let pass = c.in_ok-pass.pass in
+    let p1 = c.drop_unequal.new.self in
+    let one = c.drop_unequal.ensures.same in
+    guess_moved pass.pattern.now.problem p1.pattern.now.problem pass.steps.now p1.steps.now pass.atoms.items p1.atoms.items c.in_ok-guess.guess
+    (ap (λ p. p.now.problem) (sym one.1)) (ap (λ s. s.now) (sym one.2)) (ap (λ xs. xs.items) (sym one.0)) c.in_ok-guess.ensures
+
+pub proof-requires-clause-guess : goal.proof-requires-clause-guess
+proof-requires-clause-guess c =
+    let pass = c.in_ok-pass.pass in
+    let p2 = c.drop_equal.new.self in
+    let one = c.drop_unequal.ensures.same in
+    let two = c.drop_equal.ensures.same in
+    guess_moved pass.pattern.now.problem p2.pattern.now.problem pass.steps.now p2.steps.now pass.atoms.items p2.atoms.items c.in_ok-guess.guess
+    (ap (λ p. p.now.problem) (sym (two.1 ∙ one.1))) (ap (λ s. s.now) (sym (two.2 ∙ one.2))) (ap (λ xs. xs.items) (sym (two.0 ∙ one.0))) c.in_ok-guess.ensures
 
 pub proof-requires-clause-atoms : goal.proof-requires-clause-atoms
 proof-requires-clause-atoms c =

@@ -5,6 +5,7 @@ use Rattle.ba_general.proofs.AcceptedLemmas.{each_dropped}
 use Rattle.ba_general.proofs.AtOnceLemmas.{earlier_refused, last_moved, refused_anyhow, refused_moved, tried_gone, tried_kept, tried_refused, without_long}
 use Rattle.ba_general.proofs.DroppingLemmas.{halves_run}
 use Rattle.ba_general.proofs.FullLemmas.{atoms_can}
+use Rattle.ba_general.proofs.GuessLemmas.{guess_moved}
 use Rattle.ba_general.proofs.PassLemmas.{empty_run, run_one, run_told}
 use Rattle.ba_general.proofs.RunLemmas.{back_kept, front_kept, middle_in, run_moved}
 use Rattle.ba_general.specs.Conditions.{AtomsFit, PatternFits}
@@ -84,7 +85,12 @@ drop_run-requires t c =
     let last = last_moved self.pattern.now.problem c.drops.new.self.pattern.now.problem self.steps.now c.drops.new.self.steps.now self.atoms.items c.drops.new.self.atoms.items
     c.drops.new.self.kept.items c.drops.new.self.kept.items c.drops.new.self.last c.drops.new.self.last (ap (λ p. p.now.problem) (sym same.1)) (ap (λ s. s.now) (sym same.2))
     (ap (λ xs. xs.items) (sym same.0)) refl refl c.in_ok-gone.ensures.last in
-    (omega (arith, c.decreases, c.if-first-end.false, c.if-end-first-eq1.false), (fits, (few, (atoms_fit, (there, (flags, (all, (last, λ no. absurd (false≢true no)))))))))
+    let guessed =
+    guess_moved self.pattern.now.problem c.drops.new.self.pattern.now.problem self.steps.now c.drops.new.self.steps.now self.atoms.items c.drops.new.self.atoms.items c.args.guess.now
+    (ap (λ p. p.now.problem) (sym c.drops.ensures.same.1))
+    (ap (λ s. s.now) (sym c.drops.ensures.same.2))
+    (ap (λ xs. xs.items) (sym c.drops.ensures.same.0)) c.requires.guess in
+    (omega (arith, c.decreases, c.if-first-end.false, c.if-end-first-eq1.false), (fits, (few, (atoms_fit, (there, (flags, (all, (last, ((λ no. absurd (false≢true no)), guessed)))))))))
 
 pub drop_run-requires-2 : goal.drop_run-requires-2
 drop_run-requires-2 t c =
@@ -111,6 +117,11 @@ drop_run-requires-2 t c =
     let last = last_moved c.drops.new.self.pattern.now.problem c.drop_run.new.self.pattern.now.problem c.drops.new.self.steps.now c.drop_run.new.self.steps.now
     c.drops.new.self.atoms.items c.drop_run.new.self.atoms.items c.drop_run.new.self.kept.items c.drop_run.new.self.kept.items c.drop_run.new.self.last c.drop_run.new.self.last
     (ap (λ p. p.now.problem) (sym one.1)) (ap (λ s. s.now) (sym one.2)) (ap (λ xs. xs.items) (sym one.0)) refl refl c.in_ok-later.ensures.last in
+    let guessed =
+    guess_moved self.pattern.now.problem c.drop_run.new.self.pattern.now.problem self.steps.now c.drop_run.new.self.steps.now self.atoms.items c.drop_run.new.self.atoms.items c.args.guess.now
+    (ap (λ p. p.now.problem) (sym (c.drop_run.ensures.same.1 ∙ c.drops.ensures.same.1)))
+    (ap (λ s. s.now) (sym (c.drop_run.ensures.same.2 ∙ c.drops.ensures.same.2)))
+    (ap (λ xs. xs.items) (sym (c.drop_run.ensures.same.0 ∙ c.drops.ensures.same.0))) c.requires.guess in
     let whole : IsRefusedAtOnce (IsAccepted c.args.self.now.pattern.now.problem c.args.self.now.steps.now) c.args.self.now.atoms.items c.args.self.now.kept.items c.args.first c.args.end =
     refused_anyhow (IsRefusedAtOnce P self.atoms.items self.kept.items c.args.first c.args.end) c.args.refused c.requires.refused
     (tried_refused P self.atoms.items self.kept.items c.drops.new.self.kept.items c.args.first c.args.end c.in_ok-gone.gone c.in_ok-gone.ensures.tried
@@ -130,13 +141,16 @@ drop_run-requires-2 t c =
                   all,
                   (
                     last,
-                    λ yes.
-                        refused_moved self.pattern.now.problem c.drop_run.new.self.pattern.now.problem self.steps.now c.drop_run.new.self.steps.now self.atoms.items
-                        c.drop_run.new.self.atoms.items c.drop_run.new.self.kept.items c.args.first (c.args.first + (c.args.end - c.args.first) / 2)
-                        (ap (λ p. p.now.problem) (sym pattern)) (ap (λ s. s.now) (sym steps)) (ap (λ xs. xs.items) (sym atoms))
-                        (earlier_refused P self.atoms.items self.kept.items c.drop_run.new.self.kept.items c.args.first (c.args.first + (c.args.end - c.args.first) / 2) c.args.end
-                        middle.0 middle.1 (omega (arith, c.requires.flags, c.requires.there)) whole
-                        (c.in_ok-later.ensures.gone yes ∙ ap (λ ks. without_run ks (c.args.first + (c.args.end - c.args.first) / 2) c.args.end) kept)),
+                    (
+                      (λ yes.
+                          refused_moved self.pattern.now.problem c.drop_run.new.self.pattern.now.problem self.steps.now c.drop_run.new.self.steps.now self.atoms.items
+                          c.drop_run.new.self.atoms.items c.drop_run.new.self.kept.items c.args.first (c.args.first + (c.args.end - c.args.first) / 2)
+                          (ap (λ p. p.now.problem) (sym pattern)) (ap (λ s. s.now) (sym steps)) (ap (λ xs. xs.items) (sym atoms))
+                          (earlier_refused P self.atoms.items self.kept.items c.drop_run.new.self.kept.items c.args.first (c.args.first + (c.args.end - c.args.first) / 2) c.args.end
+                          middle.0 middle.1 (omega (arith, c.requires.flags, c.requires.there)) whole
+                          (c.in_ok-later.ensures.gone yes ∙ ap (λ ks. without_run ks (c.args.first + (c.args.end - c.args.first) / 2) c.args.end) kept))),
+                      guessed,
+                    ),
                   ),
                 ),
               ),

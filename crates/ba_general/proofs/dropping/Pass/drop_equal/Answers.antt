@@ -1,6 +1,7 @@
 use Rattle.std.proofs.Common.{◌+◌, ◌-◌, ◌/◌, ◌≤◌, ap, arith, length, refl, subst, sym, ◌∙◌}
 use Rattle.ba_general.proofs.AtOnceLemmas.{last_moved}
 use Rattle.ba_general.proofs.DroppingLemmas.{halves_run}
+use Rattle.ba_general.proofs.GuessLemmas.{guess_moved}
 use Rattle.ba_general.proofs.RunLemmas.{back_kept, front_kept, middle_in, run_moved}
 use Rattle.ba_general.specs.Conditions.{AtomsFit}
 use Rattle.ba_general.specs.Dropping.{IsAccepted}
@@ -58,3 +59,11 @@ returns-clause-last c =
     last_moved c.drop_run.new.self.pattern.now.problem self.pattern.now.problem c.drop_run.new.self.steps.now self.steps.now c.drop_run.new.self.atoms.items self.atoms.items
     c.drop_run-2.new.self.kept.items c.drop_run-2.new.self.kept.items c.drop_run-2.new.self.last c.drop_run-2.new.self.last (ap (λ p. p.now.problem) one.1)
     (ap (λ s. s.now) one.2) (ap (λ xs. xs.items) one.0) refl refl c.in_ok-drop_run-2.ensures.last
+
+pub drop_run-requires-2-clause-guess : goal.drop_run-requires-2-clause-guess
+drop_run-requires-2-clause-guess c =
+    let self = c.args.self.now in
+    guess_moved self.pattern.now.problem c.drop_run.new.self.pattern.now.problem self.steps.now c.drop_run.new.self.steps.now self.atoms.items c.drop_run.new.self.atoms.items c.args.guess.now
+    (ap (λ p. p.now.problem) (sym c.drop_run.ensures.same.1))
+    (ap (λ s. s.now) (sym c.drop_run.ensures.same.2))
+    (ap (λ xs. xs.items) (sym c.drop_run.ensures.same.0)) c.requires.guess

@@ -2,6 +2,7 @@ use Rattle.std.proofs.Common.{◌≤◌, ap, arith, drop, length, refl, subst, s
 use Rattle.std.proofs.lemmas.List.{length-replicate}
 use Rattle.ba_general.proofs.AtOnceLemmas.{groups_at_once, last_moved, tried_gone, tried_kept}
 use Rattle.ba_general.proofs.FullLemmas.{atoms_can}
+use Rattle.ba_general.proofs.GuessLemmas.{guess_moved}
 use Rattle.ba_general.proofs.WholePassLemmas.{behind, groups_dropped, still_kept}
 use Rattle.ba_general.specs.Conditions.{AtomsFit, DropsGroups}
 use Rattle.ba_general.specs.Dropping.{IsAccepted}
@@ -159,3 +160,27 @@ returns-clause-last c =
     last_moved c.drop_run-2.new.self.pattern.now.problem self.pattern.now.problem c.drop_run-2.new.self.steps.now self.steps.now c.drop_run-2.new.self.atoms.items self.atoms.items
     c.drop_run-3.new.self.kept.items c.drop_run-3.new.self.kept.items c.drop_run-3.new.self.last c.drop_run-3.new.self.last (ap (λ p. p.now.problem) (c.drop_run-2.ensures.same.1 ∙ (c.drop_run.ensures.same.1 ∙ same.1)))
     (ap (λ s. s.now) (c.drop_run-2.ensures.same.2 ∙ (c.drop_run.ensures.same.2 ∙ same.2))) (ap (λ xs. xs.items) (c.drop_run-2.ensures.same.0 ∙ (c.drop_run.ensures.same.0 ∙ same.0))) refl refl c.in_ok-drop_run-3.ensures.last
+
+pub drop_run-requires-clause-guess : goal.drop_run-requires-clause-guess
+drop_run-requires-clause-guess c =
+    let self = c.args.self.now in
+    guess_moved self.pattern.now.problem c.drops.new.self.pattern.now.problem self.steps.now c.drops.new.self.steps.now self.atoms.items c.drops.new.self.atoms.items c.args.guess.now
+    (ap (λ p. p.now.problem) (sym c.drops.ensures.same.1))
+    (ap (λ s. s.now) (sym c.drops.ensures.same.2))
+    (ap (λ xs. xs.items) (sym c.drops.ensures.same.0)) c.requires.guess
+
+pub drop_run-requires-2-clause-guess : goal.drop_run-requires-2-clause-guess
+drop_run-requires-2-clause-guess c =
+    let self = c.args.self.now in
+    guess_moved self.pattern.now.problem c.drop_run.new.self.pattern.now.problem self.steps.now c.drop_run.new.self.steps.now self.atoms.items c.drop_run.new.self.atoms.items c.args.guess.now
+    (ap (λ p. p.now.problem) (sym (c.drop_run.ensures.same.1 ∙ c.drops.ensures.same.1)))
+    (ap (λ s. s.now) (sym (c.drop_run.ensures.same.2 ∙ c.drops.ensures.same.2)))
+    (ap (λ xs. xs.items) (sym (c.drop_run.ensures.same.0 ∙ c.drops.ensures.same.0))) c.requires.guess
+
+pub drop_run-requires-3-clause-guess : goal.drop_run-requires-3-clause-guess
+drop_run-requires-3-clause-guess c =
+    let self = c.args.self.now in
+    guess_moved self.pattern.now.problem c.drop_run-2.new.self.pattern.now.problem self.steps.now c.drop_run-2.new.self.steps.now self.atoms.items c.drop_run-2.new.self.atoms.items c.args.guess.now
+    (ap (λ p. p.now.problem) (sym (c.drop_run-2.ensures.same.1 ∙ (c.drop_run.ensures.same.1 ∙ c.drops.ensures.same.1))))
+    (ap (λ s. s.now) (sym (c.drop_run-2.ensures.same.2 ∙ (c.drop_run.ensures.same.2 ∙ c.drops.ensures.same.2))))
+    (ap (λ xs. xs.items) (sym (c.drop_run-2.ensures.same.0 ∙ (c.drop_run.ensures.same.0 ∙ c.drops.ensures.same.0)))) c.requires.guess
