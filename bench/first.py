@@ -48,16 +48,18 @@ def asked():
     return [covered, *(it for it in questions.kinds() if it.said in ("proof", "refuted"))]
 
 
+def script(ask, count, is_asked):
+    """So many requests, each of which asks the question with a head of its own, or without the question."""
+    for further in heads(ask.name, count):
+        yield from request(ask._replace(question=headed(ask.question, further)), is_asked)
+
+
 class Firsts(Program):
     """Runs of requests each of which asks a question of a shape of its own."""
 
-    def script(self, ask, count, is_asked):
-        for further in heads(ask.name, count):
-            yield from request(ask._replace(question=headed(ask.question, further)), is_asked)
-
     def used_by(self, folder, ask, count, is_asked):
         name = f"script{int(is_asked)}.jsonl"
-        write_lines(f"{folder}/{name}", list(self.script(ask, count, is_asked)))
+        write_lines(f"{folder}/{name}", list(script(ask, count, is_asked)))
         ran = self.run(folder, ask, name)
         expect(ran.status, 0, f"the status of {ask.name}")
         if is_asked:

@@ -3,7 +3,7 @@
 
 Both are `blockaid`, such as out/blockaid of two clones, built in the same way. The parts are `kinds`, `entries`, `compared`, `views` and `hard`,
 whose questions are those of bench/search.py; `answers`, those of bench/bench.py over tables of a thousand rows; `requests`, the lines of
-bench/sessions.py; `workload`, `gen` with one worker; and `nullable`, the questions of `kinds` by the second program alone, over their own
+bench/sessions.py; `workload`, `gen` with one worker; `shapes`, the questions of bench/first.py, each time of a shape that is new; and `nullable`, the questions of `kinds` by the second program alone, over their own
 schema and over one in which each column that is in no PRIMARY KEY may be NULL. A script is run with the questions and without them, under valgrind's callgrind;
 the difference, by their number, is what one costs. That doesn't depend on what else the machine does, as seconds do. Prints a table in
 Markdown, a line for each question.
@@ -17,6 +17,7 @@ import sys
 import tempfile
 
 import bench
+import first
 import questions
 import sessions
 from asks import write_files, write_scripts
@@ -24,6 +25,8 @@ from bench import expect
 
 # The most instructions of one question that is asked more than once.
 FEW = 10_000_000
+# How many shapes a question of `shapes` has.
+SHAPES = 8
 # How many rows a table of `answers` has, and how many requests there are of `requests` and `workload`.
 ROWS, REQUESTS = 1_000, 256
 
@@ -130,6 +133,17 @@ def tell_nullable(program, asks):
         tell(ask.name, *found)
 
 
+def tell_shapes(programs):
+    """A line for each kind of question: the instructions of a whole ask whose shape is new."""
+    for ask in first.asked():
+        with tempfile.TemporaryDirectory() as folder:
+            write_files(folder, ask)
+            for script, is_asked in (("none", False), ("all", True)):
+                bench.write_lines(f"{folder}/{script}", list(first.script(ask, SHAPES, is_asked)))
+            found = [counted(ask.name, folder, run_words(it, "all")) - counted(ask.name, folder, run_words(it, "none")) for it in programs]
+        tell(ask.name, *(it / SHAPES for it in found))
+
+
 def tell_workload(programs):
     """The instructions of a request of `gen`, and the whole of a run of one request."""
     with tempfile.TemporaryDirectory() as folder:
@@ -144,6 +158,7 @@ OTHERS = {
     "answers": tell_answers,
     "requests": lambda programs, asks: tell_requests(programs),
     "workload": lambda programs, asks: tell_workload(programs),
+    "shapes": lambda programs, asks: tell_shapes(programs),
     "nullable": lambda programs, asks: tell_nullable(programs[-1], asks),
 }
 
