@@ -1,11 +1,13 @@
 -- Mappings that give an atom have facts with its unknowns.
-use Rattle.std.proofs.Common.{◌≡◌, ℕ, zero, suc, ◌+◌, ◌<◌, ◌≤◌, inl, inr, List, [], ◌∷◌, length, map, Some, refl, ap, subst, arith}
-use Rattle.std.proofs.lemmas.Bool.{cases_lt}
-use Rattle.std.proofs.lemmas.Option.{slice_get_past}
+use Rattle.std.proofs.Common.{◌≡◌, ◌∙◌, ℕ, zero, suc, ◌+◌, ◌≤◌, List, [], ◌∷◌, map, Option, Some, None, refl, sym, ap, subst, arith}
+use Rattle.std.proofs.lemmas.Option.{slice_get-get_or}
 use Rattle.std.specs.List.{Any}
 use Rattle.std.specs.Prelude.{option_map, slice_get, unwrap_or}
+use Rattle.ba_facts.specs.Laid.{IsHolder, IsTermOf}
 use Rattle.ba_facts.specs.Matches.{GivesAtom, round_of, term_of, terms_at}
+use Rattle.ba_facts.specs.Walks.{round_at}
 use Rattle.ba_facts.specs.declared.branch.Branch.{Branch}
+use Rattle.ba_facts.specs.declared.term.Fact.{Fact}
 use Rattle.ba_facts.specs.declared.term.Term.{Term}
 use Rattle.ba_facts.specs.declared.term.Term.TheVariants.{Unknown}
 use Rattle.ba_facts.specs.declared.term.TermAtom.{TermAtom}
@@ -20,21 +22,39 @@ use Rattle.ba_model.specs.declared.query.Operand.TheVariants.{Col, Val, Param, V
 any_at : {X : Type 0} (P : X → Type 0) (xs : List X) (n : ℕ) (x : X) → slice_get xs n ≡ Some x → P x → Any P xs
 any_at P xs n x there p = let h = Contains-at xs n x there in (h.0, x, h.1, h.2, p)
 
--- a fact with such a term is there
-pub is_there : (b : Branch) (fact : ℕ) (P : Term → Type 0) → Any P (terms_at b fact) → fact < length b.facts
-is_there b fact P h = elim (cases_lt fact (length b.facts)) [
-  | inl below ↦ below
-  | inr past ↦
-      let gone : terms_at b fact ≡ [] = ap (λ found. unwrap_or (option_map (λ it. it.terms) found) []) (slice_get_past b.facts fact past) in
-      absurd (none P (subst (Any P) gone h))
-]
-  where
-    none : (Q : Term → Type 0) → Any Q [] → ⊥
-    none Q (k, x, below, at, q) = omega (arith, below)
-
 -- no fact that has the unknown is of an earlier round
 abbrev pub IsBeforeNone : Branch → ℕ → ℕ → Type 0
 IsBeforeNone b n least = (fact : ℕ) → Any (λ term. term ≡ Unknown n) (terms_at b fact) → least ≤ fact_round b fact
+
+-- the terms of a number without a fact are none
+none_has : (P : Term → Type 0) → Any P [] → ⊥
+none_has P (k, x, below, at, p) = omega (arith, below)
+
+-- a fact that has the unknown among its terms is its holder
+is_held : (b : Branch) (n fact : ℕ) → Any (λ term. term ≡ Unknown n) (terms_at b fact) → (found : Option Fact) → slice_get b.facts fact ≡ found →
+    IsTermOf b.facts n fact
+is_held b n fact h None is =
+    let gone : terms_at b fact ≡ [] = ap (λ found. unwrap_or (option_map (λ it. it.terms) found) []) is in
+    absurd (none_has (λ term. term ≡ Unknown n) (subst (Any (λ term. term ≡ Unknown n)) gone h))
+is_held b n fact h (Some it) is =
+    let same : terms_at b fact ≡ it.terms = ap (λ found. unwrap_or (option_map (λ it. it.terms) found) []) is in
+    let (k, term, below, at, e) = subst (Any (λ term. term ≡ Unknown n)) same h in
+    record { fact = it; there = is; column = k; has = slice_get-get_or it.terms k term below ∙ ap Some (at ∙ e) }
+
+module _ (b : Branch) (n : ℕ) (holder : Option ℕ) (exact : IsHolder b.facts n holder) where
+  -- the holder's round
+  pub held_round : (number : ℕ) → holder ≡ Some number → (round : ℕ) → round ≡ round_at b number → IsBeforeNone b n round
+  held_round number is round round_is fact h =
+      let other : Some number ≡ Some fact = sym is ∙ (exact fact).1 (is_held b n fact h (slice_get b.facts fact) refl) in
+      let same : number ≡ fact = cc other in
+      let e : round ≡ fact_round b fact = round_is ∙ ap (fact_round b) same in
+      omega (arith, e)
+
+  -- none has it
+  pub none_holds : (least : ℕ) → holder ≡ None → IsBeforeNone b n least
+  none_holds least is fact h =
+      let other : None ≡ Some fact = sym is ∙ (exact fact).1 (is_held b n fact h (slice_get b.facts fact) refl) in
+      absurd (cc other)
 
 module _ (b : Branch) (n least : ℕ) (before : IsBeforeNone b n least) where
   column_round : (facts : List ℕ) (place column : ℕ) → term_of (map (terms_at b) facts) (Col place column) ≡ Some (Unknown n) → least ≤ round_of b facts

@@ -44,7 +44,7 @@ impl<'a> Scan<'a> {
 }
 
 /// The terms of the facts of each open branch are its unknowns, fact by fact: its course says so.
-fn facts_are_laid(search: &Search)
+pub fn facts_are_laid(search: &Search)
     ensures { (number : ℕ) (b : ABranch) → IsOpen search.now.slots number b → IsLaid b }
 {
     let _steps = search.steps();

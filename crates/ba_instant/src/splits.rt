@@ -7,6 +7,7 @@ ghost use Rattle.ba_instant.specs.Scans.{ImprovesBy, IsScan};
 ghost use Rattle.ba_instant.specs.Offers.{IsSplitOfAtom, IsSplitOfPart, IsSplitOfParts, IsSplitOfRules, IsSplitOfSides, IsSplitOfViews, IsSplitStep};
 
 use crate::batch::{Batch, is_timely};
+use crate::partners::facts_are_laid;
 use crate::scan::Scan;
 use crate::spread::Spread;
 use crate::standing::least_standing;
@@ -140,6 +141,7 @@ impl<'a> Scan<'a> {
             self.branch.term_of(facts, &atom.right),
         ) {
             (Some(left), Some(right)) => {
+                facts_are_laid(self.search);
                 let atom = term_atom(self.alloc, atom.op, left, right)?;
                 let before = self.quiet.max(least_standing(self.branch, &atom));
                 let step = Step::Split {

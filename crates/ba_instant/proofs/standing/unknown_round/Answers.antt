@@ -1,11 +1,9 @@
-use Rattle.std.proofs.Common.{◌≡◌, arith}
-use Rattle.ba_facts.specs.declared.term.Term.TheVariants.{Unknown}
-use Rattle.ba_instant.proofs.StandingLemmas.{is_there}
+use Rattle.ba_instant.proofs.StandingLemmas.{held_round, none_holds}
 use Rattle.ba_instant.proofs.standing.unknown_round.Goals as goal
 
-pub returns : goal.returns
-returns c = λ fact stands.
-    let there = is_there c.args.branch.now fact (λ term. term ≡ Unknown c.args.unknown) stands in
-    let past = c.loop-number-test.false in
-    let end = c.len-number-end.ensures in
-    c.loop-number.invariant fact (omega (arith, there, past, end)) stands
+pub returns-in-Some : goal.returns-in-Some
+returns-in-Some c =
+    held_round c.args.branch.now c.args.unknown c.holder.result c.holder.ensures c.in-Some.number c.in-Some.is c.round_at.result c.round_at.ensures
+
+pub returns-in-None : goal.returns-in-None
+returns-in-None c = none_holds c.args.branch.now c.args.unknown c.holder.result c.holder.ensures _ c.in-None.is
