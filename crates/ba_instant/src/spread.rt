@@ -222,7 +222,8 @@ fn names(place: usize, cond: &Atom) -> bool
     is_at(place, &cond.left) || is_at(place, &cond.right)
 }
 
-fn is_at(place: usize, operand: &Operand) -> bool
+/// Whether the operand is a column of the place.
+pub fn is_at(place: usize, operand: &Operand) -> bool
     ensures { IsTrue result ↔ IsAt place operand.now }
 {
     match operand {
