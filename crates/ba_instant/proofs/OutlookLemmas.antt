@@ -1,9 +1,9 @@
 -- Whether a part can be mapped to facts at all.
-use Rattle.std.proofs.Common.{◌≡◌, ◌∙◌, ℕ, zero, suc, ◌+◌, ◌<◌, ◌≤◌, inl, inr, List, [], ◌∷◌, ◌++◌, get_or, length, map, refl, sym, ap, subst, arith}
-use Rattle.std.proofs.lemmas.List.Elements.{All-append, All-cons, All-contains, All-nil, Contains-append_left, Contains-push, Contains-push_cases}
+use Rattle.std.proofs.Common.{◌≡◌, ◌∙◌, ℕ, zero, suc, ◌+◌, ◌<◌, ◌≤◌, inl, inr, List, [], ◌∷◌, ◌++◌, get_or, length, map, refl, set, sym, ap, subst, arith}
+use Rattle.std.proofs.lemmas.List.Elements.{All-append, All-cons, All-contains, All-nil, All-weaker, Contains-append_left, Contains-push, Contains-push_cases}
 use Rattle.std.proofs.lemmas.Option.{slice_get-map, slice_get_within}
 use Rattle.std.specs.List.{All, AllZip, Contains}
-use Rattle.std.specs.Prelude.{Some, None, option_and_then, option_map, slice_get}
+use Rattle.std.specs.Prelude.{Some, None, option_and_then, option_copied, option_map, slice_get}
 use Rattle.ba_model.specs.declared.query.Atom.{Atom}
 use Rattle.ba_model.specs.declared.query.Operand.{Operand}
 use Rattle.ba_model.specs.declared.query.Operand.TheVariants.{Col, Val, Param, Var}
@@ -13,7 +13,11 @@ use Rattle.ba_facts.specs.Shown.{TheSame}
 use Rattle.ba_facts.specs.Walks.{IsWanted}
 use Rattle.ba_facts.specs.declared.branch.Branch.{Branch}
 use Rattle.ba_facts.specs.declared.term.Term.{Term}
-use Rattle.ba_instant.specs.Outlooks.{AreApart, AreWithin, FailsWith, GivesOther, HasOne, IsDifferent, IsOut, IsSought, Keeps, KeepsAt, MeetsAt, NeedsOnly, NoneSought, NoneWithin, OffersAll, Stands, term_with}
+use Rattle.ba_facts.specs.declared.walk.Wanted.{Wanted}
+use Rattle.ba_facts.specs.declared.walk.Wanted.TheVariants.{Live, Shown}
+use Rattle.ba_instant.proofs.AlikeLemmas.{Likes, like_fact, like_head, like_live, like_shown, like_turned, likes_itself}
+use Rattle.ba_instant.specs.Outlooks.{AreApart, AreWithin, FailsWith, GivesOther, HasLike, HasOne, IsDifferent, IsNeedless, IsOut, IsSought, Keeps, KeepsAt, MeetsAt, NeedsOnly, NoneSought, NoneWithin, OffersLike, Stands, term_with}
+use Rattle.ba_instant.specs.Spreads.{IsLike}
 use Rattle.ba_instant.specs.declared.outlook.Left.{Left}
 use Rattle.ba_instant.specs.declared.outlook.Outlook.{Outlook}
 use Rattle.ba_instant.specs.declared.outlook.Placed.{Placed}
@@ -34,6 +38,25 @@ zip_there R [] ys i x h left = absurd (let wrong : None ≡ Some x = left in cc)
 zip_there R (a ∷ xs) [] i x h left = absurd h
 zip_there R (a ∷ xs) (b ∷ ys) zero x h left = (b, refl)
 zip_there R (a ∷ xs) (b ∷ ys) (suc i) x h left = zip_there R xs ys i x h.1 left
+
+-- ---- another fact at a place
+
+get_set : {X : Type 0} (xs : List X) (i : ℕ) (x y : X) → slice_get xs i ≡ Some x → slice_get (set xs i y) i ≡ Some y
+get_set [] i x y at = absurd (let wrong : None ≡ Some x = at in cc)
+get_set (a ∷ xs) zero x y at = refl
+get_set (a ∷ xs) (suc i) x y at = get_set xs i x y at
+
+get_beside : {X : Type 0} (xs : List X) (p i : ℕ) (y : X) → p < i → slice_get (set xs i y) p ≡ slice_get xs p
+get_beside [] p i y less = refl
+get_beside (a ∷ xs) p zero y less = absurd (omega (arith, less))
+get_beside (a ∷ xs) zero (suc i) y less = refl
+get_beside (a ∷ xs) (suc p) (suc i) y less = get_beside xs p i y (omega (arith, less))
+
+likes_set : (b : Branch) (facts : List ℕ) (i n m : ℕ) → slice_get facts i ≡ Some n → IsLike b n m → Likes b facts (set facts i m)
+likes_set b [] i n m at like = tt
+likes_set b (x ∷ facts) zero n m at like =
+    let same : n ≡ x = cc (at) in (subst (λ k. IsLike b k m) same like, likes_itself b facts)
+likes_set b (x ∷ facts) (suc i) n m at like = (inl refl, likes_set b facts i n m at like)
 
 -- ---- what operands stand for
 
@@ -92,53 +115,111 @@ module _ (it : Outlook) where
   -- ---- the facts for a place
 
   abbrev pub OffersBelow : ℕ → List ℕ → ℕ → Type 0
-  OffersBelow place numbers end = (facts : List ℕ) (n : ℕ) → IsSought it facts → slice_get facts place ≡ Some n → n < end → Contains numbers n
+  OffersBelow place numbers end = (facts : List ℕ) (n : ℕ) → IsSought it facts → slice_get facts place ≡ Some n → n < end → HasLike b n numbers
+
+  has_more : (numbers : List ℕ) (last n : ℕ) → HasLike b n numbers → HasLike b n (numbers ++ last ∷ [])
+  has_more numbers last n h = record { other = h.other; among = Contains-append_left numbers (last ∷ []) h.other h.among; like = h.like }
 
   pub offers_none : (place : ℕ) (numbers : List ℕ) → OffersBelow place numbers 0
   offers_none place numbers facts n sought there below = absurd (omega (arith, below))
 
   pub offers_push : (place : ℕ) (numbers more : List ℕ) (end : ℕ) → more ≡ numbers ++ end ∷ [] → OffersBelow place numbers end → OffersBelow place more (end + 1)
   offers_push place numbers more end is before facts n sought there below =
-      subst (λ xs. Contains xs n) (sym is)
+      subst (HasLike b n) (sym is)
       (elim (upto n end below) [
-        | inl less ↦ Contains-append_left numbers (end ∷ []) n (before facts n sought there less)
-        | inr same ↦ subst (Contains (numbers ++ end ∷ [])) (sym same) (Contains-push numbers end)
+        | inl less ↦ has_more numbers end n (before facts n sought there less)
+        | inr same ↦ record { other = end; among = Contains-push numbers end; like = inl same }
       ])
 
-  pub offers_skip : (place : ℕ) (numbers more : List ℕ) (end : ℕ) → more ≡ numbers → IsOut it (record { place = place; fact = end }) → OffersBelow place numbers end →
-      OffersBelow place more (end + 1)
+  -- the fact can't stand at the place, or is alike to one of these
+  needless : (place : ℕ) (numbers : List ℕ) (own : Placed) → own.place ≡ place → IsNeedless it own numbers → (facts : List ℕ) → IsSought it facts →
+      slice_get facts place ≡ Some own.fact → HasLike b own.fact numbers
+  needless place numbers own same (inl out) facts sought there = absurd (out facts sought (subst (λ p. slice_get facts p ≡ Some own.fact) (sym same) there))
+  needless place numbers own same (inr (k, other, inside, at, alike)) facts sought there =
+      record { other = other; among = (k, inside, at); like = like_turned b other own.fact (inr alike) }
+
+  pub offers_skip : (place : ℕ) (numbers more : List ℕ) (end : ℕ) → more ≡ numbers → IsNeedless it (record { place = place; fact = end }) numbers →
+      OffersBelow place numbers end → OffersBelow place more (end + 1)
   offers_skip place numbers more end is out before facts n sought there below =
-      subst (λ xs. Contains xs n) (sym is)
+      subst (HasLike b n) (sym is)
       (elim (upto n end below) [
         | inl less ↦ before facts n sought there less
-        | inr same ↦ absurd (out facts sought (subst (λ m. slice_get facts place ≡ Some m) same there))
+        | inr same ↦
+            subst (λ m. HasLike b m numbers) (sym same)
+            (needless place numbers (record { place = place; fact = end }) refl out facts sought (subst (λ m. slice_get facts place ≡ Some m) same there))
       ])
 
   pub offers_all : (place table : ℕ) (numbers : List ℕ) (end : ℕ) → slice_get it.walk.part.now.from place ≡ Some table → length it.walk.branch.now.facts ≤ end →
-      OffersBelow place numbers end → OffersAll it place numbers
+      OffersBelow place numbers end → OffersLike it place numbers
   offers_all place table numbers end at past below facts sought =
       let own = zip_there (IsFactOf b it.walk.side) it.walk.part.now.from facts place table (mapping facts sought) at in
       let fact = zip_at (IsFactOf b it.walk.side) it.walk.part.now.from facts place table own.0 (mapping facts sought) at own.1 in
       let inside : own.0 < length it.walk.branch.now.facts = slice_get_within it.walk.branch.now.facts own.0 fact.fact fact.there in
-      record { fact = own.0; there = own.1; among = below facts own.0 sought own.1 (omega (arith, inside, past)) }
+      record { fact = own.0; there = own.1; has = below facts own.0 sought own.1 (omega (arith, inside, past)) }
 
   -- ---- the places
 
-  -- what is looked for has one of those at each place
-  abbrev pub AllWithin : List Left → Type 0
-  AllWithin places = (facts : List ℕ) → IsSought it facts → AreWithin facts places
+  -- facts that are like those are looked for too
+  like_mapping : (from facts others : List ℕ) → Likes b facts others → IsMapping b it.walk.side from facts → IsMapping b it.walk.side from others
+  like_mapping [] [] [] like h = tt
+  like_mapping [] [] (y ∷ others) like h = like
+  like_mapping [] (x ∷ facts) others like h = absurd h
+  like_mapping (t ∷ from) [] others like h = absurd h
+  like_mapping (t ∷ from) (x ∷ facts) [] like h = absurd like
+  like_mapping (t ∷ from) (x ∷ facts) (y ∷ others) like h = (like_fact b it.walk.side t x y like.0 h.0, like_mapping from facts others like.1 h.1)
 
-  pub within_none : AllWithin []
-  within_none facts sought = All-nil (λ left. HasOne facts left.place left.facts.items)
+  like_met : (wanted : Wanted) (facts others : List ℕ) → Likes b facts others → (conds : List Atom) → All (Under (IsWanted b.known wanted) (map (terms_at b) facts)) conds →
+      All (Under (IsWanted b.known wanted) (map (terms_at b) others)) conds
+  like_met Live facts others like conds h = like_live b facts others like conds h
+  like_met Shown facts others like conds h = like_shown b facts others like conds h
 
-  pub within_push : (places more : List Left) (left : Left) → more ≡ places ++ left ∷ [] → OffersAll it left.place left.facts.items → AllWithin places → AllWithin more
-  within_push places more left is offers before facts sought =
-      subst (AreWithin facts) (sym is)
-      (All-append (λ left. HasOne facts left.place left.facts.items) places (left ∷ []) (before facts sought)
-      (All-cons (λ left. HasOne facts left.place left.facts.items) left [] (offers facts sought) (All-nil (λ left. HasOne facts left.place left.facts.items))))
+  like_sought : (facts others : List ℕ) → Likes b facts others → IsSought it facts → IsSought it others
+  like_sought facts others like sought = record {
+    completes = record {
+      rest = others;
+      facts_are = refl;
+      facts_of = like_mapping it.walk.part.now.from facts others like (mapping facts sought);
+      meets = like_met it.walk.wanted facts others like it.walk.part.now.conds (sought.completes).meets;
+    };
+    head = like_head b facts others like it.walk.part.now (option_copied it.row) sought.head;
+  }
 
-  pub within_all : (places : List Left) → AllWithin places → NoneWithin it places → NoneSought it
-  within_all places all none facts sought = none facts sought (all facts sought)
+  -- the places so far come before this one, and if nothing has one of the facts that are left at each of these, nothing is looked for
+  pub record LeadsBelow (places : List Left) (end : ℕ) : Type 0 where
+    pub below : All (λ left. left.place < end) places
+    pub leads : NoneWithin it places → NoneSought it
+
+  pub leads_none : (places : List Left) → places ≡ [] → LeadsBelow places 0
+  leads_none places is = record {
+    below = subst (All (λ left. left.place < 0)) (sym is) (All-nil (λ left. left.place < 0));
+    leads = λ none facts sought. none facts sought (subst (AreWithin facts) (sym is) (All-nil (λ left. HasOne facts left.place left.facts.items)));
+  }
+
+  -- another fact at a later place
+  within_set : (facts : List ℕ) (places : List Left) (end other : ℕ) → All (λ left. left.place < end) places → AreWithin facts places → AreWithin (set facts end other) places
+  within_set facts places end other below within k d inside =
+      let one = within k d inside in
+      let less = below k d inside in
+      record { fact = one.fact; there = get_beside facts (get_or places k d).place end other less ∙ one.there; among = one.among }
+
+  pub leads_push : (places more : List Left) (left : Left) → more ≡ places ++ left ∷ [] → OffersLike it left.place left.facts.items → LeadsBelow places left.place →
+      LeadsBelow more (left.place + 1)
+  leads_push places more left is offers before = record {
+    below = subst (All (λ it. it.place < left.place + 1)) (sym is)
+        (All-append (λ it. it.place < left.place + 1) places (left ∷ [])
+        (All-weaker (λ it. it.place < left.place) (λ it. it.place < left.place + 1) (λ it less. omega (arith, less)) places before.below)
+        (All-cons (λ it. it.place < left.place + 1) left [] (omega arith) (All-nil (λ it. it.place < left.place + 1))));
+    leads = λ none. before.leads (λ facts sought within.
+        let own = offers facts sought in
+        let turned = set facts left.place own.has.other in
+        none turned (like_sought facts turned (likes_set b facts left.place own.fact own.has.other own.there own.has.like) sought)
+        (subst (AreWithin turned) (sym is)
+        (All-append (λ it. HasOne turned it.place it.facts.items) places (left ∷ [])
+        (within_set facts places left.place own.has.other before.below within)
+        (All-cons (λ it. HasOne turned it.place it.facts.items) left []
+        (record { fact = own.has.other; there = get_set facts left.place own.fact own.has.other own.there; among = own.has.among })
+        (All-nil (λ it. HasOne turned it.place it.facts.items))))));
+  }
 
   -- ---- the facts that agree with a chosen one
 

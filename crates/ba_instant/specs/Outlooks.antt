@@ -1,17 +1,18 @@
 -- Whether a part can be mapped to facts at all.
-use Rattle.std.specs.Prelude.{◌≡◌, ◌⊎◌, ℕ, List, [], All, Contains, Option, Some, map, slice_get}
+use Rattle.std.specs.Prelude.{◌≡◌, ◌⊎◌, ℕ, List, [], All, Any, Contains, Option, Some, map, slice_get}
 use Rattle.std.specs.List.{AllZip}
 use Rattle.std.specs.Option.{option_copied}
 use Rattle.ba_model.specs.declared.query.Atom.{Atom}
 use Rattle.ba_model.specs.declared.query.Operand.{Operand}
 use Rattle.ba_model.specs.declared.query.Operand.TheVariants as operands
+use Rattle.ba_facts.specs.Alike.{AreAlike}
 use Rattle.ba_facts.specs.Matches.{AreTheSame, HeadIs, Under, row_of, term_of, terms_at}
 use Rattle.ba_facts.specs.Walks.{Completes, IsWanted}
 use Rattle.ba_facts.specs.declared.branch.Branch.{Branch}
 use Rattle.ba_facts.specs.declared.term.Term.{Term}
 use Rattle.ba_facts.specs.declared.term.Term.TheVariants as terms
 use Rattle.ba_facts.specs.declared.walk.Walk.{Walk}
-use Rattle.ba_instant.specs.Spreads.{IsAt}
+use Rattle.ba_instant.specs.Spreads.{IsAt, IsLike}
 use Rattle.ba_instant.specs.declared.outlook.Left.{Left}
 use Rattle.ba_instant.specs.declared.outlook.Outlook.{Outlook}
 use Rattle.ba_instant.specs.declared.outlook.Placed.{Placed}
@@ -51,6 +52,11 @@ NoneWithin it places = (facts : List ℕ) → IsSought it facts → AreWithin fa
 abbrev pub IsOut : Outlook → Placed → Type 0
 IsOut it own = (facts : List ℕ) → IsSought it facts → Stands facts own → ⊥
 
+-- or one of those that were taken is alike to it
+abbrev pub IsNeedless : Outlook → Placed → List ℕ → Type 0
+IsNeedless it own taken =
+    IsOut it own ⊎ Any (λ other. AreAlike it.walk.branch.now other own.fact) taken
+
 -- with the two at their places the atom isn't what is wanted
 abbrev pub AreApart : Outlook → Placed → Placed → Atom → Type 0
 AreApart it one other atom = (facts : List ℕ) → Stands facts one → Stands facts other →
@@ -70,9 +76,21 @@ GivesOther it own head row = (facts : List ℕ) → Stands facts own →
 
 -- ---- what is kept
 
--- whatever is looked for has one of these at the place
-abbrev pub OffersAll : Outlook → ℕ → List ℕ → Type 0
-OffersAll it place numbers = (facts : List ℕ) → IsSought it facts → HasOne facts place numbers
+-- one of these is the fact, or alike to it
+pub record HasLike (b : Branch) (fact : ℕ) (numbers : List ℕ) : Type 0 where
+  pub other : ℕ
+  pub among : Contains numbers other
+  pub like : IsLike b fact other
+
+-- whatever is looked for has a fact at the place, and one of these is that or alike to it
+pub record HasLikeAt (b : Branch) (facts : List ℕ) (place : ℕ) (numbers : List ℕ) : Type 0 where
+  pub fact : ℕ
+  pub there : slice_get facts place ≡ Some fact
+  pub has : HasLike b fact numbers
+
+abbrev pub OffersLike : Outlook → ℕ → List ℕ → Type 0
+OffersLike it place numbers = (facts : List ℕ) → IsSought it facts →
+    HasLikeAt it.walk.branch.now facts place numbers
 
 -- with the chosen one at its place it has one of those that are left, if it had one before
 abbrev pub KeepsAt : Outlook → Placed → ℕ → List ℕ → List ℕ → Type 0

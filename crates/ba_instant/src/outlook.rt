@@ -5,8 +5,9 @@ ghost use Rattle.std.specs.Prelude.{◌≡◌, ◌↔◌, ◌<◌, ◌≤◌, If
 ghost use Rattle.ba_facts.specs.Known.{seen};
 ghost use Rattle.ba_facts.specs.Matches.{terms_at};
 ghost use Rattle.ba_facts.specs.Walks.{IsWanted};
-ghost use Rattle.ba_instant.specs.Outlooks.{AreApart, FailsWith, GivesOther, IsDifferent, IsOut, Keeps, KeepsAt, Links, MeetsAt, NeedsOnly, NoneSought, NoneWithin, OffersAll, term_with};
+ghost use Rattle.ba_instant.specs.Outlooks.{AreApart, FailsWith, GivesOther, IsDifferent, IsNeedless, IsOut, Keeps, KeepsAt, Links, MeetsAt, NeedsOnly, NoneSought, NoneWithin, OffersLike, term_with};
 
+use crate::alike::has_alike;
 use crate::spread::is_at;
 use ba_facts::{Branch, Term, TermRef, Walk, Wanted};
 use ba_model::{Atom, List, Op, Operand, Part};
@@ -14,6 +15,9 @@ use std::alloc::{AllocError, Global};
 
 /// How many tables a part has at least that is looked at here. Fewer are walked through at once.
 const MANY_TABLES: usize = 3;
+
+/// With how many of those that were taken before it a fact is compared.
+const LAST_TAKEN: usize = 32;
 
 /// A part that is to be mapped to facts, and the row, if one is given, for its head.
 #[derive(Clone, Copy)]
@@ -72,17 +76,30 @@ impl<'a> Outlook<'a> {
     }
 
     /// The facts of the table that may stand at the place as far as this can be said of each alone.
+    /// Of those that are alike mostly only the first is taken.
     fn candidates(&self, place: usize, table: u32) -> Result<Vec<usize>, AllocError>
         requires { slice_get self.now.walk.part.now.from place ≡ Some table }
-        ensures { IfOk result (λ it. OffersAll self.now place it.items) }
+        ensures { IfOk result (λ it. OffersLike self.now place it.items) }
     {
         let mut facts = Vec::new(self.alloc);
         for fact in 0..self.walk.branch.facts.len() {
-            if !self.is_out(table, Placed { place, fact }) {
+            if !self.is_needless(table, Placed { place, fact }, &facts) {
                 facts.push(fact)?;
             }
         }
         Ok(facts)
+    }
+
+    /// Whether the fact can't stand at the place, or is alike to one of those that were taken.
+    fn is_needless(&self, table: u32, own: Placed, taken: &[usize]) -> bool
+        requires { slice_get self.now.walk.part.now.from own.place ≡ Some table }
+        ensures { IsTrue result → IsNeedless self.now own taken.now }
+    {
+        if self.is_out(table, own) {
+            return true;
+        }
+        let first = taken.len().saturating_sub(LAST_TAKEN);
+        has_alike(self.walk.branch, taken, first, own.fact)
     }
 
     /// Whether the fact is none of the table, some atom isn't what is wanted by this fact alone, or

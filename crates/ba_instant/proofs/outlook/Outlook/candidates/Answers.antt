@@ -1,17 +1,19 @@
-use Rattle.std.proofs.Common.{◌≤◌, arith, length}
+use Rattle.std.proofs.Common.{◌≤◌, arith, length, subst}
 use Rattle.ba_instant.proofs.OutlookLemmas.{offers_all, offers_push, offers_skip}
+use Rattle.ba_instant.specs.Outlooks.{IsNeedless}
 use Rattle.ba_instant.proofs.outlook.Outlook.candidates.Goals as goal
-use Rattle.ba_instant.proofs.outlook.Outlook.candidates.Goals.{then-not-is_out+in_ok-push, else-not-is_out}
+use Rattle.ba_instant.proofs.outlook.Outlook.candidates.Goals.{then-not-is_needless+in_ok-push, else-not-is_needless}
 
 pub loop-fact-preserved : goal.loop-fact-preserved
 loop-fact-preserved c =
-    elim c.if-not-is_out.branch [
-      | then-not-is_out+in_ok-push w ↦
-          offers_push c.args.self.now c.args.place c.loop-fact.facts.items c.if-not-is_out.facts.items c.loop-fact.fact (cc (w.facts-is, w.in_ok-push.ensures.items))
+    elim c.if-not-is_needless.branch [
+      | then-not-is_needless+in_ok-push w ↦
+          offers_push c.args.self.now c.args.place c.loop-fact.facts.items c.if-not-is_needless.facts.items c.loop-fact.fact (cc (w.facts-is, w.in_ok-push.ensures.items))
           c.loop-fact.invariant
-      | else-not-is_out w ↦
-          offers_skip c.args.self.now c.args.place c.loop-fact.facts.items c.if-not-is_out.facts.items c.loop-fact.fact (cc (w.facts-is))
-          (c.is_out.ensures w.if-not-is_out.false) c.loop-fact.invariant
+      | else-not-is_needless w ↦
+          offers_skip c.args.self.now c.args.place c.loop-fact.facts.items c.if-not-is_needless.facts.items c.loop-fact.fact (cc (w.facts-is))
+          (subst (IsNeedless c.args.self.now (record { place = c.args.place; fact = c.loop-fact.fact })) c.deref.ensures.value (c.is_needless.ensures w.if-not-is_needless.false))
+          c.loop-fact.invariant
     ]
 
 pub returns : goal.returns
