@@ -57,11 +57,15 @@ abbrev pub IsNeedless : Outlook → Placed → List ℕ → Type 0
 IsNeedless it own taken =
     IsOut it own ⊎ Any (λ other. AreAlike it.walk.branch.now other own.fact) taken
 
--- with the two at their places the atom isn't what is wanted
+-- over the facts the atom is what is wanted
+abbrev pub IsMetBy : Outlook → List ℕ → Atom → Type 0
+IsMetBy it facts atom = Under (IsWanted it.walk.branch.now.known it.walk.wanted)
+    (map (terms_at it.walk.branch.now) facts) atom
+
+-- with the two at their places it isn't
 abbrev pub AreApart : Outlook → Placed → Placed → Atom → Type 0
 AreApart it one other atom = (facts : List ℕ) → Stands facts one → Stands facts other →
-    Under (IsWanted it.walk.branch.now.known it.walk.wanted) (map (terms_at it.walk.branch.now) facts)
-    atom → ⊥
+    IsMetBy it facts atom → ⊥
 
 -- with the fact at its place the operand isn't the same as the term; the head isn't as the row
 abbrev pub IsDifferent : Outlook → Placed → Operand → Term → Type 0
@@ -100,8 +104,7 @@ KeepsAt it chosen place old new = (facts : List ℕ) → IsSought it facts → S
 -- so it does where the atom is what is wanted
 abbrev pub MeetsAt : Outlook → Atom → Placed → ℕ → List ℕ → List ℕ → Type 0
 MeetsAt it atom chosen place old new = (facts : List ℕ) → Stands facts chosen →
-    Under (IsWanted it.walk.branch.now.known it.walk.wanted) (map (terms_at it.walk.branch.now) facts)
-    atom → HasOne facts place old → HasOne facts place new
+    IsMetBy it facts atom → HasOne facts place old → HasOne facts place new
 
 abbrev pub Keeps : Outlook → Placed → List Left → List Left → Type 0
 Keeps it chosen old new = (facts : List ℕ) → IsSought it facts → Stands facts chosen →

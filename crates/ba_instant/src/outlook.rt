@@ -243,8 +243,8 @@ impl<'a> Outlook<'a> {
         self.misses(atom, one, other) || self.misses(atom, other, one)
     }
 
-    /// Whether the atom isn't what is wanted by the one fact for its left side and the other for its
-    /// right.
+    /// Whether the atom isn't what is wanted by the one fact for its left side and the other for
+    /// its right.
     fn misses(&self, atom: &'a Atom, left: Placed, right: Placed) -> bool
         ensures { IsTrue result → AreApart self.now left right atom.now }
     {
