@@ -46,4 +46,5 @@ mod PlaceLemmas
 mod LessonLemmas
 mod UnmovedLemmas
 mod AskedLemmas
+mod OutlookLemmas
 mod ReachLemmas

@@ -3,12 +3,13 @@ use Rattle.std.proofs.Common.{◌≡◌, ℕ, inl, inr, List, [], ◌∷◌, ◌
 use Rattle.std.specs.List.{All, Any}
 use Rattle.std.specs.Prelude.{Option}
 use Rattle.ba_facts.specs.Matches.{IsFactOf, Under, terms_at}
-use Rattle.ba_facts.specs.Walks.{AreMet, Composes, FailsAt, IsHopeless, IsSpared, IsWanted, every}
+use Rattle.ba_facts.specs.Walks.{AreMet, Completes, Composes, FailsAt, IsHopeless, IsSpared, IsWanted, every}
 use Rattle.ba_facts.specs.declared.branch.Branch.{Branch}
 use Rattle.ba_facts.specs.declared.walk.Walk.{Walk}
 use Rattle.ba_facts.specs.declared.walk.Wanted.TheVariants.{Shown}
 use Rattle.ba_kernel.specs.declared.step.Step.{Step}
 use Rattle.ba_instant.proofs.MapLemmas.{From, mapped_hopeless, mapped_joined, mapped_off, mapped_on, mapped_parted, mapped_whole}
+use Rattle.ba_instant.proofs.OfferLemmas.{improves_none}
 use Rattle.ba_instant.proofs.OfferWalks.{along, back_along, improves_less, offered_all, offers_compose, offers_spared}
 use Rattle.ba_instant.proofs.OvertakenLemmas.{mapped_overtaken}
 use Rattle.ba_instant.proofs.TakeLemmas.{last_all, not_timely}
@@ -108,6 +109,13 @@ module _ (it : Mapped) where
     mapped_no_use now why =
         mapped_whole it.scan.now.search.now it.scan.now.pick b it.scan.now.number it.form it.side it.part.now it.part.now.from [] now now refl refl
         (no_use it.part.now.from [] now why)
+
+  -- no facts show the part's atoms
+  pub mapped_bleak : (now : Option Batch) → ((facts : List ℕ) → Completes it.scan.now.branch.now it.side it.part.now Shown it.part.now.from [] facts → ⊥) →
+      ImprovesBy it.scan.now (IsStepOf it) now now
+  mapped_bleak now none =
+      mapped_whole it.scan.now.search.now it.scan.now.pick b it.scan.now.number it.form it.side it.part.now it.part.now.from [] now now refl refl
+      (improves_none it.scan.now.search.now it.scan.now.pick (Steps it.part.now.from []) now (λ step e new. none e.0 e.2))
 
   pub mapped_all : (old new : Option Batch) → ImprovesBy it.scan.now (IsStepAmong it it.part.now.from [] (every it.scan.now.branch.now)) old new →
       ImprovesBy it.scan.now (IsStepOf it) old new

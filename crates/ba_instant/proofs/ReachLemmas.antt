@@ -157,6 +157,15 @@ module _ (it : Reach) where
     pub reach_lost_at_once : IsLost walk.branch.now walk.part.now walk.wanted (Some it.row.now) [] → NoneReach it it.part.now.from []
     reach_lost_at_once gone facts h = reach_lost it.branch.now it.part.now it.row.now it.part.now.from [] facts (is_lost [] gone) h
 
+  -- no facts show the atoms and give the row
+  pub reach_bleak : ((facts : List ℕ) → Completes it.branch.now Two it.part.now Shown it.part.now.from [] facts → HeadIs it.branch.now it.part.now facts (Some it.row.now) → ⊥) →
+      NoneReach it it.part.now.from []
+  reach_bleak none facts h = at h.front h.like h.completes
+    where
+      at : (front : List ℕ) → Likes it.branch.now [] front → Completes it.branch.now Two it.part.now Shown it.part.now.from front facts → ⊥
+      at [] like completes = none facts completes h.head
+      at (y ∷ front) like completes = absurd like
+
 -- ---- no step that reaches the goal by the part is new
 
 some_inj : {X : Type 0} (o : Option X) (x y : X) → o ≡ Some x → o ≡ Some y → x ≡ y

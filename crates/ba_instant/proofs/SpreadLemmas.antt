@@ -176,6 +176,17 @@ module _ (c : Course) (pick : Pick) (b : Branch) (n : ℕ) (side : Side) (part :
   spread_dead chosen old none gone =
       spread_whole part.from chosen old old refl none (improves_none c pick (Spread part.from chosen) old (λ step e new. lost part.from chosen gone step e))
 
+  -- no facts make such a mapping
+  pub spread_bare : (old : Option Batch) → ((facts : List ℕ) → Completes b side part Live part.from [] facts → HeadIs b part facts row → ⊥) →
+      Improves c pick (IsSplitOfPart b n side row part) old old
+  spread_bare old none =
+      spread_whole part.from [] old old refl refl
+      (improves_none c pick (Spread part.from []) old (λ step e new. at e.0 e.2 (e.3).front (e.3).like (e.3).has.completes (e.3).has.has.head))
+    where
+      at : (atom : TermAtom) (facts front : List ℕ) → Likes b [] front → Completes b side part Live part.from front facts → HeadIs b part facts row → ⊥
+      at atom facts [] like completes head = none facts completes head
+      at atom facts (y ∷ front) like completes head = absurd like
+
 -- ---- an atom over facts that are like the chosen ones
 
 some_inj : {X : Type 0} (o : Option X) (x y : X) → o ≡ Some x → o ≡ Some y → x ≡ y

@@ -6,14 +6,14 @@ use Rattle.std.specs.Option.{option_copied}
 use Rattle.std.specs.Prelude.{Option}
 use Rattle.ba_facts.specs.Alike.{AreAlike}
 use Rattle.ba_facts.specs.Matches.{HeadIs, IsFactOf, Under, terms_at}
-use Rattle.ba_facts.specs.Walks.{AreMet, Composes, IsLost, IsSpared, IsWanted, every}
+use Rattle.ba_facts.specs.Walks.{AreMet, Completes, Composes, IsLost, IsSpared, IsWanted, every}
 use Rattle.ba_facts.specs.declared.branch.Branch.{Branch}
 use Rattle.ba_facts.specs.declared.walk.Walk.{Walk}
 use Rattle.ba_facts.specs.declared.walk.Wanted.TheVariants.{Live}
 use Rattle.ba_kernel.specs.declared.step.Step.{Step}
 use Rattle.ba_instant.proofs.OfferLemmas.{improves_none}
 use Rattle.ba_instant.proofs.OfferWalks.{along, back_along, offered_all, offers_compose, offers_same, offers_spared}
-use Rattle.ba_instant.proofs.SpreadLemmas.{by_alike, lost, spread_dead, spread_joined, spread_off, spread_on, spread_parted, spread_whole}
+use Rattle.ba_instant.proofs.SpreadLemmas.{by_alike, lost, spread_bare, spread_dead, spread_joined, spread_off, spread_on, spread_parted, spread_whole}
 use Rattle.ba_instant.specs.Scans.{ImprovesBy, IsWalkOf}
 use Rattle.ba_instant.specs.Spreads.{IsLikeSplits, IsLiveWith, IsSplitAmong, IsSplitFrom, IsSplitOf}
 use Rattle.ba_instant.specs.declared.batch.Batch.{Batch}
@@ -102,6 +102,13 @@ module _ (it : Spread) where
       (All-contains (Contains before) tried other among (k, inside, at))
       (λ table rest is step e.
       by_alike it.scan.now.search.now it.scan.now.pick b it.scan.now.number it.side it.part.now (option_copied it.row) table rest front other number step alike e) h
+
+  -- no facts make such a mapping
+  pub spread_bleak : (now : Option Batch) →
+      ((facts : List ℕ) → Completes it.scan.now.branch.now it.side it.part.now Live it.part.now.from [] facts →
+      HeadIs it.scan.now.branch.now it.part.now facts (option_copied it.row) → ⊥) → ImprovesBy it.scan.now (IsSplitOf it) now now
+  spread_bleak now none =
+      spread_bare it.scan.now.search.now it.scan.now.pick b it.scan.now.number it.side it.part.now (option_copied it.row) now none
 
   pub spread_all : (old new : Option Batch) → ImprovesBy it.scan.now (IsSplitAmong it it.part.now.from [] (every it.scan.now.branch.now)) old new →
       ImprovesBy it.scan.now (IsSplitOf it) old new

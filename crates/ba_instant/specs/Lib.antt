@@ -1,4 +1,5 @@
 pub mod Offers
+pub mod Outlooks
 pub mod Spreads
 pub mod Windows
 pub mod Loose

@@ -17,6 +17,7 @@ pub mod laws;
 mod loose;
 mod mapped;
 mod moves;
+mod outlook;
 mod partners;
 mod parts;
 mod quiet;

@@ -4,6 +4,7 @@ ghost use Rattle.ba_instant.specs.Scans.{AreOld, ImprovesBy, IsNoUse, IsOvertake
 ghost use Rattle.ba_instant.specs.Offers.{IsStepOf, step_of};
 
 use crate::batch::{Batch, is_behind, is_timely};
+use crate::outlook::{Outlook, has_many};
 use crate::scan::Scan;
 use ba_facts::{Offered, Side, Visit, Walk, Wanted, numbers_of};
 use ba_kernel::Step;
@@ -140,6 +141,16 @@ impl<'a> Mapped<'a> {
         if self.is_no_use(&walk, &[], best)? {
             return Ok(());
         }
+        if self.asks_first() {
+            let outlook = Outlook {
+                alloc: self.scan.alloc,
+                walk,
+                row: None,
+            };
+            if outlook.is_bleak()? {
+                return Ok(());
+            }
+        }
         let places = self.part.from.len();
         if places > MAX_PART_TABLES {
             let mut chosen = vec![in self.scan.alloc; 0; places]?;
@@ -149,6 +160,15 @@ impl<'a> Mapped<'a> {
         let mut chosen = [0; MAX_PART_TABLES];
         walk.visit(self, &mut chosen[..places], best)?;
         Ok(())
+    }
+
+    /// Whether it is asked first if any facts show the part's atoms. Of the goal it is known that
+    /// some may: its steps are looked for only where it is reached.
+    fn asks_first(&self) -> bool {
+        match self.form {
+            Form::OfGoal { .. } => false,
+            _ => has_many(self.part),
+        }
     }
 
     /// Whether no step on facts that begin with the chosen ones is new and comes first.

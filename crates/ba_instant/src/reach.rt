@@ -4,6 +4,7 @@ ghost use Rattle.ba_facts.specs.declared.term.Side.TheVariants.{Two};
 ghost use Rattle.ba_instant.specs.Spreads.{HasFact, NoneReach};
 
 use crate::alike::has_alike;
+use crate::outlook::{Outlook, has_many};
 use ba_facts::{Branch, Fact, Offered, Side, Term, Visit, Walk, Wanted};
 use ba_model::{List, Part};
 use std::alloc::{AllocError, Global};
@@ -103,6 +104,15 @@ impl Reach<'_> {
         };
         if walk.is_lost(&[], Some(self.row)) {
             return Ok(false);
+        }
+        if has_many(self.part) {
+            let outlook = Outlook {
+                alloc: self.alloc,
+                walk,
+                row: Some(self.row),
+            };
+            let bleak = outlook.is_bleak()?;
+            return Ok(!bleak);
         }
         let mut chosen = vec![in self.alloc; 0; self.part.from.len()]?;
         match walk.visit(self, &mut chosen, &mut ()) {

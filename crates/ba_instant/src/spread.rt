@@ -9,6 +9,7 @@ ghost use Rattle.ba_instant.specs.Spreads.{AreChoices, IsAt, IsLikeSplit, IsLike
 
 use crate::alike::{has_alike, likes_of};
 use crate::batch::Batch;
+use crate::outlook::{Outlook, has_many};
 use crate::scan::Scan;
 use ba_facts::{Branch, Offered, Side, Term, TermRef, Visit, Walk, Wanted, numbers_of};
 use ba_model::{Atom, List, Op, Operand, Part};
@@ -113,6 +114,16 @@ impl<'a> Spread<'a> {
         };
         if walk.is_lost(&[], self.row) {
             return Ok(());
+        }
+        if has_many(self.part) {
+            let outlook = Outlook {
+                alloc: self.scan.alloc,
+                walk,
+                row: self.row,
+            };
+            if outlook.is_bleak()? {
+                return Ok(());
+            }
         }
         let mut chosen = vec![in self.scan.alloc; 0; self.part.from.len()]?;
         walk.visit(self, &mut chosen, best)?;
@@ -222,7 +233,8 @@ fn names(place: usize, cond: &Atom) -> bool
     is_at(place, &cond.left) || is_at(place, &cond.right)
 }
 
-fn is_at(place: usize, operand: &Operand) -> bool
+/// Whether the operand is a column of the place.
+pub fn is_at(place: usize, operand: &Operand) -> bool
     ensures { IsTrue result ↔ IsAt place operand.now }
 {
     match operand {

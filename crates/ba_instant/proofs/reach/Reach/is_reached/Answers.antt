@@ -1,8 +1,9 @@
 use Rattle.std.proofs.Common.{refl}
+use Rattle.ba_facts.proofs.WalkLemmas.{needless}
 use Rattle.ba_facts.specs.declared.term.Side.TheVariants.{Two}
 use Rattle.ba_facts.specs.declared.walk.Walk.{Walk}
 use Rattle.ba_facts.specs.declared.walk.Wanted.TheVariants.{Shown}
-use Rattle.ba_instant.proofs.ReachLemmas.{none_every, reach_bare, reach_composes, reach_lost_at_once}
+use Rattle.ba_instant.proofs.ReachLemmas.{none_every, reach_bare, reach_bleak, reach_composes, reach_lost_at_once}
 use Rattle.ba_instant.proofs.reach.Reach.is_reached.Goals as goal
 
 pub returns-then-not-have_facts : goal.returns-then-not-have_facts
@@ -14,6 +15,11 @@ pub returns-then-is_lost : goal.returns-then-is_lost
 returns-then-is_lost c = λ not.
     let walk : Walk = record { branch = c.args.self.now.branch; side = Two; part = c.args.self.now.part; wanted = Shown } in
     reach_lost_at_once c.args.self.now walk (record { branch_is = refl; part_is = refl; wanted_is = refl }) (c.is_lost.ensures c.if-is_lost.true)
+
+pub returns-then-has_many : goal.returns-then-has_many
+returns-then-has_many c = λ not.
+    reach_bleak c.args.self.now
+    (λ facts completes head. c.in_ok-bleak.ensures (needless c.in_ok-bleak.bleak not) facts (record { completes = completes; head = head }))
 
 pub visit-requires-clause-composes : goal.visit-requires-clause-composes
 visit-requires-clause-composes c = reach_composes c.args.self.now
