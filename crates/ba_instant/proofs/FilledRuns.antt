@@ -59,7 +59,7 @@ module _ (p : Problem) (P : Branch → Type 0) (facts_keep : (side : Side) (roun
   none_keep : (cases : List Branch) → cases ≡ [] → All P cases
   none_keep cases e = subst (All P) (sym e) (All-nil P)
 
-  leads_keep : (b : Branch) (step : Step) (cases : List Branch) → P b → Leads p b step cases → All P cases
+  pub leads_keep : (b : Branch) (step : Step) (cases : List Branch) → P b → Leads p b step cases → All P cases
   leads_keep b (steps.Entry branch entry) cases h leads = cases_keep One leads.round leads.row leads.passes.it.query.parts b cases h leads.cases_are
   leads_keep b (steps.Key branch key left right) cases h leads = one_keeps cases _ leads.cases_are (lessons_keep b _ h)
   leads_keep b (steps.Link branch link fact) cases h leads =

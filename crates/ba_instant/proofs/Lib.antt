@@ -15,6 +15,8 @@ mod OvertakenLemmas
 mod DistinctLemmas
 mod AgendaLemmas
 mod NextLemmas
+mod MetLemmas
+mod ToldLemmas
 mod CarryLemmas
 mod GrowthLemmas
 mod OldFactLemmas

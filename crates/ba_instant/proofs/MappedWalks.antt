@@ -1,7 +1,8 @@
 -- The walk of a mapped part.
-use Rattle.std.proofs.Common.{◌≡◌, ℕ, inl, inr, List, [], ◌∷◌, ◌++◌, length, map, refl, sym, subst, arith}
+use Rattle.std.proofs.Common.{◌≡◌, ℕ, ◌∙◌, inl, inr, List, [], ◌∷◌, ◌++◌, length, map, refl, sym, ap, subst, arith}
 use Rattle.std.specs.List.{All, Any}
 use Rattle.std.specs.Prelude.{Option}
+use Rattle.ba_facts.proofs.WalkLemmas.{completes_last}
 use Rattle.ba_facts.specs.Matches.{IsFactOf, Under, terms_at}
 use Rattle.ba_facts.specs.Walks.{AreMet, Completes, Composes, FailsAt, IsHopeless, IsSpared, IsWanted, every}
 use Rattle.ba_facts.specs.declared.branch.Branch.{Branch}
@@ -12,9 +13,10 @@ use Rattle.ba_instant.proofs.MapLemmas.{From, mapped_hopeless, mapped_joined, ma
 use Rattle.ba_instant.proofs.OfferLemmas.{improves_none}
 use Rattle.ba_instant.proofs.OfferWalks.{along, back_along, improves_less, offered_all, offers_compose, offers_spared}
 use Rattle.ba_instant.proofs.OvertakenLemmas.{mapped_overtaken}
-use Rattle.ba_instant.proofs.TakeLemmas.{last_all, not_timely}
-use Rattle.ba_instant.specs.Offers.{IsStepAmong, IsStepOf, step_of}
-use Rattle.ba_instant.specs.Scans.{AreEnough, AreOld, ImprovesBy, IsNoUse, IsScan, IsTimelyOf, IsWalkOf}
+use Rattle.ba_instant.proofs.TakeLemmas.{form_branch, last_all, not_timely}
+use Rattle.ba_instant.proofs.ToldLemmas.{told_not_new}
+use Rattle.ba_instant.specs.Offers.{IsNewIn, IsStepAmong, IsStepOf, step_of}
+use Rattle.ba_instant.specs.Scans.{AreEnough, AreOld, ImprovesBy, IsNoUse, IsRemembered, IsScan, IsTimelyOf, IsWalkOf}
 use Rattle.ba_instant.specs.declared.batch.Batch.{Batch}
 use Rattle.ba_instant.specs.declared.mapped.Mapped.{Mapped}
 
@@ -47,9 +49,19 @@ module _ (it : Mapped) where
       numbers ≡ it.scan.now.recent.now → AreEnough it from chosen numbers
   enough_recent scan [] chosen numbers one are_old is old new h = h
   enough_recent scan (table ∷ []) chosen numbers one are_old is old new h =
-      last_all it.scan.now.search.now it.scan.now.pick b it.scan.now.number it.form it.side it.part.now it.scan.now.quiet it.scan.now.recent.now scan table chosen are_old old new
+      last_all it.scan.now.search.now it.scan.now.pick b it.scan.now.number it.form it.side it.part.now it.scan.now.quiet it.scan.now.recent.now scan.of table chosen are_old old new
       (subst (λ xs. ImprovesBy it.scan.now (IsStepAmong it (table ∷ []) chosen xs) old new) is h)
   enough_recent scan (table ∷ other ∷ rest) chosen numbers one are_old is old new h = absurd (omega (arith, one))
+
+  -- ---- facts whose step is told
+
+  pub mapped_told : IsScan it.scan.now → (chosen numbers : List ℕ) (now : Option Batch) → IsRemembered it chosen → ImprovesBy it.scan.now (IsStepAmong it [] chosen numbers) now now
+  mapped_told scan chosen numbers now has =
+      let n = it.scan.now.number in
+      improves_none it.scan.now.search.now it.scan.now.pick (Steps [] chosen) now
+      (λ step e new.
+      told_not_new it.scan.now.search.now n b it.scan.now.told.now scan.of.open_ scan.told (step_of n it.form chosen) (form_branch n it.form chosen) has
+      (subst (IsNewIn it.scan.now.search.now) (e.1 ∙ ap (step_of n it.form) (completes_last b it.side it.part.now Shown chosen e.0 e.2)) new))
 
   -- ---- the facts that are passed over
 
@@ -60,7 +72,7 @@ module _ (it : Mapped) where
   late_spared scan from chosen number tried now untimely front before after start split offered among h =
       offers_spared it.scan.now.search.now it.scan.now.pick b it.side Steps joined parted from front before number start now
       (λ table rest is.
-      not_timely it.scan.now.search.now it.scan.now.pick b it.scan.now.number it.form it.side it.part.now it.scan.now.quiet it.scan.now.recent.now scan table rest front number now untimely)
+      not_timely it.scan.now.search.now it.scan.now.pick b it.scan.now.number it.form it.side it.part.now it.scan.now.quiet it.scan.now.recent.now scan.of table rest front number now untimely)
       h
 
   module _ (walk : Walk) (of : IsWalkOf it.scan.now it.side it.part.now Shown walk) where

@@ -30,6 +30,7 @@ use Rattle.ba_settle.specs.Dues.{Ends, HasNew, HaveNewBelow, IsDueStep, IsSatura
 use Rattle.ba_instant.specs.Agendas.{AreInTurn, AreOlder, IsAgenda, IsAgendaAt, IsListed, IsNone, IsSilent, MOST_ROUND}
 use Rattle.ba_instant.specs.Loose.{IsQuietBeside}
 use Rattle.ba_instant.specs.Nexts.{AreQuietBeside, IsQuietRound, AreWaiting, ComesLater, IsFirstBelow, IsCarriedOn, IsLeafOf, IsLeastSaturated, IsAgendaAfter, IsPickedBelow, IsQuietAt, IsTaken, PassesBranch, SaturatedAt, Waits, first_step}
+use Rattle.ba_instant.specs.ToldSteps.{AreRemembered}
 use Rattle.ba_instant.specs.Offers.{IsDueIfAny, IsDueOn, IsRoundAt, IsTelling, first_by}
 use Rattle.ba_instant.specs.QuietSteps.{AddsToOneAt, TakesQuietly}
 use Rattle.ba_settle.specs.Order.{atom_cmp, numbers_cmp, pick_cmp, step_atom, step_cmp, step_rank}
@@ -209,7 +210,7 @@ in_front (x ∷ xs) ys zero below = refl
 in_front (x ∷ xs) ys (suc m) below = in_front xs ys m (omega (arith, below))
 
 -- a branch of another number was open before
-was_open : (slots : Slots) (n m : ℕ) (cases : List Branch) (b : Branch) → m < length slots → (m ≡ n → ⊥) → IsOpen (after slots n cases) m b → IsOpen slots m b
+pub was_open : (slots : Slots) (n m : ℕ) (cases : List Branch) (b : Branch) → m < length slots → (m ≡ n → ⊥) → IsOpen (after slots n cases) m b → IsOpen slots m b
 was_open slots n m [] b below other e = sym (elsewhere slots n m None other) ∙ e
 was_open slots n m (first ∷ others) b below other e =
     let same : length (slice_set slots n (Some first)) ≡ length slots = length-set slots n (Some first) in
@@ -299,8 +300,9 @@ module _ (pick : Pick) (c : Course) (of : Due) (it : IsTaken pick c of) where
 
     -- all other branches are as before
     pub waiting_after : (new : Course) (waiting : Waiting) (left : Agenda) → waiting.below ≡ length c.slots → waiting.but ≡ branch_of step → waiting.agenda ≡ left → IsNone waiting.next → IsAgendaAfter c of left →
-        Takes c.problem c.slots step new.slots → new.problem ≡ c.problem → AreWaiting pick new waiting
-    waiting_after new waiting left below_is but_is agenda_is next_is h takes problem_is = record {
+        Takes c.problem c.slots step new.slots → new.problem ≡ c.problem → AreRemembered new waiting.memory → AreWaiting pick new waiting
+    waiting_after new waiting left below_is but_is agenda_is next_is h takes problem_is memory = record {
+      memory = memory;
       next = record { of = λ b is. none_is_agenda pick new.problem waiting.below b waiting.next next_is };
       waits = λ number b below other is.
           let less : number < length c.slots = omega (arith, below, below_is) in
@@ -367,8 +369,9 @@ if_ok_as : (P Q : Settled → Type 0) (r : Result Settled AllocError) → ((it :
 if_ok_as P Q (Ok it) to h = to it h
 if_ok_as P Q (Err e) to h = h
 
-pub none_waits : (pick : Pick) (c : Course) (waiting : Waiting) → waiting.below ≡ 0 → IsNone waiting.agenda → IsNone waiting.next → AreWaiting pick c waiting
-none_waits pick c waiting below none next = record {
+pub none_waits : (pick : Pick) (c : Course) (waiting : Waiting) → waiting.below ≡ 0 → IsNone waiting.agenda → IsNone waiting.next → AreRemembered c waiting.memory → AreWaiting pick c waiting
+none_waits pick c waiting below none next memory = record {
+  memory = memory;
   next = record { of = λ b is. none_is_agenda pick c.problem waiting.below b waiting.next next };
   waits = λ number b less other is. absurd (let no : ⊥ = omega (arith, less, below) in no);
   agenda = record { of = λ b is. none_is_agenda pick c.problem waiting.but b waiting.agenda none };
@@ -393,24 +396,25 @@ next_on waiting number agenda pick c on is are = subst (λ m. IsAgendaAt pick c 
 
 -- the same branches wait with other agendas of theirs
 pub waits_with : (old new : Waiting) (pick : Pick) (c : Course) → new.below ≡ old.below → new.but ≡ old.but → IsAgendaAt pick c new.but new.agenda → IsAgendaAt pick c new.below new.next →
-    AreWaiting pick c old → AreWaiting pick c new
-waits_with old new pick c below_is but_is agenda next are = record {
+    new.memory ≡ old.memory → AreWaiting pick c old → AreWaiting pick c new
+waits_with old new pick c below_is but_is agenda next memory_is are = record {
+  memory = subst (AreRemembered c) (sym memory_is) are.memory;
   waits = λ number b below other is. are.waits number b (omega (arith, below, below_is)) (λ same. other (same ∙ sym but_is)) is;
   agenda = agenda;
   next = next;
 }
 
 -- the same branches wait without the agenda
-pub waits_on : (old new : Waiting) (pick : Pick) (c : Course) → new.below ≡ old.below → new.but ≡ old.but → IsNone new.agenda → new.next ≡ old.next → AreWaiting pick c old →
+pub waits_on : (old new : Waiting) (pick : Pick) (c : Course) → new.below ≡ old.below → new.but ≡ old.but → IsNone new.agenda → new.next ≡ old.next → new.memory ≡ old.memory → AreWaiting pick c old →
     AreWaiting pick c new
-waits_on old new pick c below_is but_is none next_is are =
-    waits_with old new pick c below_is but_is (none_at pick c new.but new.agenda none) (next_on old new.below new.next pick c below_is next_is are) are
+waits_on old new pick c below_is but_is none next_is memory_is are =
+    waits_with old new pick c below_is but_is (none_at pick c new.but new.agenda none) (next_on old new.below new.next pick c below_is next_is are) memory_is are
 
 -- or without that of the branch at the bound
-pub waits_without_next : (old new : Waiting) (pick : Pick) (c : Course) → new.below ≡ old.below → new.but ≡ old.but → IsNone new.next → new.agenda ≡ old.agenda → AreWaiting pick c old →
+pub waits_without_next : (old new : Waiting) (pick : Pick) (c : Course) → new.below ≡ old.below → new.but ≡ old.but → IsNone new.next → new.agenda ≡ old.agenda → new.memory ≡ old.memory → AreWaiting pick c old →
     AreWaiting pick c new
-waits_without_next old new pick c below_is but_is none agenda_is are =
-    waits_with old new pick c below_is but_is (agenda_on old new.but new.agenda pick c but_is agenda_is are) (none_at pick c new.below new.next none) are
+waits_without_next old new pick c below_is but_is none agenda_is memory_is are =
+    waits_with old new pick c below_is but_is (agenda_on old new.but new.agenda pick c but_is agenda_is are) (none_at pick c new.below new.next none) memory_is are
 
 pub searches_start : (pick : Pick) (c : Course) (p : Problem) → c.problem ≡ p → c.steps ≡ [] → IsStart p c.slots → Searches pick c.problem c.steps c.slots
 searches_start pick c p problem_is none start =

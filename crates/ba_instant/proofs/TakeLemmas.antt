@@ -40,7 +40,7 @@ round_has b (m ∷ before) n after = let rest = round_has b before n after in om
 
 -- ---- the steps of a form
 
-form_branch : (n : ℕ) (form : Form) (facts : List ℕ) → branch_of (step_of n form facts) ≡ n
+pub form_branch : (n : ℕ) (form : Form) (facts : List ℕ) → branch_of (step_of n form facts) ≡ n
 form_branch n (OfRule rule part) facts = refl
 form_branch n (OfView view part) facts = refl
 form_branch n (OfGoal part) facts = refl

@@ -6,6 +6,7 @@ pub mod Loose
 pub mod QuietKeys
 pub mod QuietSteps
 pub mod Givens
+pub mod ToldSteps
 pub mod Scans
 pub mod Partners
 pub mod Agendas

@@ -15,6 +15,7 @@ use Rattle.ba_settle.specs.Order.{pick_cmp}
 use Rattle.ba_instant.specs.QuietSteps.{AddsToOneAt, IsQuietStep}
 use Rattle.ba_instant.specs.Agendas.{IsAgenda, IsAgendaAt, IsNone}
 use Rattle.ba_instant.specs.Loose.{IsLooseAtom, IsQuietBeside}
+use Rattle.ba_instant.specs.ToldSteps.{AreRemembered, AreTold}
 use Rattle.ba_instant.specs.declared.scan.NewStep.{NewStep}
 use Rattle.ba_instant.specs.declared.due.Next.{Next}
 use Rattle.ba_instant.specs.declared.waiting.Waiting.{Waiting}
@@ -59,6 +60,10 @@ first_step pick (Some best) it =
 -- it is open, and this is an agenda of it
 abbrev pub IsOpenOne : OpenBranch → Type 0
 IsOpenOne it = IsOpen it.search.now.slots it.number it.branch.now
+
+-- what is told of it is
+abbrev pub AreToldOn : OpenBranch → Type 0
+AreToldOn it = AreTold it.search.now.problem it.branch.now it.told.now
 
 abbrev pub IsAgendaOn : OpenBranch → Agenda → Type 0
 IsAgendaOn it agenda = IsAgenda it.pick it.search.now.problem it.number it.branch.now agenda
@@ -107,12 +112,13 @@ IsLooked pick c number false old new = PassesBranch pick c number old new
 -- ---- branches that wait
 
 -- each open branch below the bound but one has a new step; the agendas are that one's, and that of
--- the branch at the bound
+-- the branch at the bound; and what is remembered of each branch is told there
 pub record AreWaiting (pick : Pick) (c : Course) (waiting : Waiting) : Type 0 where
   pub waits : (number : ℕ) (branch : Branch) → number < waiting.below → number ≢ waiting.but →
       IsOpen c.slots number branch → HasNew c.problem number branch
   pub agenda : IsAgendaAt pick c waiting.but waiting.agenda
   pub next : IsAgendaAt pick c waiting.below waiting.next
+  pub memory : AreRemembered c waiting.memory
 
 -- up to the round nothing is new on both but, maybe, by rules and views
 pub record AreQuietBeside (c : Course) (waiting : Waiting) (round : ℕ) : Type 0 where

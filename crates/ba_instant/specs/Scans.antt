@@ -18,7 +18,8 @@ use Rattle.ba_kernel.specs.SearchStates.{Course}
 use Rattle.ba_kernel.specs.declared.problem.Problem.{Problem}
 use Rattle.ba_kernel.specs.declared.step.Step.{Step}
 use Rattle.ba_kernel.specs.declared.step.Step.TheVariants as steps
-use Rattle.ba_instant.specs.Offers.{Improves, IsKeyOfPair, IsKeyStep, IsStepAmong, HasSooner, OfAny, fact_round}
+use Rattle.ba_instant.specs.Offers.{Improves, IsKeyOfPair, IsKeyStep, IsStepAmong, HasSooner, OfAny, fact_round, step_of}
+use Rattle.ba_instant.specs.ToldSteps.{AreTold, Remembers}
 use Rattle.ba_instant.specs.Windows.{IsQuietUpto}
 use Rattle.ba_instant.specs.declared.batch.Batch.{Batch}
 use Rattle.ba_instant.specs.declared.mapped.Form.{Form}
@@ -49,9 +50,10 @@ pub record IsScanOf (c : Course) (number : ℕ) (b : Branch) (quiet : ℕ) (rece
   pub quiet_ : IsQuietUpto c.problem b number quiet
   pub recent_ : AreRecent b quiet recent
 
--- so it is of the scan
-abbrev pub IsScan : Scan → Type 0
-IsScan scan = IsScanOf scan.search.now scan.number scan.branch.now scan.quiet scan.recent.now
+-- so it is of the scan, and what is told is
+pub record IsScan (scan : Scan) : Type 0 where
+  pub of : IsScanOf scan.search.now scan.number scan.branch.now scan.quiet scan.recent.now
+  pub told : AreTold scan.search.now.problem scan.branch.now scan.told.now
 
 -- the new steps of the set were offered, for the pick of the scan
 abbrev pub ImprovesBy : Scan → (Step → Type 0) → Option Batch → Option Batch → Type 0
@@ -102,6 +104,10 @@ TellsOf (OfGoal part) = ⊥
 -- the form's steps tell something, and none of the facts is recent
 abbrev pub AreOld : Branch → ℕ → Form → List ℕ → Type 0
 AreOld b quiet form chosen = TellsOf form × (round_of b chosen < quiet)
+
+-- the form's step on the facts is remembered
+abbrev pub IsRemembered : Mapped → List ℕ → Type 0
+IsRemembered it facts = Remembers it.scan.now.told.now (step_of it.scan.now.number it.form facts)
 
 -- ---- walks
 

@@ -1,9 +1,9 @@
 //! Entries and links.
 ghost use Rattle.std.specs.Prelude.{◌≡◌, ◌<◌, IfOk, OnOk, length};
 ghost use Rattle.ba_kernel.specs.Steps.{IsRoundOfEntry};
-ghost use Rattle.ba_kernel.specs.declared.step.Step.TheVariants.{Entry};
+ghost use Rattle.ba_kernel.specs.declared.step.Step.TheVariants.{Entry, Link};
 ghost use Rattle.ba_instant.specs.Scans.{ImprovesBy, IsScan, schema_of};
-ghost use Rattle.ba_instant.specs.Offers.{IsEntryOf, IsLinkOfFact, IsLinkStep, links_at};
+ghost use Rattle.ba_instant.specs.Offers.{IsEntryOf, IsLinkOfFact, IsLinkStep, IsRoundIn, links_at};
 
 use crate::batch::Batch;
 use crate::recent::fact_round;
@@ -79,14 +79,33 @@ impl<'a> Scan<'a> {
         let round = u64::from(fact_round(self.branch, fact)) + 1;
         let count = self.link_count(fact)?;
         for link in 0..count {
-            let step = Step::Link {
-                branch: self.number,
-                link,
-                fact,
-            };
-            self.offer_at(round, step, best)?;
+            self.offer_link(round, link, fact, best)?;
         }
         Ok(())
+    }
+
+    /// Offers the step by the link of the fact, which is of this round, unless it is told.
+    fn offer_link(
+        &self,
+        round: u64,
+        link: u32,
+        fact: u32,
+        best: &mut Option<Batch>,
+    ) -> Result<(), AllocError>
+        requires look { IsScan self.now }
+        requires round { IsRoundIn self.now.search.now (Link self.now.number link fact) round }
+        ensures { OnOk result
+            (ImprovesBy self.now (λ it. it ≡ Link self.now.number link fact) best.old best.new) }
+    {
+        if self.told.has_link(fact, link) {
+            return Ok(());
+        }
+        let step = Step::Link {
+            branch: self.number,
+            link,
+            fact,
+        };
+        self.offer_at(round, step, best)
     }
 
     /// How many links the fact's table has; none where there is no such fact or table.

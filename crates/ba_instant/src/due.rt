@@ -5,14 +5,17 @@ ghost use Rattle.ba_instant.specs.Agendas.{AreOlder, IsAgendaAt};
 ghost use Rattle.ba_instant.specs.Loose.{IsQuietBeside};
 ghost use Rattle.ba_facts.specs.declared.branch.Branch.{Branch as ABranch};
 ghost use Rattle.ba_instant.specs.Scans.{ImprovesBy, IsScan};
+ghost use Rattle.ba_instant.specs.ToldSteps.{AreRemembered};
 ghost use Rattle.ba_instant.specs.Windows.{IsQuietUpto};
-ghost use Rattle.ba_instant.specs.Nexts.{AreQuietBeside, AreWaiting, ComesLater, FindsOn, IsAgendaOn, IsDueOnIt, IsLooked, IsNext, IsOpenOne, Waits, first_step};
+ghost use Rattle.ba_instant.specs.Nexts.{AreQuietBeside, AreToldOn, AreWaiting, ComesLater, FindsOn, IsAgendaOn, IsDueOnIt, IsLooked, IsNext, IsOpenOne, Waits, first_step};
 ghost use Rattle.ba_instant.specs.Offers.{IsByMapping, IsClosing, IsTaught, IsTelling, NoneCloses};
 
 use crate::agenda::Agenda;
 use crate::batch::Batch;
+use crate::memory::Memory;
 use crate::recent::{first_recent, recent_facts};
 use crate::scan::{NewStep, Scan};
+use crate::told::Told;
 use crate::waiting::Waiting;
 use ba_facts::Branch;
 use ba_kernel::{Search, Step};
@@ -87,19 +90,21 @@ impl<'a> Scan<'a> {
     }
 }
 
-/// An open branch, by number.
+/// An open branch, by number, and what is told there.
 #[derive(Clone, Copy)]
 pub struct OpenBranch<'a> {
     pub search: &'a Search,
     pub branch: &'a Branch,
     pub number: u32,
     pub pick: Pick,
+    pub told: &'a Told,
 }
 
 impl OpenBranch<'_> {
     /// The branch's due step with its round, if it has one. The agenda is that of the branch.
     fn due_step(&self, alloc: Global, agenda: &mut Agenda) -> Result<Option<NewStep>, AllocError>
         requires open { IsOpenOne self.now }
+        requires told { AreToldOn self.now }
         requires agenda { IsAgendaOn self.now agenda.old }
         ensures due { IfOk result (IsDueOnIt self.now) }
         ensures agenda { OnOk result (IsAgendaOn self.now agenda.new) }
@@ -116,7 +121,8 @@ impl OpenBranch<'_> {
 
     /// The new steps that close the branch.
     fn closing_steps(&self, alloc: Global) -> Result<Option<Batch>, AllocError>
-        requires { IsOpenOne self.now }
+        requires open { IsOpenOne self.now }
+        requires told { AreToldOn self.now }
         ensures { IfOk result (FindsOn self.now (IsClosing self.now.number)) }
     {
         let recent = recent_facts(alloc, self.branch, 0, 0)?;
@@ -128,6 +134,7 @@ impl OpenBranch<'_> {
             pick: self.pick,
             quiet: 0,
             recent: &recent,
+            told: self.told,
         };
         let mut best = None;
         scan.offer_closing(&mut best)?;
@@ -136,7 +143,8 @@ impl OpenBranch<'_> {
 
     /// The new steps by rules and views of the least round.
     fn mapped_steps(&self, alloc: Global) -> Result<Option<Batch>, AllocError>
-        requires { IsOpenOne self.now }
+        requires open { IsOpenOne self.now }
+        requires told { AreToldOn self.now }
         ensures { IfOk result (FindsOn self.now (IsByMapping self.now.number)) }
     {
         let recent = recent_facts(alloc, self.branch, 0, 0)?;
@@ -148,6 +156,7 @@ impl OpenBranch<'_> {
             pick: self.pick,
             quiet: 0,
             recent: &recent,
+            told: self.told,
         };
         let mut best = None;
         scan.offer_mapped(&mut best)?;
@@ -172,6 +181,7 @@ impl OpenBranch<'_> {
         agenda: &mut Agenda,
     ) -> Result<Option<NewStep>, AllocError>
         requires open { IsOpenOne self.now }
+        requires told { AreToldOn self.now }
         requires closing { NoneCloses self.now.search.now self.now.number }
         requires agenda { IsAgendaOn self.now agenda.old }
         ensures due { IfOk result (IsDueOnIt self.now) }
@@ -189,6 +199,7 @@ impl OpenBranch<'_> {
     /// The due step, where nothing is left of the agenda. It is filled again.
     fn next_round(&self, alloc: Global, agenda: &mut Agenda) -> Result<Option<NewStep>, AllocError>
         requires open { IsOpenOne self.now }
+        requires told { AreToldOn self.now }
         requires closing { NoneCloses self.now.search.now self.now.number }
         requires agenda { IsAgendaOn self.now agenda.old }
         requires empty { agenda.old.steps.items ≡ [] }
@@ -219,6 +230,7 @@ impl OpenBranch<'_> {
         quiet: u32,
     ) -> Result<Option<Batch>, AllocError>
         requires open { IsOpenOne self.now }
+        requires told { AreToldOn self.now }
         requires quiet { IsQuietUpto self.now.search.now.problem self.now.branch.now self.now.number
             quiet }
         requires older { AreOlder self.now.branch.now older quiet }
@@ -233,6 +245,7 @@ impl OpenBranch<'_> {
             pick: self.pick,
             quiet,
             recent: &recent,
+            told: self.told,
         };
         let mut best = None;
         scan.offer_telling(&mut best)?;
@@ -256,8 +269,8 @@ pub fn keep_quiet(
     if round == 0 {
         return Ok(());
     }
-    let agenda = quiet_agenda(alloc, search, pick, waiting.but, round)?;
-    let next = quiet_agenda(alloc, search, pick, waiting.below, round)?;
+    let agenda = quiet_agenda(alloc, search, pick, &waiting.memory, waiting.but, round)?;
+    let next = quiet_agenda(alloc, search, pick, &waiting.memory, waiting.below, round)?;
     waiting.agenda = agenda;
     waiting.next = next;
     Ok(())
@@ -268,11 +281,13 @@ fn quiet_agenda(
     alloc: Global,
     search: &Search,
     pick: Pick,
+    memory: &Memory,
     number: u32,
     round: u64,
 ) -> Result<Agenda, AllocError>
-    requires { (b : ABranch) → IsOpen search.now.slots number b
+    requires quiet { (b : ABranch) → IsOpen search.now.slots number b
         → IsQuietBeside search.now.problem b number round }
+    requires memory { AreRemembered search.now memory.now }
     ensures { IfOk result (IsAgendaAt pick search.now number) }
 {
     match search.branch(number) {
@@ -283,6 +298,7 @@ fn quiet_agenda(
                 branch,
                 number,
                 pick,
+                told: memory.of(number),
             };
             let mapped = open_branch.mapped_steps(alloc)?;
             Ok(Agenda::quiet(alloc, round, &mapped))
@@ -301,7 +317,8 @@ pub fn next_step(
     waiting: &mut Waiting,
 ) -> Result<Next, AllocError>
     requires { AreWaiting pick search.now waiting.old }
-    ensures { IfOk result (IsNext pick search.now) }
+    ensures next { IfOk result (IsNext pick search.now) }
+    ensures waiting { OnOk result (AreWaiting pick search.now waiting.new) }
 {
     let mut first = None;
     for number in 0..search.branches() {
@@ -342,6 +359,7 @@ fn look_at(
                 branch,
                 number,
                 pick,
+                told: waiting.memory.of(number),
             };
             let due = open_branch.due_step(alloc, &mut agenda)?;
             match due {

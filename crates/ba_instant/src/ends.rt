@@ -45,12 +45,12 @@ pub fn settle_in(
     ensures { IfOk result (Ends pick problem budget) }
 {
     let mut search = Search::start(alloc, problem)?;
-    let mut waiting = Waiting::none(alloc);
+    let mut waiting = Waiting::none(alloc, &search)?;
     for _taken in 0..budget {
         let next = next_step(alloc, &search, pick, &mut waiting)?;
         match next {
             Next::Take(due) => {
-                let (then, left) = take(alloc, search, pick, due)?;
+                let (then, left) = take(alloc, search, pick, due, waiting)?;
                 search = then;
                 waiting = left;
             }
@@ -92,15 +92,17 @@ fn end(
     }
 }
 
-/// The search after the step, which is due. All branches but its own wait then, and what is left of
-/// the agenda is that one's.
+/// The search after the step, which is due. All branches but its own wait then, what is left of the
+/// agenda is that one's, and what was told is told.
 fn take(
     alloc: Global,
     search: Search,
     pick: Pick,
     due: Due,
+    before: Waiting,
 ) -> Result<(Search, Waiting), AllocError>
     requires few { length search.steps < most_budget }
+    requires before { AreWaiting pick search before }
     requires taken { IsTaken pick search due }
     requires searches { Searches pick search.problem search.steps search.slots }
     ensures { IfOk result (λ it. HasMoved pick search it.0 it.1) }
@@ -108,8 +110,10 @@ fn take(
     let Due { found, agenda } = due;
     let quiet = quiet_round(&search, &found);
     let left = left_after(alloc, &search, &found, agenda)?;
-    let mut waiting = Waiting::beside(alloc, &search, &found.step, left);
+    let step = found.step.copy(alloc)?;
+    let mut waiting = Waiting::beside(alloc, &search, &found.step, left, before.memory);
     let then = search.moved(alloc, found.step)?;
+    waiting.memory.move_on(alloc, &then, &step)?;
     keep_quiet(alloc, &then, pick, quiet, &mut waiting)?;
     Ok((then, waiting))
 }

@@ -16,6 +16,7 @@ mod keys;
 pub mod laws;
 mod loose;
 mod mapped;
+mod memory;
 mod moves;
 mod outlook;
 mod partners;
@@ -27,6 +28,7 @@ mod scan;
 mod splits;
 mod spread;
 mod standing;
+mod told;
 mod waiting;
 
 pub use ends::{InOrder, settle, settle_in};

@@ -1,6 +1,6 @@
 //! Steps on facts that a part is mapped to.
 ghost use Rattle.std.specs.Prelude.{◌≡◌, ◌↔◌, IfOk, IsTrue, OnOk};
-ghost use Rattle.ba_instant.specs.Scans.{AreOld, ImprovesBy, IsNoUse, IsOvertaken, IsScan, IsTimelyOf, least_round};
+ghost use Rattle.ba_instant.specs.Scans.{AreOld, ImprovesBy, IsNoUse, IsOvertaken, IsRemembered, IsScan, IsTimelyOf, least_round};
 ghost use Rattle.ba_instant.specs.Offers.{IsStepOf, step_of};
 
 use crate::batch::{Batch, is_behind, is_timely};
@@ -11,6 +11,7 @@ use ba_kernel::Step;
 use ba_model::{List, MAX_PART_TABLES, Part};
 use ba_settle::Pick;
 use std::alloc::AllocError;
+use std::cmp::Ordering;
 
 /// A step without its branch and facts.
 #[derive(Clone, Copy)]
@@ -43,6 +44,44 @@ impl Form {
                 part,
                 facts,
             },
+        }
+    }
+
+    pub fn same(self, other: Form) -> bool
+        ensures { IsTrue result → self ≡ other }
+    {
+        match (self, other) {
+            (
+                Form::OfRule { rule, part },
+                Form::OfRule {
+                    rule: its,
+                    part: at,
+                },
+            ) => { rule == its && part == at }
+            (
+                Form::OfView { view, part },
+                Form::OfView {
+                    view: its,
+                    part: at,
+                },
+            ) => { view == its && part == at }
+            (Form::OfGoal { part }, Form::OfGoal { part: at }) => part == at,
+            _ => false,
+        }
+    }
+
+    /// An order of forms: rules, views and the goal, each by its numbers.
+    pub fn compare(self, other: Form) -> Ordering {
+        let (kind, number, part) = self.place();
+        let (its, at, of) = other.place();
+        kind.cmp(&its).then(number.cmp(&at)).then(part.cmp(&of))
+    }
+
+    fn place(self) -> (u32, u32, u32) {
+        match self {
+            Form::OfRule { rule, part } => (0, rule, part),
+            Form::OfView { view, part } => (1, view, part),
+            Form::OfGoal { part } => (2, part, 0),
         }
     }
 }
@@ -115,6 +154,9 @@ impl Visit for Mapped<'_> {
         chosen: &[usize],
         best: &mut Option<Batch>,
     ) -> Result<(), AllocError> {
+        if self.is_told(chosen) {
+            return Ok(());
+        }
         if !walk.is_met(chosen) {
             return Ok(());
         }
@@ -216,6 +258,17 @@ impl<'a> Mapped<'a> {
                 Ok(is_behind(Pick::First, best, &step))
             }
             _ => Ok(false),
+        }
+    }
+
+    /// Whether it is remembered that the step on the facts tells nothing.
+    fn is_told(&self, facts: &[usize]) -> bool
+        ensures { IsTrue result → IsRemembered self.now facts.now }
+    {
+        match self.form {
+            Form::OfRule { .. } => self.scan.told.has_mapping(self.form, facts),
+            Form::OfView { .. } => self.scan.told.has_mapping(self.form, facts),
+            Form::OfGoal { .. } => false,
         }
     }
 

@@ -4,6 +4,7 @@ ghost use Rattle.ba_instant.specs.Offers.{IsNewIn, IsRoundIn};
 ghost use Rattle.ba_instant.specs.Scans.{ImprovesBy};
 
 use crate::batch::{Batch, is_reached, keep_found};
+use crate::told::Told;
 use ba_facts::Branch;
 use ba_kernel::{Search, Step};
 use ba_settle::Pick;
@@ -19,7 +20,7 @@ pub struct NewStep {
 /// An open branch of a search, by number, and which of its due steps is looked for.
 ///
 /// No step that tells the branch something is new there whose round is at most `quiet`. The facts
-/// of that round or a later one are `recent`, by number.
+/// of that round or a later one are `recent`, by number. Those that are `told` tell it nothing.
 #[derive(Clone, Copy)]
 pub struct Scan<'a> {
     pub alloc: Global,
@@ -29,6 +30,7 @@ pub struct Scan<'a> {
     pub pick: Pick,
     pub quiet: u32,
     pub recent: &'a [u32],
+    pub told: &'a Told,
 }
 
 impl<'a> Scan<'a> {

@@ -17,11 +17,17 @@ loop-number-preserved c =
 pub returns-in-Some : goal.returns-in-Some
 returns-in-Some c =
     let past : length c.args.search.now.slots ≤ c.loop-number.number = grind (arith, common_steps) in
-    all_taken c.args.pick c.args.search.now c.loop-number.number c.in-Some.due past c.loop-number.invariant.news
-    (subst (IsFirstBelow c.args.pick c.args.search.now c.loop-number.number) c.in-Some.is c.loop-number.invariant.first)
+    record {
+      next = all_taken c.args.pick c.args.search.now c.loop-number.number c.in-Some.due past c.loop-number.invariant.news
+          (subst (IsFirstBelow c.args.pick c.args.search.now c.loop-number.number) c.in-Some.is c.loop-number.invariant.first);
+      waiting = c.loop-number.invariant.waiting;
+    }
 
 pub returns-in-None : goal.returns-in-None
 returns-in-None c =
     let past : length c.args.search.now.slots ≤ c.loop-number.number = grind (arith, common_steps) in
-    all_closed c.args.pick c.args.search.now c.loop-number.number past
-    (subst (IsFirstBelow c.args.pick c.args.search.now c.loop-number.number) c.in-None.is c.loop-number.invariant.first)
+    record {
+      next = all_closed c.args.pick c.args.search.now c.loop-number.number past
+          (subst (IsFirstBelow c.args.pick c.args.search.now c.loop-number.number) c.in-None.is c.loop-number.invariant.first);
+      waiting = c.loop-number.invariant.waiting;
+    }

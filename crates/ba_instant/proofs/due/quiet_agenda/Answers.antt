@@ -7,5 +7,5 @@ pub returns-in_ok-mapped-in_Some-search : goal.returns-in_ok-mapped-in_Some-sear
 returns-in_ok-mapped-in_Some-search c =
     let branch = c.in_Some-search.branch.now in
     let is_open = open_back c.args.search.now.slots c.args.number branch (sym c.in_Some-search.ensures) in
-    quiet_agenda_at c.args.pick c.args.search.now c.args.number branch c.args.round c.in_ok-mapped-in_Some-search.mapped is_open (c.requires branch is_open)
+    quiet_agenda_at c.args.pick c.args.search.now c.args.number branch c.args.round c.in_ok-mapped-in_Some-search.mapped is_open (c.requires.quiet branch is_open)
     c.in_ok-mapped-in_Some-search.ensures c.quiet.result c.quiet.ensures

@@ -7,7 +7,7 @@ pub loop-taken-init : goal.loop-taken-init
 loop-taken-init c = record {
   problem = c.in_ok-search.ensures.problem;
   searches = searches_start c.args.pick c.in_ok-search.search c.args.problem c.in_ok-search.ensures.problem c.in_ok-search.ensures.steps c.in_ok-search.ensures.slots;
-  waiting = none_waits c.args.pick c.in_ok-search.search c.none-waiting.result c.none-waiting.ensures.below c.none-waiting.ensures.agenda c.none-waiting.ensures.next;
+  waiting = none_waits c.args.pick c.in_ok-search.search c.in_ok-waiting.waiting c.in_ok-waiting.ensures.below c.in_ok-waiting.ensures.agenda c.in_ok-waiting.ensures.next c.in_ok-waiting.ensures.memory;
   count = ap length c.in_ok-search.ensures.steps;
 }
 
@@ -25,13 +25,13 @@ pub returns-in-Saturated : goal.returns-in-Saturated
 returns-in-Saturated c =
     let few : length c.loop-taken.search.steps ≤ c.args.budget = omega (arith, c.loop-taken.invariant.count, c.loop-taken-test.true) in
     may_saturate c.args.pick c.args.budget c.loop-taken.search c.args.problem c.loop-taken.invariant.problem c.loop-taken.invariant.searches c.in-Saturated.number
-    c.saturated.result (subst (IsNext c.args.pick c.loop-taken.search) c.in-Saturated.is c.in_ok-next.ensures) few c.saturated.ensures
+    c.saturated.result (subst (IsNext c.args.pick c.loop-taken.search) c.in-Saturated.is c.in_ok-next.ensures.next) few c.saturated.ensures
 
 pub returns-in-Closed : goal.returns-in-Closed
 returns-in-Closed c =
     let few : length c.loop-taken.search.steps ≤ c.args.budget = omega (arith, c.loop-taken.invariant.count, c.loop-taken-test.true) in
     may_close c.args.pick c.args.budget c.loop-taken.search c.args.problem c.loop-taken.invariant.problem c.loop-taken.invariant.searches c.closed.result
-    (subst (IsNext c.args.pick c.loop-taken.search) c.in-Closed.is c.in_ok-next.ensures) few c.closed.ensures
+    (subst (IsNext c.args.pick c.loop-taken.search) c.in-Closed.is c.in_ok-next.ensures.next) few c.closed.ensures
 
 pub returns : goal.returns
 returns c =

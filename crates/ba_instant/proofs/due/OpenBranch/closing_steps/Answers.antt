@@ -5,7 +5,10 @@ use Rattle.ba_instant.proofs.due.OpenBranch.closing_steps.Goals as goal
 
 pub offer_closing-requires : goal.offer_closing-requires
 offer_closing-requires c = record {
-  open_ = c.requires;
-  quiet_ = quiet_at_first c.args.self.now.search.now.problem c.args.self.now.branch.now c.args.self.now.number;
-  recent_ = subst (AreRecent c.args.self.now.branch.now 0) (sym c.deref.ensures.value) c.in_ok-recent.ensures;
+  of = record {
+    open_ = c.requires.open;
+    quiet_ = quiet_at_first c.args.self.now.search.now.problem c.args.self.now.branch.now c.args.self.now.number;
+    recent_ = subst (AreRecent c.args.self.now.branch.now 0) (sym c.deref.ensures.value) c.in_ok-recent.ensures;
+  };
+  told = c.requires.told;
 }

@@ -1,6 +1,10 @@
 use Rattle.ba_facts.specs.Walks.{every}
-use Rattle.ba_instant.proofs.MappedWalks.{mapped_end, mapped_not_met}
+use Rattle.ba_instant.proofs.MappedWalks.{mapped_end, mapped_not_met, mapped_told}
 use Rattle.ba_instant.proofs.mapped.MappedVisit.end.Goals as goal
+
+pub returns-then-is_told-clause-visited : goal.returns-then-is_told-clause-visited
+returns-then-is_told-clause-visited c =
+    mapped_told c.args.self.now c.requires.0 c.args.chosen.now (every c.args.walk.now.branch.now) c.args.best.now (c.is_told.ensures c.if-is_told.true)
 
 pub returns-then-not-is_met-clause-visited : goal.returns-then-not-is_met-clause-visited
 returns-then-not-is_met-clause-visited c =

@@ -14,4 +14,4 @@ pub returns : goal.returns
 returns c =
     let past : length c.args.self.now.search.now.problem.policy.schema.rules ≤ c.loop-rule.rule = grind (arith, common_steps) in
     improves_end c.args.self.now.search.now c.args.self.now.pick (IsOfRule c.args.self.now.number) c.loop-rule.rule c.args.best.now c.loop-rule.best c.loop-rule.invariant
-    (λ rule step more of new. rule_past c.args.self.now.search.now c.args.self.now.number c.args.self.now.branch.now c.requires.open_ rule step (omega (arith, past, more)) of new)
+    (λ rule step more of new. rule_past c.args.self.now.search.now c.args.self.now.number c.args.self.now.branch.now c.requires.of.open_ rule step (omega (arith, past, more)) of new)

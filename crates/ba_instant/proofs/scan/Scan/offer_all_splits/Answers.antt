@@ -7,7 +7,7 @@ use Rattle.ba_instant.proofs.scan.Scan.offer_all_splits.Goals as goal
 
 pub returns : goal.returns
 returns c =
-    split_all c.args.self.now.search.now c.args.self.now.pick c.args.self.now.number c.args.self.now.branch.now c.requires.open_ c.args.best.now c.offer_view_splits.new.best c.offer_rule_splits.new.best c.offer_part_splits.new.best
+    split_all c.args.self.now.search.now c.args.self.now.pick c.args.self.now.number c.args.self.now.branch.now c.requires.of.open_ c.args.best.now c.offer_view_splits.new.best c.offer_rule_splits.new.best c.offer_part_splits.new.best
     (subst (λ xs. Improves c.args.self.now.search.now c.args.self.now.pick (IsSplitOfViews c.args.self.now.branch.now c.args.self.now.number xs) c.args.best.now c.offer_view_splits.new.best)
     c.views.ensures c.in_ok-offer_view_splits.ensures)
     (subst (λ xs. Improves c.args.self.now.search.now c.args.self.now.pick (IsSplitOfRules c.args.self.now.branch.now c.args.self.now.number xs) c.offer_view_splits.new.best c.offer_rule_splits.new.best)

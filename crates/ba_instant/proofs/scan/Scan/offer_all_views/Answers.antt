@@ -14,4 +14,4 @@ pub returns : goal.returns
 returns c =
     let past : length c.args.self.now.search.now.problem.policy.views ≤ c.loop-view.view = grind (arith, common_steps) in
     improves_end c.args.self.now.search.now c.args.self.now.pick (IsOfView c.args.self.now.number) c.loop-view.view c.args.best.now c.loop-view.best c.loop-view.invariant
-    (λ view step more of new. view_past c.args.self.now.search.now c.args.self.now.number c.args.self.now.branch.now c.requires.open_ view step (omega (arith, past, more)) of new)
+    (λ view step more of new. view_past c.args.self.now.search.now c.args.self.now.number c.args.self.now.branch.now c.requires.of.open_ view step (omega (arith, past, more)) of new)

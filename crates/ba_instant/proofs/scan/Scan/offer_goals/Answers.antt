@@ -14,4 +14,4 @@ pub returns : goal.returns
 returns c =
     let past : length c.args.self.now.search.now.problem.goal.parts ≤ c.loop-part.part = grind (arith, common_steps) in
     improves_end c.args.self.now.search.now c.args.self.now.pick (λ part. IsOfForm c.args.self.now.number (OfGoal part)) c.loop-part.part c.args.best.now c.loop-part.best c.loop-part.invariant
-    (λ part step more of new. goal_past c.args.self.now.search.now c.args.self.now.number c.args.self.now.branch.now c.requires.open_ part step (omega (arith, past, more)) of new)
+    (λ part step more of new. goal_past c.args.self.now.search.now c.args.self.now.number c.args.self.now.branch.now c.requires.of.open_ part step (omega (arith, past, more)) of new)

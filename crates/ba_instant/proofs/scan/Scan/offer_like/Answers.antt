@@ -8,4 +8,4 @@ returns-in_ok-offer_over c =
 
 pub returns-else-is_open : goal.returns-else-is_open
 returns-else-is_open c =
-    like_decided c.args.self.now.search.now c.args.self.now.pick c.args.self.now.branch.now c.args.self.now.number c.args.cond.now c.requires.open_ c.args.chosen.now c.args.best.now (λ h. let t = c.is_open.ensures.1 h in cc)
+    like_decided c.args.self.now.search.now c.args.self.now.pick c.args.self.now.branch.now c.args.self.now.number c.args.cond.now c.requires.of.open_ c.args.chosen.now c.args.best.now (λ h. let t = c.is_open.ensures.1 h in cc)

@@ -10,5 +10,5 @@ loop-fact-preserved c =
 
 pub returns : goal.returns
 returns c =
-    links_all c.args.self.now.search.now c.args.self.now.number c.args.self.now.quiet c.args.self.now.branch.now c.args.self.now.recent.now c.requires c.args.self.now.pick c.args.best.now c.loop-fact.best
+    links_all c.args.self.now.search.now c.args.self.now.number c.args.self.now.quiet c.args.self.now.branch.now c.args.self.now.recent.now c.requires.of c.args.self.now.pick c.args.best.now c.loop-fact.best
     (at_all c.args.self.now.search.now c.args.self.now.pick c.args.self.now.recent.now (λ fact step. IsLinkOfFact c.args.self.now.number fact step) c.loop-fact.fact-index c.args.best.now c.loop-fact.best c.loop-fact-test.false c.loop-fact.invariant)

@@ -12,7 +12,7 @@ loop-fact-preserved c =
 
 pub returns : goal.returns
 returns c =
-    keys_all c.args.self.now.search.now c.args.self.now.number c.args.self.now.quiet c.args.self.now.branch.now c.args.self.now.recent.now c.requires.open_
-    (keys_late c.args.self.now.search.now c.args.self.now.number c.args.self.now.quiet c.args.self.now.branch.now c.args.self.now.recent.now c.requires) c.requires.recent_ c.args.self.now.pick c.args.best.now c.loop-fact.best
+    keys_all c.args.self.now.search.now c.args.self.now.number c.args.self.now.quiet c.args.self.now.branch.now c.args.self.now.recent.now c.requires.of.open_
+    (keys_late c.args.self.now.search.now c.args.self.now.number c.args.self.now.quiet c.args.self.now.branch.now c.args.self.now.recent.now c.requires.of) c.requires.of.recent_ c.args.self.now.pick c.args.best.now c.loop-fact.best
     (at_all c.args.self.now.search.now c.args.self.now.pick c.args.self.now.recent.now (λ one step. OfAny (IsKeyInTurn c.args.self.now.branch.now c.args.self.now.quiet c.args.self.now.number one) step) c.loop-fact.fact-index c.args.best.now c.loop-fact.best c.loop-fact-test.false
     c.loop-fact.invariant)

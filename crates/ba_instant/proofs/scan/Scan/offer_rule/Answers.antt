@@ -11,7 +11,7 @@ pub loop-part-preserved : goal.loop-part-preserved
 loop-part-preserved c =
     let there : slice_get c.args.self.now.search.now.problem.policy.schema.rules c.args.rule ≡ Some c.rule_at-it.result.now = c.rule_at-it.ensures in
     improves_next c.args.self.now.search.now c.args.self.now.pick (λ part. IsOfForm c.args.self.now.number (OfRule c.args.rule part)) c.loop-part.part c.args.best.now c.loop-part.best c.offer_rule_part.new.best c.loop-part.invariant
-    (rule_mapped c.args.self.now.search.now c.args.self.now.number c.args.self.now.branch.now c.requires.look.open_ c.args.rule c.rule_at-it.result.now there c.args.self.now.pick c.loop-part.part c.get.result.now c.loop-part.best c.offer_rule_part.new.best c.get.ensures
+    (rule_mapped c.args.self.now.search.now c.args.self.now.number c.args.self.now.branch.now c.requires.look.of.open_ c.args.rule c.rule_at-it.result.now there c.args.self.now.pick c.loop-part.part c.get.result.now c.loop-part.best c.offer_rule_part.new.best c.get.ensures
     c.in_ok-offer_rule_part.ensures)
 
 pub returns : goal.returns
@@ -19,4 +19,4 @@ returns c =
     let there : slice_get c.args.self.now.search.now.problem.policy.schema.rules c.args.rule ≡ Some c.rule_at-it.result.now = c.rule_at-it.ensures in
     let past : length c.rule_at-it.result.now.left.parts ≤ c.loop-part.part = grind (arith, common_steps) in
     improves_end c.args.self.now.search.now c.args.self.now.pick (λ part. IsOfForm c.args.self.now.number (OfRule c.args.rule part)) c.loop-part.part c.args.best.now c.loop-part.best c.loop-part.invariant
-    (λ part step more of new. rule_part_past c.args.self.now.search.now c.args.self.now.number c.args.self.now.branch.now c.requires.look.open_ c.args.rule c.rule_at-it.result.now there part step (omega (arith, past, more)) of new)
+    (λ part step more of new. rule_part_past c.args.self.now.search.now c.args.self.now.number c.args.self.now.branch.now c.requires.look.of.open_ c.args.rule c.rule_at-it.result.now there part step (omega (arith, past, more)) of new)

@@ -11,7 +11,7 @@ pub loop-part-preserved : goal.loop-part-preserved
 loop-part-preserved c =
     let there : slice_get c.args.self.now.search.now.problem.policy.views c.args.view ≡ Some c.view_at-it.result.now = c.view_at-it.ensures in
     improves_next c.args.self.now.search.now c.args.self.now.pick (λ part. IsOfForm c.args.self.now.number (OfView c.args.view part)) c.loop-part.part c.args.best.now c.loop-part.best c.offer.new.best c.loop-part.invariant
-    (view_mapped c.args.self.now.search.now c.args.self.now.number c.args.self.now.branch.now c.requires.look.open_ c.args.view c.view_at-it.result.now there c.args.self.now.pick c.loop-part.part c.get.result.now c.loop-part.best c.offer.new.best c.get.ensures
+    (view_mapped c.args.self.now.search.now c.args.self.now.number c.args.self.now.branch.now c.requires.look.of.open_ c.args.view c.view_at-it.result.now there c.args.self.now.pick c.loop-part.part c.get.result.now c.loop-part.best c.offer.new.best c.get.ensures
     c.in_ok-offer.ensures)
 
 pub returns : goal.returns
@@ -19,4 +19,4 @@ returns c =
     let there : slice_get c.args.self.now.search.now.problem.policy.views c.args.view ≡ Some c.view_at-it.result.now = c.view_at-it.ensures in
     let past : length c.view_at-it.result.now.query.parts ≤ c.loop-part.part = grind (arith, common_steps) in
     improves_end c.args.self.now.search.now c.args.self.now.pick (λ part. IsOfForm c.args.self.now.number (OfView c.args.view part)) c.loop-part.part c.args.best.now c.loop-part.best c.loop-part.invariant
-    (λ part step more of new. view_part_past c.args.self.now.search.now c.args.self.now.number c.args.self.now.branch.now c.requires.look.open_ c.args.view c.view_at-it.result.now there part step (omega (arith, past, more)) of new)
+    (λ part step more of new. view_part_past c.args.self.now.search.now c.args.self.now.number c.args.self.now.branch.now c.requires.look.of.open_ c.args.view c.view_at-it.result.now there part step (omega (arith, past, more)) of new)

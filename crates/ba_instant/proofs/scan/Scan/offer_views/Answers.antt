@@ -5,5 +5,5 @@ use Rattle.ba_instant.proofs.scan.Scan.offer_views.Goals as goal
 
 pub returns-else-is_timely : goal.returns-else-is_timely
 returns-else-is_timely c =
-    telling_untimely c.args.self.now.search.now c.args.self.now.number c.args.self.now.quiet c.args.self.now.branch.now c.args.self.now.recent.now c.requires c.args.self.now.pick (IsViewStep c.args.self.now.number) c.args.best.now
+    telling_untimely c.args.self.now.search.now c.args.self.now.number c.args.self.now.quiet c.args.self.now.branch.now c.args.self.now.recent.now c.requires.of c.args.self.now.pick (IsViewStep c.args.self.now.number) c.args.best.now
     (λ h. let t = c.is_timely.ensures.1 h in cc) (λ step h. inl (inr h))
