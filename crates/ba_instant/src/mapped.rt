@@ -4,7 +4,7 @@ ghost use Rattle.ba_instant.specs.Scans.{AreOld, ImprovesBy, IsNoUse, IsOvertake
 ghost use Rattle.ba_instant.specs.Offers.{IsStepOf, step_of};
 
 use crate::batch::{Batch, is_behind, is_timely};
-use crate::outlook::{Outlook, has_many};
+use crate::outlook::{Outlook, is_worthwhile};
 use crate::scan::Scan;
 use ba_facts::{Offered, Side, Visit, Walk, Wanted, numbers_of};
 use ba_kernel::Step;
@@ -209,7 +209,7 @@ impl<'a> Mapped<'a> {
     fn asks_first(&self) -> bool {
         match self.form {
             Form::OfGoal { .. } => false,
-            _ => has_many(self.part),
+            _ => is_worthwhile(self.part),
         }
     }
 

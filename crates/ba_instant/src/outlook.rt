@@ -8,7 +8,7 @@ ghost use Rattle.ba_facts.specs.Walks.{IsWanted};
 ghost use Rattle.ba_instant.specs.Outlooks.{AreApart, FailsWith, GivesOther, IsDifferent, IsNeedless, IsOut, Keeps, KeepsAt, Links, MeetsAt, NeedsOnly, NoneSought, NoneWithin, OffersLike, term_with};
 
 use crate::alike::has_alike;
-use crate::spread::is_at;
+use crate::spread::{is_at, is_equation};
 use ba_facts::{Branch, Term, TermRef, Walk, Wanted};
 use ba_model::{Atom, List, Op, Operand, Part};
 use std::alloc::{AllocError, Global};
@@ -41,11 +41,34 @@ pub struct Placed {
     pub fact: usize,
 }
 
-/// Whether the part has so many tables that its outlook is worth the lists that it takes.
-pub fn has_many(part: &Part) -> bool
-    ensures { IsTrue result ↔ (3 ≤ length part.now.from) }
-{
-    part.from.len() >= MANY_TABLES
+/// Whether the part has so many tables, one of them loose, that its outlook is worth the lists that
+/// it takes. A walk from left to right goes over all facts for a loose place again and again; where
+/// there is none, each place has few facts that agree with those before.
+pub fn is_worthwhile(part: &Part) -> bool {
+    let conds = part.conds.as_slice();
+    let places = part.from.len();
+    places >= MANY_TABLES && (1..places).any(|place| is_loose(conds, place))
+}
+
+/// Whether no `=` ties the place to a constant or to an earlier place.
+fn is_loose(conds: &[Atom], place: usize) -> bool {
+    !conds.iter().any(|atom| ties(atom, place))
+}
+
+fn ties(atom: &Atom, place: usize) -> bool {
+    is_equation(atom.op)
+        && ((is_at(place, &atom.left) && needs_earlier(place, &atom.right))
+            || (is_at(place, &atom.right) && needs_earlier(place, &atom.left)))
+}
+
+/// Whether the operand names no place from this one on.
+fn needs_earlier(place: usize, operand: &Operand) -> bool {
+    match operand {
+        Operand::Col(p, _) => (*p as usize) < place,
+        Operand::Val(_) => true,
+        Operand::Param(_) => true,
+        Operand::Var(_) => true,
+    }
 }
 
 impl<'a> Outlook<'a> {

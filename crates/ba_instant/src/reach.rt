@@ -4,7 +4,7 @@ ghost use Rattle.ba_facts.specs.declared.term.Side.TheVariants.{Two};
 ghost use Rattle.ba_instant.specs.Spreads.{HasFact, NoneReach};
 
 use crate::alike::has_alike;
-use crate::outlook::{Outlook, has_many};
+use crate::outlook::{Outlook, is_worthwhile};
 use ba_facts::{Branch, Fact, Offered, Side, Term, Visit, Walk, Wanted};
 use ba_model::{List, Part};
 use std::alloc::{AllocError, Global};
@@ -105,7 +105,7 @@ impl Reach<'_> {
         if walk.is_lost(&[], Some(self.row)) {
             return Ok(false);
         }
-        if has_many(self.part) {
+        if is_worthwhile(self.part) {
             let outlook = Outlook {
                 alloc: self.alloc,
                 walk,

@@ -9,7 +9,7 @@ ghost use Rattle.ba_instant.specs.Spreads.{AreChoices, IsAt, IsLikeSplit, IsLike
 
 use crate::alike::{has_alike, likes_of};
 use crate::batch::Batch;
-use crate::outlook::{Outlook, has_many};
+use crate::outlook::{Outlook, is_worthwhile};
 use crate::scan::Scan;
 use ba_facts::{Branch, Offered, Side, Term, TermRef, Visit, Walk, Wanted, numbers_of};
 use ba_model::{Atom, List, Op, Operand, Part};
@@ -115,7 +115,7 @@ impl<'a> Spread<'a> {
         if walk.is_lost(&[], self.row) {
             return Ok(());
         }
-        if has_many(self.part) {
+        if is_worthwhile(self.part) {
             let outlook = Outlook {
                 alloc: self.scan.alloc,
                 walk,
@@ -267,7 +267,8 @@ fn is_undecided(branch: &Branch, op: Op, left: TermRef<'_>, right: TermRef<'_>) 
         && !branch.known.refutes(op, left, right)
 }
 
-fn is_equation(op: Op) -> bool
+/// Whether it is the operator `=`.
+pub fn is_equation(op: Op) -> bool
     ensures { IsTrue result ↔ (op ≡ Eq) }
 {
     match op {

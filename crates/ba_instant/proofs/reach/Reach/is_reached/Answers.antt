@@ -16,8 +16,8 @@ returns-then-is_lost c = λ not.
     let walk : Walk = record { branch = c.args.self.now.branch; side = Two; part = c.args.self.now.part; wanted = Shown } in
     reach_lost_at_once c.args.self.now walk (record { branch_is = refl; part_is = refl; wanted_is = refl }) (c.is_lost.ensures c.if-is_lost.true)
 
-pub returns-then-has_many : goal.returns-then-has_many
-returns-then-has_many c = λ not.
+pub returns-then-is_worthwhile : goal.returns-then-is_worthwhile
+returns-then-is_worthwhile c = λ not.
     reach_bleak c.args.self.now
     (λ facts completes head. c.in_ok-bleak.ensures (needless c.in_ok-bleak.bleak not) facts (record { completes = completes; head = head }))
 
