@@ -17,7 +17,7 @@ use std::alloc::{AllocError, Global};
 const MANY_TABLES: usize = 3;
 
 /// With how many of those that were taken before it a fact is compared.
-const LAST_TAKEN: usize = 32;
+const LAST_TAKEN: usize = 8;
 
 /// A part that is to be mapped to facts, and the row, if one is given, for its head.
 #[derive(Clone, Copy)]
@@ -41,33 +41,53 @@ pub struct Placed {
     pub fact: usize,
 }
 
-/// Whether the part has so many tables, one of them loose, that its outlook is worth the lists that
-/// it takes. A walk from left to right goes over all facts for a loose place again and again; where
-/// there is none, each place has few facts that agree with those before.
+/// Whether the part has so many tables that its outlook is worth the lists that it takes, and a walk
+/// from left to right may go wrong: at a place that nothing ties to those before it goes over all
+/// facts again and again, and what is asked of a late place alone it asks too late.
 pub fn is_worthwhile(part: &Part) -> bool {
     let conds = part.conds.as_slice();
     let places = part.from.len();
-    places >= MANY_TABLES && (1..places).any(|place| is_loose(conds, place))
+    places >= MANY_TABLES
+        && (1..places).any(|place| is_loose(conds, place) || is_tested(conds, place))
 }
 
-/// Whether no `=` ties the place to a constant or to an earlier place.
+/// Whether no `=` ties the place to an earlier one.
 fn is_loose(conds: &[Atom], place: usize) -> bool {
-    !conds.iter().any(|atom| ties(atom, place))
+    !conds
+        .iter()
+        .any(|atom| is_equation(atom.op) && ties(atom, place))
 }
 
 fn ties(atom: &Atom, place: usize) -> bool {
-    is_equation(atom.op)
-        && ((is_at(place, &atom.left) && needs_earlier(place, &atom.right))
-            || (is_at(place, &atom.right) && needs_earlier(place, &atom.left)))
+    (is_at(place, &atom.left) && is_before(place, &atom.right))
+        || (is_at(place, &atom.right) && is_before(place, &atom.left))
 }
 
-/// Whether the operand names no place from this one on.
-fn needs_earlier(place: usize, operand: &Operand) -> bool {
+/// Whether the operand is a column of an earlier place.
+fn is_before(place: usize, operand: &Operand) -> bool {
     match operand {
         Operand::Col(p, _) => (*p as usize) < place,
-        Operand::Val(_) => true,
-        Operand::Param(_) => true,
-        Operand::Var(_) => true,
+        _ => false,
+    }
+}
+
+/// Whether an atom is of the place alone. A `<>` counts for nothing: to test it takes longest.
+fn is_tested(conds: &[Atom], place: usize) -> bool {
+    conds
+        .iter()
+        .any(|atom| !is_inequality(atom.op) && is_of_alone(atom, place))
+}
+
+fn is_of_alone(atom: &Atom, place: usize) -> bool {
+    needs_only(place, &atom.left)
+        && needs_only(place, &atom.right)
+        && (is_at(place, &atom.left) || is_at(place, &atom.right))
+}
+
+fn is_inequality(op: Op) -> bool {
+    match op {
+        Op::Ne => true,
+        _ => false,
     }
 }
 
@@ -131,7 +151,7 @@ impl<'a> Outlook<'a> {
         requires { slice_get self.now.walk.part.now.from own.place ≡ Some table }
         ensures { IsTrue result → IsOut self.now own }
     {
-        !self.walk.is_fact(table, own.fact) || self.is_unmet(own) || self.has_other(own)
+        !self.walk.is_fact(table, own.fact) || self.has_other(own) || self.is_unmet(own)
     }
 
     /// Whether some atom isn't what is wanted by the fact alone.
