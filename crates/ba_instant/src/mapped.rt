@@ -209,7 +209,7 @@ impl<'a> Mapped<'a> {
     fn asks_first(&self) -> bool {
         match self.form {
             Form::OfGoal { .. } => false,
-            _ => is_worthwhile(self.part),
+            _ => is_worthwhile(self.part, false),
         }
     }
 

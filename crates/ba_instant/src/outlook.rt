@@ -43,12 +43,20 @@ pub struct Placed {
 
 /// Whether the part has so many tables that its outlook is worth the lists that it takes, and a walk
 /// from left to right may go wrong: at a place that nothing ties to those before it goes over all
-/// facts again and again, and what is asked of a late place alone it asks too late.
-pub fn is_worthwhile(part: &Part) -> bool {
+/// facts again and again; what is asked of a late place alone it asks too late; and so it does with
+/// the row, if one is given, where the head has no column of the first place.
+pub fn is_worthwhile(part: &Part, has_row: bool) -> bool {
     let conds = part.conds.as_slice();
     let places = part.from.len();
+    let begins_blindly = has_row && !names_first(part.head.as_slice());
     places >= MANY_TABLES
-        && (1..places).any(|place| is_loose(conds, place) || is_tested(conds, place))
+        && (begins_blindly
+            || (1..places).any(|place| is_loose(conds, place) || is_tested(conds, place)))
+}
+
+/// Whether a column of the first place is among these.
+fn names_first(head: &[Operand]) -> bool {
+    head.iter().any(|operand| is_at(0, operand))
 }
 
 /// Whether no `=` ties the place to an earlier one.

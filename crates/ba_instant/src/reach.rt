@@ -105,7 +105,7 @@ impl Reach<'_> {
         if walk.is_lost(&[], Some(self.row)) {
             return Ok(false);
         }
-        if is_worthwhile(self.part) {
+        if is_worthwhile(self.part, true) {
             let outlook = Outlook {
                 alloc: self.alloc,
                 walk,

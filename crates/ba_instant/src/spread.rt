@@ -115,7 +115,7 @@ impl<'a> Spread<'a> {
         if walk.is_lost(&[], self.row) {
             return Ok(());
         }
-        if is_worthwhile(self.part) {
+        if is_worthwhile(self.part, self.row.is_some()) {
             let outlook = Outlook {
                 alloc: self.scan.alloc,
                 walk,
