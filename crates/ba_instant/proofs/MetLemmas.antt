@@ -2,18 +2,17 @@
 use Rattle.std.proofs.Common.{◌≡◌, ◌∙◌, ℕ, List, [], ◌∷◌, ◌++◌, map, ap, sym, subst}
 use Rattle.std.proofs.lemmas.List.Elements.{All-weaker}
 use Rattle.std.specs.List.{All, AllZip, Any, zip}
-use Rattle.std.specs.Prelude.{Option, slice_get}
+use Rattle.std.specs.Prelude.{Option}
 use Rattle.ba_model.specs.declared.query.Atom.{Atom}
 use Rattle.ba_model.specs.declared.query.Operand.{Operand}
 use Rattle.ba_model.specs.declared.query.Part.{Part}
 use Rattle.ba_facts.specs.Known.{Known}
-use Rattle.ba_facts.specs.Matches.{AreTheSame, IsAnswered, IsMapping, IsShown, row_of, term_of, terms_at}
+use Rattle.ba_facts.specs.Matches.{AreTheSame, IsAnswered, IsShown, row_of, term_of, terms_at}
 use Rattle.ba_facts.specs.declared.branch.Branch.{Branch}
 use Rattle.ba_facts.specs.declared.term.Fact.{Fact}
 use Rattle.ba_facts.specs.declared.term.Side.{Side}
 use Rattle.ba_facts.specs.declared.term.Side.TheVariants.{One, Two}
 use Rattle.ba_facts.specs.declared.term.Term.{Term}
-use Rattle.ba_kernel.specs.Effects.{rows_at}
 use Rattle.ba_kernel.specs.Steps.{AreEqualIn, FactsPass, IsNotNullAt, LinkIsMet, LinkPasses, Passes, RuleIsMet, RulePasses, Tells, ViewIsMet, ViewPasses}
 use Rattle.ba_kernel.specs.declared.problem.Problem.{Problem}
 use Rattle.ba_kernel.specs.declared.step.Step.{Step}
