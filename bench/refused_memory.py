@@ -31,7 +31,7 @@ HOME = os.path.dirname(os.path.dirname(os.path.abspath(__file__)))
 DATA = os.path.join(HOME, "crates", "blockaid_cases", "data")
 CASES = (
     "texts/covered_names,search/title_as_first_ask_is_refuted,search/cyclic_link_spends_the_budget,search/title_after_own_attendance,"
-    "templates/second_request_by_template,sessions/pinned_version_over_a_publish,proofs/checked_proofs_accepted"
+    "templates/second_request_by_template,keys/template_of_a_read,sessions/pinned_version_over_a_publish,proofs/checked_proofs_accepted"
 )
 # A run that takes longer than this many seconds is a failed one.
 LONGEST = 60
@@ -129,17 +129,23 @@ class Case:
             line = json.loads(text)
             if "begin" in line:
                 begun[line["begin"]] = number in memory
-            elif begun.get(line.get("ask", line.get("end"))):
+            elif begun.get(line.get("ask", line.get("read", line.get("end")))):
                 found.add(number)
         return found
 
 
+def by_proof(line):
+    """The line (None where none may stand), with each answer by template, also of a key's query, as one by proof."""
+    by = line.get("by") if line else None
+    if by is None:
+        return line
+    told = ["proof" if it == "template" else it for it in (by if isinstance(by, list) else [by])]
+    return dict(line, by=told)
+
+
 def same(line, wanted):
-    """Whether a line is as it must be (None where none may stand), where an answer by template is one by proof too."""
-    by = {"template", "proof"}
-    if wanted is not None and line.get("by") in by and wanted.get("by") in by:
-        line, wanted = dict(line, by=""), dict(wanted, by="")
-    return line == wanted
+    """Whether a line is as it must be, where an answer by template is one by proof too."""
+    return by_proof(line) == by_proof(wanted)
 
 
 def summary_of(case, lines):
