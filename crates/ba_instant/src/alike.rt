@@ -3,8 +3,7 @@ ghost use Rattle.std.specs.Prelude.{◌↔◌, ◌≢◌, Any, IfOk, IsTrue};
 ghost use Rattle.ba_facts.specs.Alike.{AreAlike};
 ghost use Rattle.ba_instant.specs.Spreads.{AreLikes};
 
-use crate::scan::counted;
-use ba_facts::Branch;
+use ba_facts::{Branch, number_of};
 use std::alloc::{AllocError, Global};
 
 /// Whether the fact is alike to one of the others from a place on.
@@ -23,7 +22,7 @@ pub fn has_alike(branch: &Branch, others: &[usize], from: usize, fact: usize) ->
 pub fn likes_of(alloc: Global, branch: &Branch, fact: u32) -> Result<Vec<u32>, AllocError>
     ensures { IfOk result (λ it. AreLikes branch.now fact it.items) }
 {
-    let count = counted(branch.facts.len())?;
+    let count = number_of(branch.facts.len())?;
     let mut likes = Vec::new(alloc);
     likes.push(fact)?;
     for other in 0..count {

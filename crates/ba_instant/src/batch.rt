@@ -143,7 +143,7 @@ pub fn keep_found(
 
 /// Whether the step of the round, or of a later one, needn't be looked at: it is of a later round
 /// than those that were found, or is single and another isn't picked after it.
-pub fn is_reached(pick: Pick, best: &Option<Batch>, round: u64, step: &Step) -> bool
+pub fn is_passed(pick: Pick, best: &Option<Batch>, round: u64, step: &Step) -> bool
     ensures { IsTrue result → Reaches pick best.now (record { round = round; step = step.now }) }
 {
     match best {

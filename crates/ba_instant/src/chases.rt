@@ -7,7 +7,8 @@ ghost use Rattle.ba_instant.specs.Offers.{IsEntryOf, IsLinkOfFact, IsLinkStep, I
 
 use crate::batch::Batch;
 use crate::recent::fact_round;
-use crate::scan::{Scan, counted};
+use crate::scan::Scan;
+use ba_facts::number_of;
 use ba_kernel::Step;
 use std::alloc::AllocError;
 
@@ -118,7 +119,7 @@ impl<'a> Scan<'a> {
         };
         let tables = &self.search.problem().policy.schema.tables;
         match tables.find(it.table as usize) {
-            Some(table) => counted(table.links.len()),
+            Some(table) => number_of(table.links.len()),
             None => Ok(0),
         }
     }

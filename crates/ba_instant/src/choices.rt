@@ -1,7 +1,6 @@
 //! A choice of terms in place of the facts that a query asks for. Nothing is promised of it:
 //! whoever uses it tests it.
-use crate::scan::counted;
-use ba_facts::Term;
+use ba_facts::{Term, number_of};
 use ba_model::{Atom, Duplicate, List, Op, Operand, Part, Same, Schema, Value};
 use std::alloc::{AllocError, Global};
 
@@ -30,7 +29,7 @@ pub fn chosen_rows(
     row: &[Operand],
 ) -> Result<List<List<Term>>, AllocError> {
     let from = part.from.as_slice();
-    let count = counted(from.len())?;
+    let count = number_of(from.len())?;
     let mut rows = Vec::new(alloc);
     for place in 0..count {
         let width = width_of(schema, from[place as usize])?;
@@ -41,7 +40,7 @@ pub fn chosen_rows(
 
 fn width_of(schema: &Schema, table: u32) -> Result<u32, AllocError> {
     match schema.tables.find(table as usize) {
-        Some(it) => counted(it.columns.len()),
+        Some(it) => number_of(it.columns.len()),
         None => Ok(0),
     }
 }

@@ -206,7 +206,7 @@ impl OpenBranch<'_> {
         ensures due { IfOk result (IsDueOnIt self.now) }
         ensures agenda { OnOk result (IsAgendaOn self.now agenda.new) }
     {
-        let quiet = agenda.round.min(0xffff_ffff) as u32;
+        let quiet = agenda.round.min(u32::MAX as u64) as u32;
         let older = first_recent(self.branch, agenda.older, quiet)?;
         let telling = self.telling_steps(alloc, older, quiet)?;
         match telling {

@@ -10,8 +10,8 @@ ghost use Rattle.ba_instant.specs.Partners.{ArePartners};
 
 use crate::batch::{Batch, is_timely};
 use crate::recent::fact_round;
-use crate::scan::{Scan, counted};
-use ba_facts::{Fact, Knowledge, TermRef};
+use crate::scan::Scan;
+use ba_facts::{Fact, Knowledge, TermRef, number_of};
 use ba_kernel::Step;
 use ba_model::List;
 use std::alloc::AllocError;
@@ -194,7 +194,7 @@ impl<'a> Scan<'a> {
         };
         let tables = &self.search.problem().policy.schema.tables;
         match tables.find(it.table as usize) {
-            Some(table) => counted(table.keys.len()),
+            Some(table) => number_of(table.keys.len()),
             None => Ok(0),
         }
     }

@@ -11,10 +11,9 @@ use ba_kernel::Step;
 use ba_model::{List, MAX_PART_TABLES, Part};
 use ba_settle::Pick;
 use std::alloc::AllocError;
-use std::cmp::Ordering;
 
-/// A step without its branch and facts.
-#[derive(Clone, Copy)]
+/// A step without its branch and facts: of rules, of views and of the goal, each by its numbers.
+#[derive(Clone, Copy, PartialEq, Eq, PartialOrd, Ord)]
 pub enum Form {
     OfRule { rule: u32, part: u32 },
     OfView { view: u32, part: u32 },
@@ -44,44 +43,6 @@ impl Form {
                 part,
                 facts,
             },
-        }
-    }
-
-    pub fn same(self, other: Form) -> bool
-        ensures { IsTrue result → self ≡ other }
-    {
-        match (self, other) {
-            (
-                Form::OfRule { rule, part },
-                Form::OfRule {
-                    rule: its,
-                    part: at,
-                },
-            ) => { rule == its && part == at }
-            (
-                Form::OfView { view, part },
-                Form::OfView {
-                    view: its,
-                    part: at,
-                },
-            ) => { view == its && part == at }
-            (Form::OfGoal { part }, Form::OfGoal { part: at }) => part == at,
-            _ => false,
-        }
-    }
-
-    /// An order of forms: rules, views and the goal, each by its numbers.
-    pub fn compare(self, other: Form) -> Ordering {
-        let (kind, number, part) = self.place();
-        let (its, at, of) = other.place();
-        kind.cmp(&its).then(number.cmp(&at)).then(part.cmp(&of))
-    }
-
-    fn place(self) -> (u32, u32, u32) {
-        match self {
-            Form::OfRule { rule, part } => (0, rule, part),
-            Form::OfView { view, part } => (1, view, part),
-            Form::OfGoal { part } => (2, part, 0),
         }
     }
 }

@@ -8,7 +8,7 @@ ghost use Rattle.ba_facts.specs.Walks.{IsWanted};
 ghost use Rattle.ba_instant.specs.Outlooks.{AreApart, FailsWith, GivesOther, IsDifferent, IsNeedless, IsOut, Keeps, KeepsAt, Links, MeetsAt, NeedsOnly, NoneSought, NoneWithin, OffersLike, term_with};
 
 use crate::alike::has_alike;
-use crate::spread::{is_at, is_equation};
+use crate::spread::is_at;
 use ba_facts::{Branch, Term, TermRef, Walk, Wanted};
 use ba_model::{Atom, List, Op, Operand, Part};
 use std::alloc::{AllocError, Global};
@@ -63,7 +63,7 @@ fn names_first(head: &[Operand]) -> bool {
 fn is_loose(conds: &[Atom], place: usize) -> bool {
     !conds
         .iter()
-        .any(|atom| is_equation(atom.op) && ties(atom, place))
+        .any(|atom| atom.op.is_equation() && ties(atom, place))
 }
 
 fn ties(atom: &Atom, place: usize) -> bool {

@@ -6,8 +6,8 @@ ghost use Rattle.ba_kernel.specs.Courses.{IsOpen};
 ghost use Rattle.ba_instant.specs.Partners.{ArePartners, Gains, HasAny, IsEqualIn, IsEqualOn, IsEqualOnAny};
 
 use crate::recent::recent_facts;
-use crate::scan::{Scan, counted};
-use ba_facts::{Branch, Fact};
+use crate::scan::Scan;
+use ba_facts::{Branch, Fact, number_of};
 use ba_kernel::Search;
 use ba_model::List;
 use std::alloc::{AllocError, Global};
@@ -129,7 +129,7 @@ fn add_holder(branch: &Branch, unknown: u32, facts: &mut Vec<u32>) -> Result<(),
 {
     match branch.holder(unknown) {
         Some(number) => {
-            facts.push(counted(number)?)?;
+            facts.push(number_of(number)?)?;
             Ok(())
         }
         None => Ok(()),

@@ -7,8 +7,8 @@ ghost use Rattle.ba_instant.specs.declared.mapped.Form.TheVariants.{OfGoal, OfRu
 use crate::batch::{Batch, is_timely};
 use crate::mapped::{Form, Mapped};
 use crate::reach::Reach;
-use crate::scan::{Scan, counted};
-use ba_facts::{Side, Term};
+use crate::scan::Scan;
+use ba_facts::{Side, Term, number_of};
 use ba_model::{List, Part, Rule, View};
 use std::alloc::AllocError;
 
@@ -71,7 +71,7 @@ impl<'a> Scan<'a> {
         requires { IsScan self.now }
         ensures { OnOk result (ImprovesBy self.now (IsViewStep self.now.number) best.old best.new) }
     {
-        let count = counted(self.search.problem().policy.views.len())?;
+        let count = number_of(self.search.problem().policy.views.len())?;
         for view in 0..count {
             self.offer_view(view, best)?;
         }
@@ -86,7 +86,7 @@ impl<'a> Scan<'a> {
             (ImprovesBy self.now (IsOfView self.now.number view) best.old best.new) }
     {
         let it = self.view_at(view);
-        let count = counted(it.query.parts.len())?;
+        let count = number_of(it.query.parts.len())?;
         for part in 0..count {
             let mapped = Mapped {
                 scan: &*self,
@@ -114,7 +114,7 @@ impl<'a> Scan<'a> {
         requires { IsScan self.now }
         ensures { OnOk result (ImprovesBy self.now (IsRuleStep self.now.number) best.old best.new) }
     {
-        let count = counted(self.search.problem().policy.schema.rules.len())?;
+        let count = number_of(self.search.problem().policy.schema.rules.len())?;
         for rule in 0..count {
             self.offer_rule(rule, best)?;
         }
@@ -129,7 +129,7 @@ impl<'a> Scan<'a> {
             (ImprovesBy self.now (IsOfRule self.now.number rule) best.old best.new) }
     {
         let it = self.rule_at(rule);
-        let count = counted(it.left.parts.len())?;
+        let count = number_of(it.left.parts.len())?;
         for part in 0..count {
             self.offer_rule_part(rule, part, it.left.parts.get(part as usize), best)?;
         }
@@ -167,7 +167,7 @@ impl<'a> Scan<'a> {
         requires { IsScan self.now }
         ensures { OnOk result (ImprovesBy self.now (IsGoalStep self.now.number) best.old best.new) }
     {
-        let count = counted(self.goal_parts().len())?;
+        let count = number_of(self.goal_parts().len())?;
         for part in 0..count {
             self.offer_goal(part, best)?;
         }

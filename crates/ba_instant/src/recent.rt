@@ -4,8 +4,7 @@ ghost use Rattle.ba_instant.specs.Agendas.{AreOlder};
 ghost use Rattle.ba_instant.specs.Scans.{AreRecent};
 ghost use Rattle.ba_instant.specs.Offers.{fact_round};
 
-use crate::scan::counted;
-use ba_facts::Branch;
+use ba_facts::{Branch, number_of};
 use std::alloc::{AllocError, Global};
 
 /// The first number of a fact whose round is at least the bound, or that past the last fact. Those
@@ -14,7 +13,7 @@ pub fn first_recent(branch: &Branch, older: u32, bound: u32) -> Result<u32, Allo
     requires { AreOlder branch.now older bound }
     ensures { IfOk result (λ it. AreOlder branch.now it bound) }
 {
-    let count = counted(branch.facts.len())?;
+    let count = number_of(branch.facts.len())?;
     for number in older..count {
         if fact_round(branch, number) >= bound {
             return Ok(number);
@@ -34,7 +33,7 @@ pub fn recent_facts(
     requires { AreOlder branch.now older bound }
     ensures { IfOk result (λ it. AreRecent branch.now bound it.items) }
 {
-    let count = counted(branch.facts.len())?;
+    let count = number_of(branch.facts.len())?;
     let mut recent = Vec::new(alloc);
     for number in older..count {
         if fact_round(branch, number) >= bound {

@@ -1,9 +1,9 @@
 //! What is looked at on a branch, and the steps that are looked for.
-ghost use Rattle.std.specs.Prelude.{◌≡◌, ◌≤◌, ℕ, IfOk, OnOk};
+ghost use Rattle.std.specs.Prelude.{◌≡◌, ◌≤◌, ℕ, OnOk};
 ghost use Rattle.ba_instant.specs.Offers.{IsNewIn, IsRoundIn};
 ghost use Rattle.ba_instant.specs.Scans.{ImprovesBy};
 
-use crate::batch::{Batch, is_reached, keep_found};
+use crate::batch::{Batch, is_passed, keep_found};
 use crate::told::Told;
 use ba_facts::Branch;
 use ba_kernel::{Search, Step};
@@ -59,7 +59,7 @@ impl<'a> Scan<'a> {
             → IsRoundIn self.now.search.now step round → least ≤ round }
         ensures { OnOk result (ImprovesBy self.now (λ it. it ≡ step) best.old best.new) }
     {
-        if is_reached(self.pick, best, least, &step) {
+        if is_passed(self.pick, best, least, &step) {
             return Ok(());
         }
         self.offer(step, best)
@@ -77,14 +77,4 @@ impl<'a> Scan<'a> {
     {
         self.offer_late(round, step, best)
     }
-}
-
-/// The length as a number of 32 bits. A greater one is told as want of memory.
-pub fn counted(length: usize) -> Result<u32, AllocError>
-    ensures { IfOk result (λ it. it ≡ length) }
-{
-    if length > 0xffff_ffff {
-        return Err(AllocError);
-    }
-    Ok(length as u32)
 }

@@ -1,7 +1,6 @@
 //! Splits by atoms of a part's live mappings: of those that differ only in facts that are alike one
 //! is looked for, and then each atom over the facts that are alike to those that it names.
 ghost use Rattle.std.specs.Prelude.{◌≡◌, ◌↔◌, [], IfOk, IsTrue, OnOk, map};
-ghost use Rattle.ba_model.specs.declared.query.Op.TheVariants.{Eq};
 ghost use Rattle.ba_facts.specs.Known.{seen};
 ghost use Rattle.ba_facts.specs.Matches.{Under, terms_at};
 ghost use Rattle.ba_instant.specs.Scans.{ImprovesBy, IsScan};
@@ -262,21 +261,7 @@ fn is_open(branch: &Branch, facts: &[u32], cond: &Atom) -> bool
 fn is_undecided(branch: &Branch, op: Op, left: TermRef<'_>, right: TermRef<'_>) -> bool
     ensures { IsTrue result ↔ IsOpenOf branch.now.known op (seen left.entry) (seen right.entry) }
 {
-    !is_equation(op)
+    !op.is_equation()
         && !branch.known.shows(op, left, right)
         && !branch.known.refutes(op, left, right)
-}
-
-/// Whether it is the operator `=`.
-pub fn is_equation(op: Op) -> bool
-    ensures { IsTrue result ↔ (op ≡ Eq) }
-{
-    match op {
-        Op::Eq => true,
-        Op::Ne => false,
-        Op::Lt => false,
-        Op::Le => false,
-        Op::IsNull => false,
-        Op::NotNull => false,
-    }
 }

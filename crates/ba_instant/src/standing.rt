@@ -39,6 +39,6 @@ fn unknown_round(branch: &Branch, unknown: u32) -> u32
 {
     match branch.holder(unknown) {
         Some(number) => branch.round_at(number),
-        None => 0xffff_ffff,
+        None => u32::MAX,
     }
 }

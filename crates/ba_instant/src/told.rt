@@ -10,7 +10,7 @@ use std::cmp::Ordering;
 use std::mem;
 
 /// A link of a fact.
-#[derive(Clone, Copy, Debug)]
+#[derive(Clone, Copy, Debug, PartialEq, Eq, PartialOrd, Ord)]
 pub struct ToldLink {
     pub fact: u32,
     pub link: u32,
@@ -54,16 +54,10 @@ impl Duplicate for Told {
     }
 }
 
-impl ToldLink {
-    fn is_before(self, other: ToldLink) -> bool {
-        self.fact < other.fact || (self.fact == other.fact && self.link < other.link)
-    }
-}
-
 impl ToldMapping {
     /// Whether it comes before the form's step on the facts.
     fn is_before(&self, form: Form, facts: &[usize]) -> bool {
-        match self.form.compare(form) {
+        match self.form.cmp(&form) {
             Ordering::Less => true,
             Ordering::Equal => are_before(self.facts.as_slice(), facts),
             Ordering::Greater => false,
@@ -72,7 +66,7 @@ impl ToldMapping {
 
     /// The same order between two of these.
     fn comes_before(&self, other: &ToldMapping) -> bool {
-        match self.form.compare(other.form) {
+        match self.form.cmp(&other.form) {
             Ordering::Less => true,
             Ordering::Equal => self.facts.as_slice().cmp(other.facts.as_slice()).is_lt(),
             Ordering::Greater => false,
@@ -82,7 +76,7 @@ impl ToldMapping {
     fn is_of(&self, form: Form, facts: &[usize]) -> bool
         ensures { IsTrue result → (self.now.form ≡ form) × (self.now.facts ≡ facts.now) }
     {
-        self.form.same(form) && are_same(self.facts.as_slice(), facts)
+        self.form == form && are_same(self.facts.as_slice(), facts)
     }
 }
 
@@ -136,8 +130,9 @@ impl Told {
         ensures { IsTrue result
             → Contains self.now.links (record { fact = fact; link = link }) }
     {
-        match self.links.find(self.link_place(ToldLink { fact, link })) {
-            Some(it) => it.fact == fact && it.link == link,
+        let sought = ToldLink { fact, link };
+        match self.links.find(self.link_place(sought)) {
+            Some(it) => *it == sought,
             None => false,
         }
     }
@@ -203,7 +198,7 @@ impl Told {
     fn link_place(&self, it: ToldLink) -> usize {
         self.links
             .as_slice()
-            .partition_point(|there| there.is_before(it))
+            .partition_point(|there| *there < it)
     }
 
     /// Where the mapping is to stand.

@@ -214,6 +214,10 @@ fn run<R: Threads + Wait + Sync, F: Files, S: Sink, G: Gate + Sync>(
 /// refutes its question or query, and none that is blocked is covered. Else the line tells the first
 /// line that fails one, and which (status 1).
 ///
+/// `store` has the words of `run` but `--load` and `--proofs`. It reads and serves what `run` would,
+/// and writes the templates that the shelves then hold, a line each, in place of the lines and the
+/// summary; with `--load` others begin with them.
+///
 /// `gen --seed N --requests R [--workers N] [--print]` makes the schema, the policy, the tables and
 /// the script of a workload (`ba_workload`), and reads no file. With `--print` it writes the script,
 /// line by line; else it serves it as `run` does, with the default budget, and writes the summary
