@@ -11,10 +11,10 @@ use Rattle.ba_settle.specs.Settling.{Effort}
 use Rattle.ba_source.specs.Seen.{SourceSeen}
 use Rattle.ba_decide.specs.Journal.{Entry, Heard, Runs, Serves, said, too_long, lost}
 use Rattle.ba_decide.specs.Evident.{IsTextOf}
+use Rattle.ba_decide.specs.Limits.{most_line_bytes}
 use Rattle.ba_decide.specs.declared.serve.Answer.{Answer}
 use Rattle.ba_decide.specs.declared.serve.Next.{Next}
 use Rattle.ba_decide.specs.declared.serve.Next.TheVariants as next
-use Rattle.ba_decide.specs.declared.serve.TheConstants.{MAX_LINE_BYTES}
 use Rattle.ba_decide.specs.declared.top.Ending.{Ending}
 use Rattle.ba_decide.specs.declared.top.Ending.TheVariants as ending
 
@@ -26,8 +26,8 @@ entry heard it = record { heard = heard; subject = it.subject; decision = it.dec
 
 -- what is heard of a line: its bytes, or that it is too long, or nothing
 abbrev pub IsHeardOf : List ℕ → Heard → Type 0
-IsHeardOf line (said bytes) = (bytes ≡ line) × (length line ≤ MAX_LINE_BYTES)
-IsHeardOf line too_long = MAX_LINE_BYTES < length line
+IsHeardOf line (said bytes) = (bytes ≡ line) × (length line ≤ most_line_bytes)
+IsHeardOf line too_long = most_line_bytes < length line
 IsHeardOf line lost = ⊤
 
 -- one more line was taken, and this was heard of it

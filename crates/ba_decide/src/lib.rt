@@ -3,6 +3,7 @@
 
 mod answer;
 mod evident;
+pub mod laws;
 mod serve;
 mod top;
 

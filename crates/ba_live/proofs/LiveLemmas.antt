@@ -12,12 +12,12 @@ use Rattle.ba_model.specs.declared.query.Query.{Query}
 use Rattle.ba_live.proofs.SoundLemmas.{Closes, Notes, Records, Starts, before_closes, before_leaves, before_more, before_notes, before_records, closes_sound, leaves_sound, notes_sound, records_sound, starts_sound, updates_sound}
 use Rattle.ba_live.specs.Askers.{asked_more, with_front}
 use Rattle.ba_live.specs.Books.{LeavesAll, LeavesAsked, LeavesOpen, Opens, asked_at, many_open, open_at}
+use Rattle.ba_live.specs.Limits.{most_open_asks}
 use Rattle.ba_live.specs.Steps.{Stays}
 use Rattle.ba_live.specs.Wellformed.{IsLive}
 use Rattle.ba_live.specs.declared.live.Live.{Live}
 use Rattle.ba_live.specs.declared.open.Asked.{Asked}
 use Rattle.ba_live.specs.declared.open.Open.{Open}
-use Rattle.ba_live.specs.declared.open.TheConstants.{MAX_OPEN_ASKS}
 
 pub live_more : (next : ℕ) (it : Live) → IsLive next it → IsLive (next + 1) it
 live_more next it live = record { sound = live.sound; earlier = before_more next it live.earlier }
@@ -29,7 +29,7 @@ stays_live next old new live stays leaves many =
 pub leaves_live : (next : ℕ) (old new : Live) → IsLive next old → Stays old new → LeavesAll old new → many_open new.requests ≡ many_open old.requests → IsLive next new
 leaves_live next old new live stays leaves many = stays_live next old new live stays leaves (omega (arith, many))
 
-pub counts_live : (next count : ℕ) (name : List ℕ) (asker : Open) (old new : Live) → IsLive next old → Stays old new → open_at old name ≡ Some asker → asker.asks + count ≤ MAX_OPEN_ASKS
+pub counts_live : (next count : ℕ) (name : List ℕ) (asker : Open) (old new : Live) → IsLive next old → Stays old new → open_at old name ≡ Some asker → asker.asks + count ≤ most_open_asks
     → Opens name (Some (asked_more count asker)) old.requests new.requests → LeavesAsked old.questions new.questions → many_open new.requests ≡ many_open old.requests → IsLive next new
 counts_live next count name asker old new live stays is few opens asked many =
     let fits = live.sound.askers name asker is in

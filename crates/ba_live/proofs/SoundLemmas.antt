@@ -15,13 +15,12 @@ use Rattle.ba_live.proofs.BookLemmas.{asked_after, expects_away, expects_here, n
 use Rattle.ba_live.proofs.BookLemmas.At.{this, that}
 use Rattle.ba_live.specs.Askers.{new_open, with_line, with_told, without}
 use Rattle.ba_live.specs.Books.{Expects, Forgets, LeavesAll, LeavesAsked, Opens, asked_at, many_open, open_at, open_in, unless_of}
+use Rattle.ba_live.specs.Limits.{most_open, most_open_asks}
 use Rattle.ba_live.specs.Steps.{Stays}
 use Rattle.ba_live.specs.Wellformed.{AllBefore, IsAsker, IsListed, IsQuestion, IsServable, IsSound}
 use Rattle.ba_live.specs.declared.live.Live.{Live}
-use Rattle.ba_live.specs.declared.live.TheConstants.{MAX_OPEN}
 use Rattle.ba_live.specs.declared.open.Asked.{Asked}
 use Rattle.ba_live.specs.declared.open.Open.{Open}
-use Rattle.ba_live.specs.declared.open.TheConstants.{MAX_OPEN_ASKS}
 
 -- ---- what has to be shown
 
@@ -32,7 +31,7 @@ pub record Stands (it : Live) (line : ℕ) (question : Asked) : Type 0 where
   pub listed : Contains asker.lines line
 
 pub record Shown (policy : Policy) (it : Live) : Type 0 where
-  pub few : many_open it.requests ≤ MAX_OPEN
+  pub few : many_open it.requests ≤ most_open
   pub askers : (name : List ℕ) (asker : Open) → open_at it name ≡ Some asker → IsAsker policy asker
   pub queries : (line : ℕ) (question : Asked) → asked_at it line ≡ Some question → IsQuery policy.schema (kinds_of policy.params) [] question.query
   pub stand : (line : ℕ) (question : Asked) → asked_at it line ≡ Some question → Stands it line question
@@ -88,7 +87,7 @@ pub updates_sound : (name : List ℕ) (asker after : Open) (old new : Live) → 
 updates_sound name asker after old new sound stays updates many =
     sound_again old new sound stays
     (record {
-      few = subst (λ n. n ≤ MAX_OPEN) (sym many) sound.few;
+      few = subst (λ n. n ≤ most_open) (sym many) sound.few;
       askers = λ other it is.
           elim (opened_at name (Some after) old.requests new.requests other it updates.opens is) [
             | this here now ↦ subst (IsAsker old.policy) (same_some after it now) updates.fits
@@ -131,7 +130,7 @@ pub record Starts (name : List ℕ) (context : Context) (old new : Live) : Type 
   pub opens : Opens name (Some (new_open context)) old.requests new.requests
   pub asked : LeavesAsked old.questions new.questions
   pub fits : ContextFits (kinds_of old.policy.params) context
-  pub few : many_open new.requests ≤ MAX_OPEN
+  pub few : many_open new.requests ≤ most_open
 
 new_fits : (policy : Policy) (context : Context) → ContextFits (kinds_of policy.params) context → IsAsker policy (new_open context)
 new_fits policy context fits = record { context = fits; trace = All-nil (RecordFits policy); few = omega arith }
@@ -175,16 +174,16 @@ pub record Notes (line : ℕ) (name : List ℕ) (query : Query) (asker : Open) (
   pub fresh : asked_at old line ≡ None
   pub expects : Expects line (Some (record { name = name; query = query })) old.questions new.questions
   pub fits : IsQuery old.policy.schema (kinds_of old.policy.params) [] query
-  pub few : asker.asks + 1 ≤ MAX_OPEN_ASKS
+  pub few : asker.asks + 1 ≤ most_open_asks
 
-asked_fits : (policy : Policy) (line : ℕ) (asker : Open) → IsAsker policy asker → asker.asks + 1 ≤ MAX_OPEN_ASKS → IsAsker policy (with_line line asker)
+asked_fits : (policy : Policy) (line : ℕ) (asker : Open) → IsAsker policy asker → asker.asks + 1 ≤ most_open_asks → IsAsker policy (with_line line asker)
 asked_fits policy line asker fits few = record { context = fits.context; trace = fits.trace; few = few }
 
 pub notes_sound : (line : ℕ) (name : List ℕ) (query : Query) (asker : Open) (old new : Live) → IsSound old → Stays old new → Notes line name query asker old new → many_open new.requests ≡ many_open old.requests → IsSound new
 notes_sound line name query asker old new sound stays notes many =
     sound_again old new sound stays
     (record {
-      few = subst (λ n. n ≤ MAX_OPEN) (sym many) sound.few;
+      few = subst (λ n. n ≤ most_open) (sym many) sound.few;
       askers = λ other it is.
           elim (opened_at name (Some (with_line line asker)) old.requests new.requests other it notes.opens is) [
             | this here now ↦ subst (IsAsker old.policy) (same_some (with_line line asker) it now) (asked_fits old.policy line asker (sound.askers name asker notes.was_open) notes.few)
@@ -261,7 +260,7 @@ pub records_sound : (told : ℕ) (question : Asked) (asker : Open) (entries : Li
 records_sound told question asker entries old new sound stays records many =
     sound_again old new sound stays
     (record {
-      few = subst (λ n. n ≤ MAX_OPEN) (sym many) sound.few;
+      few = subst (λ n. n ≤ most_open) (sym many) sound.few;
       askers = λ other it is.
           elim (opened_at question.name (Some after) old.requests new.requests other it records.opens is) [
             | this here now ↦ subst (IsAsker old.policy) (same_some after it now) (told_fits old.policy told entries asker (sound.askers question.name asker records.was_open) records.fits)

@@ -8,12 +8,12 @@ use Rattle.std.specs.Ordering.{nat_cmp}
 use Rattle.std.specs.Str.{bytes_eq}
 use Rattle.ba_comply.specs.declared.trace.TraceEntry.{TraceEntry}
 use Rattle.ba_live.specs.Askers.{with_front}
+use Rattle.ba_live.specs.Limits.{most_open_asks}
 use Rattle.ba_live.specs.declared.books.Questions.{Questions}
 use Rattle.ba_live.specs.declared.books.Requests.{Requests}
 use Rattle.ba_live.specs.declared.live.Live.{Live}
 use Rattle.ba_live.specs.declared.open.Asked.{Asked}
 use Rattle.ba_live.specs.declared.open.Open.{Open}
-use Rattle.ba_live.specs.declared.open.TheConstants.{MAX_OPEN_ASKS}
 
 -- ---- requests
 
@@ -34,7 +34,7 @@ pub record LeavesOpen (old new : Requests) : Type 0 where
 
 -- what is open under the name may ask so many questions more
 pub record MayAsk (count : ℕ) (name : List ℕ) (it : Requests) : Type 0 where
-  pub each : (asker : Open) → open_in it name ≡ Some asker → asker.asks + count ≤ MAX_OPEN_ASKS
+  pub each : (asker : Open) → open_in it name ≡ Some asker → asker.asks + count ≤ most_open_asks
 
 -- a front of the entries joined the request's trace
 pub record HasFront (entries : List TraceEntry) (name : List ℕ) (asker : Open) (old new : Requests)

@@ -1,3 +1,4 @@
+pub mod Limits
 pub mod Askers
 pub mod Books
 pub mod Steps

@@ -26,15 +26,14 @@ use Rattle.ba_sql_query.specs.declared.fault.ReadQueryFault.{ReadQueryFault}
 use Rattle.ba_live.specs.Plain.{IsPlain}
 use Rattle.ba_live.specs.Askers.{asked_more, new_open, with_line, with_told}
 use Rattle.ba_live.specs.Books.{Expects, Forgets, HasFront, LeavesAll, LeavesAsked, Opens, asked_at, many_open, open_at}
+use Rattle.ba_live.specs.Limits.{most_open, most_open_asks, most_told_rows}
 use Rattle.ba_live.specs.declared.decision.Decision.{Decision}
 use Rattle.ba_live.specs.declared.decision.Decision.TheVariants as decided
 use Rattle.ba_live.specs.declared.decision.Refusal.{Refusal}
 use Rattle.ba_live.specs.declared.decision.Refusal.TheVariants as refusal
 use Rattle.ba_live.specs.declared.live.Live.{Live}
-use Rattle.ba_live.specs.declared.live.TheConstants.{MAX_OPEN, MAX_TOLD_ROWS}
 use Rattle.ba_live.specs.declared.open.Asked.{Asked}
 use Rattle.ba_live.specs.declared.open.Open.{Open}
-use Rattle.ba_live.specs.declared.open.TheConstants.{MAX_OPEN_ASKS}
 
 -- the query, asked by what is open after what it was told
 abbrev pub question_in : Policy → Open → Query → Question
@@ -49,7 +48,7 @@ question_in policy asker query = record {
 
 pub record Begins (name : List ℕ) (members : List Member) (old new : Live) : Type 0 where
   pub free : open_at old name ≡ None
-  pub few : many_open old.requests < MAX_OPEN
+  pub few : many_open old.requests < most_open
   pub context : Context
   pub context_is : context_of old.policy.params members ≡ Some context
   pub opens : Opens name (Some (new_open context)) old.requests new.requests
@@ -63,7 +62,7 @@ RefusesBegin it name members refusal.Context =
 RefusesBegin it name members refusal.Requests =
     (open_at it name ≡ None) ×
     ((context : Context) × (context_of it.policy.params members ≡ Some context)) ×
-    (MAX_OPEN ≤ many_open it.requests)
+    (most_open ≤ many_open it.requests)
 RefusesBegin it name members _ = ⊥
 
 abbrev pub DecidesBegin : List ℕ → List Member → Decision → Live → Live → Type 0
@@ -96,7 +95,7 @@ pub record Allows (effort : Effort) (line : ℕ) (name text : List ℕ) (it : Al
   pub asker : Open
   pub is_open : open_at old name ≡ Some asker
   pub plain : IsPlain text
-  pub few : asker.asks < MAX_OPEN_ASKS
+  pub few : asker.asks < most_open_asks
   pub query : Query
   pub reads : query_of old.policy.schema old.policy.params text ≡ Ok query
   pub rests : RestsOn (question_in old.policy asker query) effort it
@@ -110,7 +109,7 @@ pub record Allows (effort : Effort) (line : ℕ) (name text : List ℕ) (it : Al
 -- what becomes of a question that isn't allowed: it counts as asked
 pub record CountsAsk (name : List ℕ) (asker : Open) (old new : Live) : Type 0 where
   pub is_open : open_at old name ≡ Some asker
-  pub few : asker.asks < MAX_OPEN_ASKS
+  pub few : asker.asks < most_open_asks
   pub opens : Opens name (Some (asked_more 1 asker)) old.requests new.requests
   pub asked : LeavesAsked old.questions new.questions
 
@@ -136,7 +135,7 @@ RefusesAsk it name text refusal.Unbegun = open_at it name ≡ None
 RefusesAsk it name text refusal.Comment =
     ((asker : Open) × (open_at it name ≡ Some asker)) × ¬ (IsPlain text)
 RefusesAsk it name text refusal.Asks =
-    ((asker : Open) × (open_at it name ≡ Some asker) × (MAX_OPEN_ASKS ≤ asker.asks)) ×
+    ((asker : Open) × (open_at it name ≡ Some asker) × (most_open_asks ≤ asker.asks)) ×
     IsPlain text
 RefusesAsk it name text _ = ⊥
 
@@ -176,7 +175,7 @@ pub record Reads (effort : Effort) (name key : List ℕ) (members : List Member)
   pub found : CacheKey
   pub arguments : Context
   pub is_key : IsKeyRead old key members found arguments
-  pub few : asker.asks + length found.queries ≤ MAX_OPEN_ASKS
+  pub few : asker.asks + length found.queries ≤ most_open_asks
   pub judged : JudgesRead (reader_in old.policy asker) effort
       (key_queries old.policy found arguments) it
   pub opens : Opens name (Some (asked_more (length found.queries) asker)) old.requests new.requests
@@ -189,7 +188,7 @@ pub record AsksTooMuch (it : Live) (name key : List ℕ) (members : List Member)
   pub found : CacheKey
   pub arguments : Context
   pub is_key : IsKeyRead it key members found arguments
-  pub many : MAX_OPEN_ASKS < asker.asks + length found.queries
+  pub many : most_open_asks < asker.asks + length found.queries
 
 abbrev pub RefusesRead : Live → List ℕ → List ℕ → List Member → Refusal → Type 0
 RefusesRead it name key members refusal.Unbegun = open_at it name ≡ None
@@ -221,7 +220,7 @@ pub record Tells (told : ℕ) (rows : List (List Value)) (old new : Live) : Type
   pub question : Asked
   pub asker : Open
   pub may : MayBeTold old told question asker
-  pub few : length rows ≤ MAX_TOLD_ROWS
+  pub few : length rows ≤ most_told_rows
   pub entries : List TraceEntry
   pub are : AreEntries old.policy.schema asker.context question.query rows entries
   pub opens : Opens question.name (Some (with_told told entries asker)) old.requests new.requests
@@ -236,13 +235,13 @@ pub record TellsMisfit (it : Live) (told : ℕ) (rows : List (List Value)) : Typ
   pub question : Asked
   pub asker : Open
   pub may : MayBeTold it told question asker
-  pub few : length rows ≤ MAX_TOLD_ROWS
+  pub few : length rows ≤ most_told_rows
   pub misfit : HasMisfit it.policy.schema asker.context question.query rows
 
 abbrev pub RefusesTold : Live → ℕ → List (List Value) → Refusal → Type 0
 RefusesTold it told rows refusal.Unasked = IsUnasked it told
 RefusesTold it told rows refusal.Rows =
-    ((question : Asked) × (asked_at it told ≡ Some question)) × (MAX_TOLD_ROWS < length rows)
+    ((question : Asked) × (asked_at it told ≡ Some question)) × (most_told_rows < length rows)
 RefusesTold it told rows refusal.Misfit = TellsMisfit it told rows
 RefusesTold it told rows _ = ⊥
 

@@ -9,11 +9,10 @@ use Rattle.ba_model.specs.RuleFaults.{RuleFits}
 use Rattle.ba_model.specs.SchemaFaults.{AreTables}
 use Rattle.ba_model.specs.declared.policy.Policy.{Policy}
 use Rattle.ba_live.specs.Books.{asked_at, many_open, open_at}
+use Rattle.ba_live.specs.Limits.{most_open, most_open_asks}
 use Rattle.ba_live.specs.declared.live.Live.{Live}
-use Rattle.ba_live.specs.declared.live.TheConstants.{MAX_OPEN}
 use Rattle.ba_live.specs.declared.open.Asked.{Asked}
 use Rattle.ba_live.specs.declared.open.Open.{Open}
-use Rattle.ba_live.specs.declared.open.TheConstants.{MAX_OPEN_ASKS}
 
 -- the policy, its schema and its rules were checked
 pub record IsServable (policy : Policy) : Type 0 where
@@ -34,7 +33,7 @@ pub record IsFresh (policy : Policy) (loaded : List Proof) (budget : ℕ) (it : 
 pub record IsAsker (policy : Policy) (asker : Open) : Type 0 where
   pub context : ContextFits (kinds_of policy.params) asker.context
   pub trace : All (RecordFits policy) asker.trace
-  pub few : asker.asks ≤ MAX_OPEN_ASKS
+  pub few : asker.asks ≤ most_open_asks
 
 -- a question that may be told was checked, and is one of the lines of its open request
 pub record IsQuestion (it : Live) (line : ℕ) (question : Asked) : Type 0 where
@@ -52,7 +51,7 @@ pub record IsListed (it : Live) (name : List ℕ) (line : ℕ) : Type 0 where
 pub record IsSound (it : Live) : Type 0 where
   pub servable : IsServable it.policy
   pub budget : it.budget ≤ most_budget
-  pub few : many_open it.requests ≤ MAX_OPEN
+  pub few : many_open it.requests ≤ most_open
   pub askers : (name : List ℕ) (asker : Open) → open_at it name ≡ Some asker →
       IsAsker it.policy asker
   pub questions : (line : ℕ) (question : Asked) → asked_at it line ≡ Some question →

@@ -1,5 +1,10 @@
-//! What an allowed question's answer depends on, and that told rows may be recorded.
+//! What an allowed question's answer depends on, that told rows may be recorded, and the limits.
+ghost use Rattle.std.specs.Prelude.{◌≡◌};
 ghost use Rattle.ba_live.specs.Laws.{AllowedHasOneAnswer, EntriesFit};
+ghost use Rattle.ba_live.specs.Limits.{most_open, most_open_asks, most_told_rows};
+
+use crate::live::{MAX_OPEN, MAX_TOLD_ROWS};
+use crate::open::MAX_OPEN_ASKS;
 
 /// A question that is strongly compliant after what was told has one answer in any two databases
 /// that meet the schema, agree on the views, and in whose answers all told rows are.
@@ -10,4 +15,11 @@ pub fn allowed_has_one_answer()
 /// The entries of told rows fit the policy, so that later questions may be judged after them.
 pub fn entries_fit()
     ensures { EntriesFit }
+{}
+
+/// The constants are the limits of the definitions.
+pub fn limits_are()
+    ensures open { MAX_OPEN ≡ most_open }
+    ensures told_rows { MAX_TOLD_ROWS ≡ most_told_rows }
+    ensures open_asks { MAX_OPEN_ASKS ≡ most_open_asks }
 {}

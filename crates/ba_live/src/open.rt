@@ -1,6 +1,7 @@
 //! Requests that are open.
 ghost use Rattle.std.specs.Prelude.{◌≡◌, ◌≤◌, ◌+◌, [], ◌∷◌, ◌++◌, OnOk, OnErr};
 ghost use Rattle.ba_live.specs.Askers.{IsFrontOf, asked_more, new_open, with_line, with_told, without};
+ghost use Rattle.ba_live.specs.Limits.{most_open_asks};
 
 use ba_comply::{Trace, TraceEntry};
 use ba_model::{Context, Query, Shared, Str};
@@ -87,7 +88,7 @@ impl Open {
 
     /// It has asked so many questions more.
     pub(crate) fn count(&mut self, asks: u32)
-        requires fits { self.old.asks + asks ≤ MAX_OPEN_ASKS }
+        requires fits { self.old.asks + asks ≤ most_open_asks }
         ensures { self.new ≡ asked_more asks self.old }
     {
         self.asks += asks;
@@ -96,7 +97,7 @@ impl Open {
     /// It has asked the question of this line, which may be told. After an error, which is want of
     /// memory, it is as before.
     pub(crate) fn expect(&mut self, line: u64) -> Result<(), AllocError>
-        requires fits { self.old.asks + 1 ≤ MAX_OPEN_ASKS }
+        requires fits { self.old.asks + 1 ≤ most_open_asks }
         ensures ok { OnOk result (self.new ≡ with_line line self.old) }
         ensures err { OnErr result (self.new ≡ self.old) }
     {

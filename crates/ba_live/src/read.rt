@@ -5,6 +5,7 @@ ghost use Rattle.std.specs.Str.{bytes_eq};
 ghost use Rattle.ba_judge.specs.Judging.{effort_in};
 ghost use Rattle.ba_judge.specs.Shelves.{Learns};
 ghost use Rattle.ba_live.specs.Books.{LeavesAll};
+ghost use Rattle.ba_live.specs.Limits.{most_open_asks};
 ghost use Rattle.ba_live.specs.Steps.{DecidesRead, Stays, key_named};
 ghost use Rattle.ba_live.specs.Wellformed.{IsLive, IsSound};
 
@@ -38,8 +39,8 @@ fn key_named<'a>(keys: &'a [CacheKey], name: &Str) -> Option<&'a CacheKey>
 
 // So many questions, if a request that asked so many may ask them too.
 fn questions_left(asks: u32, count: usize) -> Option<u32>
-    requires { asks ≤ MAX_OPEN_ASKS }
-    ensures { result ≡ (if nat_lt MAX_OPEN_ASKS (asks + count) then None else Some count) }
+    requires { asks ≤ most_open_asks }
+    ensures { result ≡ (if nat_lt most_open_asks (asks + count) then None else Some count) }
 {
     let left = MAX_OPEN_ASKS - asks;
     if count > left as usize {

@@ -4,7 +4,7 @@ use Rattle.ba_model.specs.declared.policy.Policy.{Policy}
 use Rattle.ba_live.proofs.AskLemmas.{given_fits, key_fits, questions_may}
 use Rattle.ba_live.proofs.LiveLemmas.{counts_live, leaves_live}
 use Rattle.ba_live.specs.Books.{open_at}
-use Rattle.ba_live.specs.declared.open.TheConstants.{MAX_OPEN_ASKS}
+use Rattle.ba_live.specs.Limits.{most_open_asks}
 use Rattle.ba_live.proofs.live.Live.read.Goals as goal
 
 pub questions_left-requires : goal.questions_left-requires
@@ -42,5 +42,5 @@ returns-clause-live g c = λ next live.
     let asks = c.in-Some-questions_left.asks in
     let is : open_at old c.args.name.now ≡ Some asker = sym c.get.ensures ∙ ap option_copied c.in-Some.is in
     counts_live next asks c.args.name.now asker old _ live (record { policy = refl; budget = refl }) is
-    (questions_may MAX_OPEN_ASKS asker.asks _ asks c.questions_left.result c.questions_left.ensures c.in-Some-questions_left.is)
+    (questions_may most_open_asks asker.asks _ asks c.questions_left.result c.questions_left.ensures c.in-Some-questions_left.is)
     (c.count.ensures.counts asker is) (record { each = λ line. refl }) c.count.ensures.many
