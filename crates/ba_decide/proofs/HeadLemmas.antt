@@ -2,9 +2,8 @@
 use Rattle.std.proofs.Common.{◌≡◌, ◌∙◌, ℕ, Bool, ◌+◌, ◌<◌, List, [], ◌∷◌, ◌++◌, None, Ok, length, take, refl, sym, ap, subst, inl, inr, ◌⊎◌, arith}
 use Rattle.std.proofs.Math.Seq.{take-append_seam}
 use Rattle.std.proofs.lemmas.List.{take-append-le}
-use Rattle.std.proofs.lemmas.List.Elements.{All-cons, All-contains, All-nil}
+use Rattle.std.proofs.lemmas.List.Elements.{All-cons, All-nil}
 use Rattle.std.specs.List.{All}
-use Rattle.ba_comply.proofs.ComplyLemmas.{All-from_contains}
 use Rattle.ba_event.specs.Events.{event_of}
 use Rattle.ba_event.specs.declared.event.Event.{Event}
 use Rattle.ba_event.specs.declared.event.Event.TheVariants as event
@@ -18,18 +17,14 @@ use Rattle.ba_live.proofs.ToldLemmas.{allowed_has_one_answer}
 use Rattle.ba_kernel.specs.SearchStates.{Proof}
 use Rattle.ba_live.specs.Askers.{asked_more}
 use Rattle.ba_live.specs.Books.{open_at, asked_at}
-use Rattle.ba_live.specs.Laws.{GivesTold, ToldRows}
 use Rattle.ba_live.specs.Steps.{Allows, Blocks, Decides, DecidesAsk, DecidesBegin, DecidesEnd, DecidesRead, DecidesTold, Does, Lacks, Reads, reader_in}
 use Rattle.ba_live.specs.Wellformed.{IsFresh}
 use Rattle.ba_live.specs.declared.decision.Decision.{Decision}
 use Rattle.ba_live.specs.declared.decision.Decision.TheVariants as decided
 use Rattle.ba_live.specs.declared.live.Live.{Live}
 use Rattle.ba_live.specs.declared.open.Open.{Open}
-use Rattle.ba_model.specs.Meaning.{InAnswer}
-use Rattle.ba_model.specs.declared.policy.Context.{Context}
 use Rattle.ba_model.specs.declared.policy.Policy.{Policy}
 use Rattle.ba_model.specs.declared.query.Query.{Query}
-use Rattle.ba_model.specs.declared.value.RowSet.{RowSet}
 use Rattle.ba_model.specs.declared.value.Value.{Value}
 use Rattle.ba_script.specs.declared.line.Member.{Member}
 use Rattle.ba_settle.specs.Settling.{Effort}
@@ -37,7 +32,7 @@ use Rattle.ba_decide.proofs.StepLemmas.{tracks_allows, tracks_asks, tracks_begin
 use Rattle.ba_decide.proofs.TrackLemmas.{Says, Tracks, TurnsHere, at_cases, at_within, quiet, same_event, same_said}
 use Rattle.ba_decide.specs.Journal.{Entry, Heard, Means, Runs, SaysNothing, Serves, ServesHeard, said, too_long, lost}
 use Rattle.ba_decide.specs.Journal.Runs.{none, next}
-use Rattle.ba_decide.specs.Told.{AreOfKey, At, GivesAll, Headline, IsAsker, IsDenied, IsReadDenied, IsSafe, OfText, WasTold}
+use Rattle.ba_decide.specs.Told.{AreOfKey, At, Headline, IsAsker, IsDenied, IsReadDenied, IsSafe, OfText}
 
 -- ---- steps
 
@@ -182,10 +177,6 @@ meant effort line e old new it d serves says some = by e.heard refl serves.heard
     by too_long heard u = let z : too_long ≡ said says.bytes = sym heard ∙ says.heard in cc
     by lost heard u = let z : lost ≡ said says.bytes = sym heard ∙ says.heard in cc
 
-alike_told : (policy : Policy) (journal : List Entry) (name : List ℕ) (began : ℕ) (c : Context) (told : List ToldRows) (d : RowSet) → All (WasTold policy journal name began) told → GivesAll policy journal name began c d → GivesTold c told d
-alike_told policy journal name began c told d were gives =
-    record { each = All-from_contains (λ (it : ToldRows). All (InAnswer it.query c d) it.rows) told (λ it there. gives.each it (All-contains (WasTold policy journal name began) told it were there)) }
-
 -- an asker's strongly compliant query is safe
 safe : (policy : Policy) (journal : List Entry) (name : List ℕ) (asker : Open) (query : Query) (is : IsAsker policy journal name asker.context asker.trace)
     → IsStrong (record { policy = policy; context = asker.context; trace = asker.trace; query = query }) → IsSafe policy journal name query
@@ -196,15 +187,7 @@ safe policy journal name asker query is strong =
       asker = is;
       strong = strong;
       one_answer = λ d e xs ys alike ax ay.
-          allowed_has_one_answer (record { policy = policy; context = asker.context; trace = asker.trace; query = query }) is.told d e xs ys is.records strong
-          (record {
-            conforms_one = alike.conforms_one;
-            conforms_two = alike.conforms_two;
-            agree = alike.agree;
-            told_one = alike_told policy journal name is.began asker.context is.told d is.were alike.gives_one;
-            told_two = alike_told policy journal name is.began asker.context is.told e is.were alike.gives_two;
-          })
-          ax ay;
+          allowed_has_one_answer (record { policy = policy; context = asker.context; trace = asker.trace; query = query }) is.told d e xs ys is.records strong alike ax ay;
     }
 
 all_safe : (policy : Policy) (journal : List Entry) (name : List ℕ) (asker : Open) (effort : Effort) (queries : List Query) (by : List Allowed) → IsAsker policy journal name asker.context asker.trace

@@ -1,6 +1,5 @@
 -- What a request was told, by the lines alone, and what that says of its questions.
 use Rattle.std.specs.Prelude.{◌≡◌, ℕ, ◌+◌, ◌<◌, ◌≤◌, List, ◌∷◌, ◌++◌, All, Ok, Some, slice_get, take, ⊤}
-use Rattle.ba_comply.specs.Comply.{Agree}
 use Rattle.ba_comply.specs.declared.trace.TraceEntry.{TraceEntry}
 use Rattle.ba_decide.specs.Journal.{Entry, said}
 use Rattle.ba_event.specs.Events.{event_of}
@@ -11,12 +10,11 @@ use Rattle.ba_judge.specs.declared.reading.Read.TheVariants as read
 use Rattle.ba_judge.specs.declared.verdict.Allowed.{Allowed}
 use Rattle.ba_judge.specs.declared.verdict.Reason.{Reason}
 use Rattle.ba_keys.specs.Literals.{key_queries}
-use Rattle.ba_live.specs.Laws.{RecordsTold, ToldRows}
+use Rattle.ba_live.specs.Laws.{LookAlike, RecordsTold, ToldRows}
 use Rattle.ba_live.specs.Steps.{key_named}
 use Rattle.ba_live.specs.declared.decision.Decision.{Decision}
 use Rattle.ba_live.specs.declared.decision.Decision.TheVariants as decided
-use Rattle.ba_model.specs.Conform.{Conforms}
-use Rattle.ba_model.specs.Meaning.{InAnswer, IsAnswer}
+use Rattle.ba_model.specs.Meaning.{IsAnswer}
 use Rattle.ba_model.specs.declared.policy.CacheKey.{CacheKey}
 use Rattle.ba_model.specs.declared.policy.Context.{Context}
 use Rattle.ba_model.specs.declared.policy.Policy.{Policy}
@@ -89,24 +87,9 @@ pub record IsAsker (policy : Policy) (journal : List Entry) (name : List ℕ) (c
   pub were : All (WasTold policy journal name began) told
   pub records : RecordsTold policy context told trace
 
--- all that the request was told is in its questions' answers
-pub record GivesAll (policy : Policy) (journal : List Entry) (name : List ℕ) (began : ℕ)
-    (c : Context) (d : RowSet) : Type 0 where
-  pub each : (it : ToldRows) → WasTold policy journal name began it →
-      All (InAnswer it.query c d) it.rows
-
--- The user can't tell the databases apart: both meet the schema, they agree on the views, and all
--- that the request was told is in the answers of both.
-pub record AreAlike (policy : Policy) (journal : List Entry) (name : List ℕ) (began : ℕ)
-    (c : Context) (d e : RowSet) : Type 0 where
-  pub conforms_one : Conforms policy.schema d
-  pub conforms_two : Conforms policy.schema e
-  pub agree : Agree policy c d e
-  pub gives_one : GivesAll policy journal name began c d
-  pub gives_two : GivesAll policy journal name began c e
-
 -- After these lines the query, asked by the request that is open under the name, is strongly
--- compliant, and so has one answer in any two databases that the user can't tell apart.
+-- compliant, and so has one answer in any two databases that the user can't tell apart after the
+-- rows that were recorded.
 pub record IsSafe (policy : Policy) (journal : List Entry) (name : List ℕ) (query : Query)
     : Type 0 where
   pub context : Context
@@ -115,7 +98,7 @@ pub record IsSafe (policy : Policy) (journal : List Entry) (name : List ℕ) (qu
   pub strong : IsStrong
       (record { policy = policy; context = context; trace = trace; query = query })
   pub one_answer : (d e : RowSet) (xs ys : List (List Value)) →
-      AreAlike policy journal name asker.began context d e →
+      LookAlike policy context asker.told d e →
       IsAnswer query context d xs → IsAnswer query context e ys → xs ≡ ys
 
 -- it isn't covered, and is blocked for this reason

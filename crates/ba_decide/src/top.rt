@@ -101,11 +101,11 @@ fn serve_input<L: Source, S: Sink>(
 ///
 /// Each question that is allowed, and each query behind a cache key that may be read, is strongly
 /// compliant (OSDI 2022) after what its request was told, and so has one answer in any two
-/// databases that meet the schema, agree on the views, and in whose answers all told rows are.
-/// What is blocked isn't covered, and has its reason: a checked counterexample, a derivation as
-/// long as the budget, or a stuck branch. A request was told the rows of its own lines that
-/// weren't refused, and nothing else. That these are in the questions' answers in the database
-/// that is asked is for the caller to see to.
+/// databases that meet the schema, agree on the views, and in whose answers all rows are that were
+/// recorded. What is blocked isn't covered, and has its reason: a checked counterexample, a
+/// derivation as long as the budget, or a stuck branch. Recorded are rows of the request's own
+/// lines that weren't refused, and nothing else. That these are in the questions' answers in the
+/// database that is asked is for the caller to see to.
 ///
 /// A line has at most 1,048,576 bytes. Want of memory may stand in place of a decision, which its
 /// line says; where there is none for the line of a decision, the event may have been served.
