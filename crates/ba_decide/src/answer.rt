@@ -23,6 +23,7 @@ fn reason_name(reason: Refusal) -> &'static str
         Refusal::Key => "key",
         Refusal::Args => "args",
         Refusal::Comment => "comment",
+        Refusal::ValueWord => "value_word",
         Refusal::Asks => "asks",
         Refusal::Unasked => "unasked",
         Refusal::Rows => "rows",

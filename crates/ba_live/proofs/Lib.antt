@@ -7,3 +7,4 @@ pub mod LiveLemmas
 pub mod SoundLemmas
 pub mod ToldLemmas
 pub mod PlainLemmas
+pub mod ValueLemmas

@@ -6,3 +6,4 @@ pub mod Subjects
 pub mod Wellformed
 pub mod Laws
 pub mod Plain
+pub mod ValueWords

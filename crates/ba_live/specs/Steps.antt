@@ -24,6 +24,7 @@ use Rattle.ba_settle.specs.Settling.{Effort}
 use Rattle.ba_sql_query.specs.Texts.{query_of}
 use Rattle.ba_sql_query.specs.declared.fault.ReadQueryFault.{ReadQueryFault}
 use Rattle.ba_live.specs.Plain.{IsPlain}
+use Rattle.ba_live.specs.ValueWords.{HasValueWord}
 use Rattle.ba_live.specs.Askers.{asked_more, new_open, with_line, with_told}
 use Rattle.ba_live.specs.Books.{Expects, Forgets, HasFront, LeavesAll, LeavesAsked, Opens, asked_at, many_open, open_at}
 use Rattle.ba_live.specs.Limits.{most_open, most_open_asks, most_told_rows}
@@ -95,6 +96,7 @@ pub record Allows (effort : Effort) (line : ℕ) (name text : List ℕ) (it : Al
   pub asker : Open
   pub is_open : open_at old name ≡ Some asker
   pub plain : IsPlain text
+  pub no_value : ¬ (HasValueWord text)
   pub few : asker.asks < most_open_asks
   pub query : Query
   pub reads : query_of old.policy.schema old.policy.params text ≡ Ok query
@@ -117,6 +119,7 @@ pub record Blocks (effort : Effort) (name text : List ℕ) (it : Reason) (old ne
     : Type 0 where
   pub asker : Open
   pub plain : IsPlain text
+  pub no_value : ¬ (HasValueWord text)
   pub counts : CountsAsk name asker old new
   pub query : Query
   pub reads : query_of old.policy.schema old.policy.params text ≡ Ok query
@@ -127,6 +130,7 @@ pub record Blocks (effort : Effort) (name text : List ℕ) (it : Reason) (old ne
 pub record FailsToRead (name text : List ℕ) (fault : ReadQueryFault) (old new : Live) : Type 0 where
   pub asker : Open
   pub plain : IsPlain text
+  pub no_value : ¬ (HasValueWord text)
   pub counts : CountsAsk name asker old new
   pub reads : query_of old.policy.schema old.policy.params text ≡ Err fault
 
@@ -134,9 +138,11 @@ abbrev pub RefusesAsk : Live → List ℕ → List ℕ → Refusal → Type 0
 RefusesAsk it name text refusal.Unbegun = open_at it name ≡ None
 RefusesAsk it name text refusal.Comment =
     ((asker : Open) × (open_at it name ≡ Some asker)) × ¬ (IsPlain text)
+RefusesAsk it name text refusal.ValueWord =
+    ((asker : Open) × (open_at it name ≡ Some asker)) × IsPlain text × HasValueWord text
 RefusesAsk it name text refusal.Asks =
     ((asker : Open) × (open_at it name ≡ Some asker) × (most_open_asks ≤ asker.asks)) ×
-    IsPlain text
+    IsPlain text × ¬ (HasValueWord text)
 RefusesAsk it name text _ = ⊥
 
 abbrev pub DecidesAsk : Effort → ℕ → List ℕ → List ℕ → Decision → Live → Live → Type 0

@@ -13,6 +13,7 @@ use crate::live::Live;
 use crate::open::{Asked, MAX_OPEN_ASKS};
 use crate::plain::is_plain;
 use crate::step::refused;
+use crate::value_word::has_value_word;
 use ba_judge::{Asking, Judgement, judge};
 use ba_model::{Duplicate, Failure, Query, Shared, Str};
 use ba_settle::Settle;
@@ -44,6 +45,10 @@ impl Live {
         };
         if !is_plain(text.as_str()) {
             return Ok(refused(Refusal::Comment));
+        }
+        let has_value = has_value_word(alloc, text.as_str())?;
+        if has_value {
+            return Ok(refused(Refusal::ValueWord));
         }
         if open.asks >= MAX_OPEN_ASKS {
             return Ok(refused(Refusal::Asks));

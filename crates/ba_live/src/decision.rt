@@ -33,6 +33,9 @@ pub enum Refusal {
     /// It asks in a text that has a comment or a byte 0. Databases differ in where a comment begins
     /// and ends, and some end a text at that byte.
     Comment,
+    /// It asks in a text in which a word stands unquoted, and no dot directly before it, that
+    /// databases read as a value, such as CURRENT_DATE. The reader takes it for a name.
+    ValueWord,
     /// It asks, or reads a key, where its request would come to more questions than it may ask.
     Asks,
     /// It tells rows of a line that is no allowed question of an open request, or was told.

@@ -11,6 +11,7 @@ mod open;
 mod plain;
 mod read;
 mod step;
+mod value_word;
 
 pub use decision::{Decision, Refusal, Subject};
 pub use live::{Live, MAX_OPEN, MAX_TOLD_ROWS};

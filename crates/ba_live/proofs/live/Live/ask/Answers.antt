@@ -1,4 +1,4 @@
-use Rattle.std.proofs.Common.{◌≡◌, ◌∙◌, Some, refl, sym, ap, arith}
+use Rattle.std.proofs.Common.{rules, ◌≡◌, ◌∙◌, Some, refl, sym, ap, arith}
 use Rattle.std.specs.Option.{option_copied}
 use Rattle.ba_live.proofs.AskLemmas.{query_moves, question_fits}
 use Rattle.ba_live.proofs.LiveLemmas.{counts_live, fresh_line, leaves_live, live_more, notes_live}
@@ -59,3 +59,39 @@ returns-in-Blocked-clause-live g c =
     let is : open_at old c.args.name.now ≡ Some asker = sym c.get.ensures ∙ ap option_copied c.in-Some.is in
     live_more c.args.line _
     (counts_live c.args.line 1 c.args.name.now asker old _ c.requires.live (record { policy = refl; budget = refl }) is (omega arith) (c.count-in-Blocked.ensures.counts asker is) (record { each = λ line. refl }) c.count-in-Blocked.ensures.many)
+
+pub returns-in-Blocked-clause-decides : goal.returns-in-Blocked-clause-decides
+returns-in-Blocked-clause-decides g c =
+    record {
+      asker = c.in-Some.open.now;
+      plain = search rules;
+      no_value = search rules;
+      counts = search rules;
+      query = c.in_ok-query-in-Ok.query;
+      reads = search rules;
+      blocked = search rules;
+      prefers = record {
+        one = λ few. rw c.in-Blocked.is at c.in_ok-judgement.ensures.first few;
+        several = λ many. rw c.in-Blocked.is at c.in_ok-judgement.ensures.parts many;
+      };
+    }
+
+pub returns-in_ok-expect-in-Allowed-clause-decides : goal.returns-in_ok-expect-in-Allowed-clause-decides
+returns-in_ok-expect-in-Allowed-clause-decides g c =
+    record {
+      asker = c.in-Some.open.now;
+      is_open = search rules;
+      plain = search rules;
+      no_value = search rules;
+      few = search rules;
+      query = c.in_ok-query-in-Ok.query;
+      reads = search rules;
+      rests = search rules;
+      strong = search rules;
+      prefers = record {
+        one = λ few. rw c.in-Allowed.is at c.in_ok-judgement.ensures.first few;
+        several = λ many. rw c.in-Allowed.is at c.in_ok-judgement.ensures.parts many;
+      };
+      opens = search rules;
+      expects = search rules;
+    }
