@@ -27,7 +27,10 @@ use Rattle.ba_refute.specs.declared.clause.Clause.{Clause}
 use Rattle.ba_refute.specs.declared.clause.Counterexample.{Counterexample}
 use Rattle.ba_refute.specs.declared.refutal.Refutal.{Refutal}
 use Rattle.ba_refute.specs.declared.refutal.Refutal.TheVariants as refutal
-use Rattle.ba_judge.specs.Judging.{Asked, Concludes, HasBlockedPart, IsAllowedBy, IsFirstToServe, IsGround, IsReason, IsServedBy, IsServing, IsStrong, LooksAtParts, NoneServes, ServesFirst, TakesFirst, Uncovered, question_of}
+use Rattle.ba_judge.specs.Judging.{Asked, Concludes, HasBlockedPart, IsAllowedBy, IsFirstToServe, IsGround, IsReason, IsServedBy, IsServing, IsStrong, LooksAtParts, LooksAtWhole, NoneServes, ServesAlone, ServesFirst, TakesFirst, Uncovered, question_of}
+use Rattle.ba_judge.specs.Shelves.{Learns, standing_for}
+use Rattle.ba_judge.specs.declared.shelves.Shelves.{Shelves}
+use Rattle.ba_judge.specs.declared.verdict.Judgement.{Judgement}
 use Rattle.ba_judge.specs.declared.verdict.Judgement.TheVariants as judged
 use Rattle.ba_judge.specs.declared.verdict.Reason.{Reason}
 use Rattle.ba_judge.specs.declared.whole.Finding.{Finding}
@@ -143,10 +146,20 @@ pub first_blocked : (asked : Asked) (now found : List Proof) (finding : Finding)
 first_blocked asked now found finding reason h e same = subst (λ (z : List Proof × Finding). TakesFirst asked z.0 z.1) (λ i. (same i, e i)) h
 
 -- a whole of several parts is looked at where one of them is blocked
-pub parts_allowed : (asked : Asked) (effort : Effort) (ground : By) → HasBlockedPart asked effort → LooksAtParts asked effort (judged.Allowed (Whole ground))
-parts_allowed asked effort (by.Cover cover) h = tt
-parts_allowed asked effort (by.Template template it) h = h
-parts_allowed asked effort (by.Proof steps) h = h
+pub whole_after : (asked : Asked) (effort : Effort) (old now : Shelves) (it : Judgement) → HasBlockedPart asked effort old → Learns old now → ServesFirst asked (standing_for now asked.query) it → LooksAtWhole asked effort old it
+whole_after asked effort old now it part learned first = record { part = part; first = record { at = now; learned = learned; first = first } }
+
+pub parts_allowed : (asked : Asked) (effort : Effort) (old : Shelves) (ground : By) → LooksAtWhole asked effort old (judged.Allowed (Whole ground)) → LooksAtParts asked effort old (judged.Allowed (Whole ground))
+parts_allowed asked effort old (by.Cover cover) h = tt
+parts_allowed asked effort old (by.Template template it) h = h
+parts_allowed asked effort old (by.Proof steps) h = h
+
+-- what serves a question first that is looked at as a whole
+pub alone_allowed : (asked : Asked) (found : List Proof) (finding : Finding) (ground : By) → TakesFirst asked found finding → finding ≡ Allow ground → ServesAlone asked found (Some ground)
+alone_allowed asked found finding ground h e = first_allowed asked found found finding ground h e refl
+
+pub alone_blocked : (asked : Asked) (found : List Proof) (finding : Finding) (reason : Reason) → TakesFirst asked found finding → finding ≡ Deny reason → ServesAlone asked found None
+alone_blocked asked found finding reason h e = subst (TakesFirst asked found) e h
 
 -- ---- cover
 

@@ -1,5 +1,5 @@
 -- Shelves learn.
-use Rattle.std.proofs.Common.{◌≡◌, Result, Ok, Err, refl}
+use Rattle.std.proofs.Common.{Result, Ok, Err, refl}
 use Rattle.std.specs.Prelude.{OnErr, OnOk}
 use Rattle.ba_judge.specs.Shelves.{IsKept, Learns, Looks, Stays}
 use Rattle.ba_judge.specs.Shelves.Learns.{nothing, looks, keeps, both}

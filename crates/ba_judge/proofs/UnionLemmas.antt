@@ -5,9 +5,12 @@ use Rattle.std.proofs.lemmas.List.Elements.{All-contains, All-cons, All-nil, Con
 use Rattle.std.proofs.lemmas.Slice.Zip.{all_zipped_more}
 use Rattle.std.specs.List.{All, AllZip, Contains}
 use Rattle.ba_comply.specs.Comply.{Strong}
-use Rattle.ba_judge.specs.Judging.{Asked, HasBlockedPart, IsAllowedBy, IsBlocked, IsByParts, Judges, Uncovered, part_of}
+use Rattle.ba_judge.specs.Judging.{Asked, HasBlockedPart, IsAllowedBy, IsBlocked, IsBlockedFor, IsByParts, Judges, NoneServes, ServesFirst, ServesFirstSince, Uncovered, part_of}
+use Rattle.ba_judge.specs.Shelves.{Learns, standing_for}
+use Rattle.ba_judge.specs.declared.shelves.Shelves.{Shelves}
 use Rattle.ba_judge.specs.declared.verdict.Allowed.TheVariants.{Whole, Parts}
 use Rattle.ba_judge.specs.declared.verdict.By.{By}
+use Rattle.ba_judge.specs.declared.verdict.Judgement.{Judgement}
 use Rattle.ba_judge.specs.declared.verdict.Judgement.TheVariants as judged
 use Rattle.ba_kernel.specs.Asked.{QuestionFits}
 use Rattle.ba_model.specs.Fit.{IsQuery, kinds_of}
@@ -38,18 +41,32 @@ part_fits law asked part query same there fits =
 pub part_allowed : (asked : Asked) (effort : Effort) (part : Part) (query : Query) (by : By) → query ≡ alone part → IsAllowedBy (with_query asked query) effort by → IsAllowedBy (part_of asked part) effort by
 part_allowed asked effort part query by same h = subst (λ q. IsAllowedBy (with_query asked q) effort by) same h
 
--- one part more is allowed
-pub parts_more : (asked : Asked) (effort : Effort) (parts : List Part) (i : ℕ) (part : Part) → i < length parts → part ≡ get_or parts i part → (grounds more : List By) (by : By) →
-    AllZip (λ p b. IsAllowedBy (part_of asked p) effort b) (take i parts) grounds → IsAllowedBy (part_of asked part) effort by → more ≡ grounds ++ by ∷ [] →
-    AllZip (λ p b. IsAllowedBy (part_of asked p) effort b) (take (i + 1) parts) more
-parts_more asked effort parts i part below is grounds more by so_far here more_is =
-    let R = λ (p : Part) (b : By). IsAllowedBy (part_of asked p) effort b in
+-- and so is what serves it first, over shelves that judgements led to
+pub part_first : (asked : Asked) (old now : Shelves) (part : Part) (query : Query) (it : Judgement) → query ≡ alone part → Learns old now → ServesFirst (with_query asked query) (standing_for now query) it →
+    ServesFirstSince (part_of asked part) old it
+part_first asked old now part query it same learned first = record {
+  at = now;
+  learned = learned;
+  first = subst (λ q. ServesFirst (with_query asked q) (standing_for now q) it) same first;
+}
+
+-- what is so of the parts so far is so of one part more
+pub parts_more : (R : Part → By → Type 0) (parts : List Part) (i : ℕ) (part : Part) → i < length parts → part ≡ get_or parts i part → (grounds more : List By) (by : By) → AllZip R (take i parts) grounds → R part by →
+    more ≡ grounds ++ by ∷ [] → AllZip R (take (i + 1) parts) more
+parts_more R parts i part below is grounds more by so_far here more_is =
     let split : take (i + 1) parts ≡ take i parts ++ part ∷ [] = take_more parts i part below ∙ ap (λ p. take i parts ++ p ∷ []) (sym is) in
     subst (AllZip R (take (i + 1) parts)) (sym more_is) (subst (λ z. AllZip R z (grounds ++ by ∷ [])) (sym split) (all_zipped_more R (take i parts) grounds part by so_far here))
 
--- one of the parts is blocked
-pub blocked_at : (asked : Asked) (effort : Effort) (part : Part) (query : Query) → Contains asked.query.parts part → query ≡ alone part → IsBlocked (with_query asked query) effort → HasBlockedPart asked effort
-blocked_at asked effort part query there same h = record { part = part; there = there; blocked = subst (λ q. IsBlocked (with_query asked q) effort) same h }
+-- one of the parts is blocked, and nothing serves it
+pub blocked_at : (asked : Asked) (effort : Effort) (old now : Shelves) (part : Part) (query : Query) → Contains asked.query.parts part → query ≡ alone part → IsBlocked (with_query asked query) effort → Learns old now →
+    NoneServes (with_query asked query) (standing_for now query) → HasBlockedPart asked effort old
+blocked_at asked effort old now part query there same h learned none = record {
+  part = part;
+  there = there;
+  reason = h.reason;
+  blocked = subst (λ q. IsBlockedFor (with_query asked q) effort h.reason) same h.blocked;
+  first = part_first asked old now part query (judged.Blocked h.reason) same learned none;
+}
 
 pub part_there : (parts seen : List Part) (i : ℕ) (part : Part) → seen ≡ parts → i < length seen → part ≡ get_or seen i part → Contains parts part
 part_there parts seen i part same below is = subst (λ l. Contains l part) same (subst (Contains seen) (sym is) (Contains-get_or seen i part below))

@@ -4,7 +4,9 @@ use Rattle.std.specs.List.{AllZip}
 use Rattle.ba_comply.specs.Comply.{Strong}
 use Rattle.ba_comply.specs.declared.trace.TraceEntry.{TraceEntry}
 use Rattle.ba_direct.specs.Cover.{Covered, IsCover}
+use Rattle.ba_judge.specs.Shelves.{Learns, standing_for}
 use Rattle.ba_judge.specs.declared.asking.Asking.{Asking}
+use Rattle.ba_judge.specs.declared.shelves.Shelves.{Shelves}
 use Rattle.ba_judge.specs.declared.whole.Finding.{Finding}
 use Rattle.ba_judge.specs.declared.whole.Finding.TheVariants.{Allow, Deny}
 use Rattle.ba_judge.specs.declared.verdict.Allowed.{Allowed}
@@ -138,12 +140,6 @@ pub record IsBlocked (asked : Asked) (effort : Effort) : Type 0 where
   pub reason : Reason
   pub blocked : IsBlockedFor asked effort reason
 
--- one of its parts is blocked, as a question of its own
-pub record HasBlockedPart (asked : Asked) (effort : Effort) : Type 0 where
-  pub part : Part
-  pub there : Contains asked.query.parts part
-  pub blocked : IsBlocked (part_of asked part) effort
-
 -- ---- judgements
 
 -- none of these templates matches the question
@@ -194,7 +190,8 @@ abbrev pub Judges : Asked → Effort → Judgement → Type 0
 Judges asked effort (judged.Allowed allowed) = RestsOn asked effort allowed × IsStrong asked
 Judges asked effort (judged.Blocked reason) = IsBlockedFor asked effort reason
 
--- the same of a question that is looked at as a whole, where no views cover it
+-- A question that is looked at as a whole, and that no views cover, is allowed by the first of these
+-- templates that matches, and searched only where none does.
 abbrev pub ServesFirst : Asked → List kernel.Proof → Judgement → Type 0
 ServesFirst asked found (judged.Allowed (Whole (Cover cover))) = ⊤
 ServesFirst asked found (judged.Allowed (Whole (Template template it))) =
@@ -203,19 +200,46 @@ ServesFirst asked found (judged.Allowed (Whole (Proof steps))) = NoneServes aske
 ServesFirst asked found (judged.Allowed (Parts grounds)) = ⊤
 ServesFirst asked found (judged.Blocked reason) = NoneServes asked found
 
--- where it has several parts, and no views cover it, it is looked at as a whole only where a part is
--- blocked
-abbrev pub LooksAtParts : Asked → Effort → Judgement → Type 0
-LooksAtParts asked effort (judged.Allowed (Whole (Cover cover))) = ⊤
-LooksAtParts asked effort (judged.Allowed (Whole (Template template it))) =
-    HasBlockedPart asked effort
-LooksAtParts asked effort (judged.Allowed (Whole (Proof steps))) = HasBlockedPart asked effort
-LooksAtParts asked effort (judged.Allowed (Parts grounds)) = ⊤
-LooksAtParts asked effort (judged.Blocked reason) = HasBlockedPart asked effort
+-- the same where this is why it is allowed, or where it is blocked
+abbrev pub ServesAlone : Asked → List kernel.Proof → Option By → Type 0
+ServesAlone asked found (Some by) = ServesFirst asked found (judged.Allowed (Whole by))
+ServesAlone asked found None = NoneServes asked found
 
--- What a judgement prefers, where these templates were found for the question's shape: of one part,
--- the first that matches, and only where none does a search; of several, its parts.
-pub record Prefers (asked : Asked) (effort : Effort) (found : List kernel.Proof) (it : Judgement)
+-- the same by what stands for it on the shelves, once judgements have learned since
+pub record ServesFirstSince (asked : Asked) (old : Shelves) (it : Judgement) : Type 0 where
+  pub at : Shelves
+  pub learned : Learns old at
+  pub first : ServesFirst asked (standing_for at asked.query) it
+
+-- so is each part served, as a question of its own
+abbrev pub AllServeFirst : Asked → Shelves → List By → Type 0
+AllServeFirst asked old grounds =
+    AllZip (λ part by. ServesFirstSince (part_of asked part) old (judged.Allowed (Whole by)))
+    asked.query.parts grounds
+
+-- one of its parts is blocked, as a question of its own, and nothing serves it that stands for it
+pub record HasBlockedPart (asked : Asked) (effort : Effort) (old : Shelves) : Type 0 where
+  pub part : Part
+  pub there : Contains asked.query.parts part
+  pub reason : Reason
+  pub blocked : IsBlockedFor (part_of asked part) effort reason
+  pub first : ServesFirstSince (part_of asked part) old (judged.Blocked reason)
+
+-- a part is blocked, and so it is looked at as a whole
+pub record LooksAtWhole (asked : Asked) (effort : Effort) (old : Shelves) (it : Judgement)
     : Type 0 where
-  pub one : length asked.query.parts < 2 → ServesFirst asked found it
-  pub several : 2 ≤ length asked.query.parts → LooksAtParts asked effort it
+  pub part : HasBlockedPart asked effort old
+  pub first : ServesFirstSince asked old it
+
+-- where it has several parts, and no views cover it, it is looked at part by part, and as a whole
+-- only where a part is blocked
+abbrev pub LooksAtParts : Asked → Effort → Shelves → Judgement → Type 0
+LooksAtParts asked effort old (judged.Allowed (Whole (Cover cover))) = ⊤
+LooksAtParts asked effort old (judged.Allowed (Parts grounds)) = AllServeFirst asked old grounds
+LooksAtParts asked effort old it = LooksAtWhole asked effort old it
+
+-- What a judgement prefers, over these shelves: of one part, the first of the templates that stand
+-- for it that matches, and only where none does a search; of several, its parts in the same way.
+pub record Prefers (asked : Asked) (effort : Effort) (old : Shelves) (it : Judgement) : Type 0 where
+  pub one : length asked.query.parts < 2 → ServesFirst asked (standing_for old asked.query) it
+  pub several : 2 ≤ length asked.query.parts → LooksAtParts asked effort old it

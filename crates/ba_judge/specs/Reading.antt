@@ -2,11 +2,14 @@
 use Rattle.std.specs.Prelude.{◌≡◌, List, ◌∷◌, ◌++◌, All, Option, Some, None}
 use Rattle.std.specs.List.{AllZip}
 use Rattle.ba_comply.specs.declared.trace.TraceEntry.{TraceEntry}
-use Rattle.ba_judge.specs.Judging.{Asked, IsBlockedFor, Judges}
+use Rattle.ba_judge.specs.Judging.{Asked, Judges, Prefers}
+use Rattle.ba_judge.specs.Shelves.{Learns}
 use Rattle.ba_judge.specs.declared.reading.Read.{Read}
 use Rattle.ba_judge.specs.declared.reading.Read.TheVariants.{Allowed, Blocked}
 use Rattle.ba_judge.specs.declared.reading.Reading.{Reading}
+use Rattle.ba_judge.specs.declared.shelves.Shelves.{Shelves}
 use Rattle.ba_judge.specs.declared.verdict.Allowed.{Allowed as Grounds}
+use Rattle.ba_judge.specs.declared.verdict.Judgement.{Judgement}
 use Rattle.ba_judge.specs.declared.verdict.Judgement.TheVariants as judged
 use Rattle.ba_judge.specs.declared.verdict.Reason.{Reason}
 use Rattle.ba_kernel.specs.Asked.{QuestionFits, RecordFits}
@@ -55,32 +58,40 @@ pub record ReadingFits (it : Reading) : Type 0 where
 abbrev pub AreFit : Reader → List Query → Type 0
 AreFit it queries = All (λ query. QuestionFits it.policy it.context it.trace query) queries
 
+-- the judgement of a query, over shelves on which judgements have learned since
+pub record IsJudgedSince (asked : Asked) (effort : Effort) (old : Shelves) (it : Judgement)
+    : Type 0 where
+  pub judges : Judges asked effort it
+  pub at : Shelves
+  pub learned : Learns old at
+  pub prefers : Prefers asked effort at it
+
 -- each of the queries is allowed for its reasons
-abbrev pub AreAllowed : Reader → Effort → List Query → List Grounds → Type 0
-AreAllowed it effort queries grounds =
-    AllZip (λ query allowed. Judges (asked_by it query) effort (judged.Allowed allowed))
+abbrev pub AreAllowed : Reader → Effort → Shelves → List Query → List Grounds → Type 0
+AreAllowed it effort old queries grounds =
+    AllZip (λ query by. IsJudgedSince (asked_by it query) effort old (judged.Allowed by))
     queries grounds
 
 -- the queries in front are allowed for these reasons, and the next one is blocked for this reason
-pub record IsBlockedBehind (it : Reader) (effort : Effort) (queries : List Query)
+pub record IsBlockedBehind (it : Reader) (effort : Effort) (old : Shelves) (queries : List Query)
     (before : List Grounds) (reason : Reason) : Type 0 where
   pub front : List Query
   pub query : Query
   pub back : List Query
   pub are : queries ≡ front ++ query ∷ back
-  pub allowed : AreAllowed it effort front before
-  pub blocked : IsBlockedFor (asked_by it query) effort reason
+  pub allowed : AreAllowed it effort old front before
+  pub blocked : IsJudgedSince (asked_by it query) effort old (judged.Blocked reason)
 
 -- the first of the queries that is blocked, or that all are allowed
-abbrev pub StopsAt : Reader → Effort → List Query → List Grounds → Option Reason → Type 0
-StopsAt it effort queries grounds None = AreAllowed it effort queries grounds
-StopsAt it effort queries grounds (Some reason) =
-    IsBlockedBehind it effort queries grounds reason
+abbrev pub StopsAt : Reader → Effort → Shelves → List Query → List Grounds → Option Reason → Type 0
+StopsAt it effort old queries grounds None = AreAllowed it effort old queries grounds
+StopsAt it effort old queries grounds (Some reason) =
+    IsBlockedBehind it effort old queries grounds reason
 
--- a read of these queries is let through where each of them is allowed, and blocked at the first
--- that isn't
-abbrev pub JudgesRead : Reader → Effort → List Query → Read → Type 0
-JudgesRead it effort queries (Allowed its by) =
-    (its ≡ queries) × AreAllowed it effort queries by
-JudgesRead it effort queries (Blocked its before reason) =
-    (its ≡ queries) × IsBlockedBehind it effort queries before reason
+-- A read of these queries is let through where each of them is allowed, and blocked at the first
+-- that isn't. Each is judged in turn, over what stands on these shelves and what was learned since.
+abbrev pub JudgesRead : Reader → Effort → Shelves → List Query → Read → Type 0
+JudgesRead it effort old queries (Allowed its by) =
+    (its ≡ queries) × AreAllowed it effort old queries by
+JudgesRead it effort old queries (Blocked its before reason) =
+    (its ≡ queries) × IsBlockedBehind it effort old queries before reason

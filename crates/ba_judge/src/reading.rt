@@ -63,7 +63,7 @@ pub fn judge_read<S: Settle>(
     requires fits { ReadingFits reading.now }
     requires limit { budget ≤ most_budget }
     ensures judges { IfOk result (JudgesRead (reader reading.now)
-        (effort_in (S.orders settle.now) budget) (queries_of reading.now)) }
+        (effort_in (S.orders settle.now) budget) shelves.old (queries_of reading.now)) }
     ensures learns { Learns shelves.old shelves.new }
 {
     let queries = key_queries(alloc, reading.policy, reading.key, reading.arguments)?;
@@ -103,7 +103,7 @@ fn stop_of<S: Settle>(
     requires limit { budget ≤ most_budget }
     requires empty { by.old ≡ [] }
     ensures stops { IfOk result (StopsAt (reader reading.now)
-        (effort_in (S.orders settle.now) budget) queries.now by.new) }
+        (effort_in (S.orders settle.now) budget) shelves.old queries.now by.new) }
     ensures learns { Learns shelves.old shelves.new }
 {
     for query in queries {

@@ -3,7 +3,7 @@
 ghost use Rattle.std.specs.Prelude.{◌≡◌, ◌<◌, ◌≤◌, IfOk, IfSome, MatchOption, None, length};
 ghost use Rattle.ba_kernel.specs.Asked.{QuestionFits};
 ghost use Rattle.ba_model.specs.Limits.{most_budget};
-ghost use Rattle.ba_judge.specs.Judging.{HasBlockedPart, IsAllowedBy, IsBlocked, IsByParts, Judges, LooksAtParts, ServesFirst, effort_in, seen};
+ghost use Rattle.ba_judge.specs.Judging.{AllServeFirst, HasBlockedPart, IsAllowedBy, IsBlocked, IsByParts, Judges, LooksAtParts, ServesAlone, ServesFirst, effort_in, seen};
 ghost use Rattle.ba_judge.specs.Shelves.{Learns, standing_for};
 
 use crate::asking::Asking;
@@ -24,7 +24,8 @@ use std::alloc::{AllocError, Global};
 /// those that stand on the shelves for its shape, or proved to be strongly compliant by a search of
 /// at most `budget` due steps. Else it is looked at as a whole in the same way: allowed, or blocked
 /// with a reason that can be checked. The template of each proof is kept on the shelves, where it is
-/// narrow enough and there is memory for it; nothing that is told depends on that.
+/// narrow enough and there is memory for it, and serves the parts and the questions that follow. No
+/// clause says that it is kept: what a judgement may do to the shelves allows that nothing is.
 ///
 /// The question fits its policy, as do the context and the trace, and the budget is at most
 /// [`ba_model::MAX_BUDGET`] steps. The error is want of memory.
@@ -44,7 +45,7 @@ pub fn judge<S: Settle>(
     ensures first { length asked.now.query.now.parts < 2 → IfOk result
         (ServesFirst (seen asked.now) (standing_for shelves.old asked.now.query.now)) }
     ensures parts { 2 ≤ length asked.now.query.now.parts → IfOk result
-        (LooksAtParts (seen asked.now) (effort_in (S.orders settle.now) budget)) }
+        (LooksAtParts (seen asked.now) (effort_in (S.orders settle.now) budget) shelves.old) }
     ensures learns { Learns shelves.old shelves.new }
 {
     union_is_strong();
@@ -77,9 +78,11 @@ fn each_allowed<S: Settle>(
     requires limit { budget ≤ most_budget }
     ensures parts { IfOk result (λ grounds. IfSome grounds
         (IsByParts (seen asked.now) (effort_in (S.orders settle.now) budget))) }
+    ensures first { IfOk result (λ grounds. IfSome grounds
+        (AllServeFirst (seen asked.now) shelves.old)) }
     ensures blocked { IfOk result (λ grounds. grounds ≡ None
-        → 2 ≤ length asked.now.query.now.parts
-        → HasBlockedPart (seen asked.now) (effort_in (S.orders settle.now) budget)) }
+        → 2 ≤ length asked.now.query.now.parts → HasBlockedPart (seen asked.now)
+        (effort_in (S.orders settle.now) budget) shelves.old) }
     ensures one { length asked.now.query.now.parts < 2 → shelves.new ≡ shelves.old }
     ensures learns { Learns shelves.old shelves.new }
 {
@@ -120,6 +123,8 @@ fn allowed_alone<S: Settle>(
     ensures allowed { IfOk result (λ by. MatchOption by
         (IsBlocked (seen asked.now) (effort_in (S.orders settle.now) budget))
         (IsAllowedBy (seen asked.now) (effort_in (S.orders settle.now) budget))) }
+    ensures first { IfOk result
+        (ServesAlone (seen asked.now) (standing_for shelves.old asked.now.query.now)) }
     ensures learns { Learns shelves.old shelves.new }
 {
     let covered = cover(alloc, asked.policy, asked.context, asked.query)?;

@@ -1,7 +1,8 @@
-use Rattle.ba_judge.proofs.ReadLemmas.{allowed_as, allowed_more, blocked_as, blocked_here}
+use Rattle.ba_judge.proofs.ReadLemmas.{allowed_more, blocked_here, judged_since}
 use Rattle.ba_judge.specs.Judging.{effort_in}
 use Rattle.ba_judge.specs.Reading.{asked_by, reader}
 use Rattle.ba_judge.specs.Shelves.Learns.{both}
+use Rattle.ba_judge.specs.declared.verdict.Judgement.TheVariants as judged
 use Rattle.ba_judge.proofs.reading.stop_of.Goals as goal
 
 pub returns-in-Blocked-clause-stops : goal.returns-in-Blocked-clause-stops
@@ -9,18 +10,23 @@ returns-in-Blocked-clause-stops g c =
     let it = reader c.args.reading.now in
     let effort = effort_in (g.S.Settle.orders c.args.settle.now) c.args.budget in
     let query = c.query-item.result in
-    blocked_here it effort c.args.queries.now c.loop-query.query-index query c.loop-query-test.true c.query-item.is c.loop-query.by c.in-Blocked.reason c.loop-query.invariant.allowed
-    (blocked_as (asked_by it query) effort c.in_ok-judgement.judgement c.in-Blocked.reason c.in-Blocked.is c.in_ok-judgement.ensures.judges)
+    let old = c.args.shelves.now in
+    let tells = c.in_ok-judgement.ensures in
+    blocked_here it c.args.queries.now c.loop-query.query-index query c.loop-query-test.true c.query-item.is effort old c.loop-query.by c.in-Blocked.reason c.loop-query.invariant.allowed
+    (judged_since (asked_by it query) effort old c.loop-query.shelves c.in_ok-judgement.judgement (judged.Blocked c.in-Blocked.reason) c.in-Blocked.is c.loop-query.invariant.learns tells.judges tells.first tells.parts)
 
 pub loop-query-preserved : goal.loop-query-preserved
 loop-query-preserved g c =
     let it = reader c.args.reading.now in
     let effort = effort_in (g.S.Settle.orders c.args.settle.now) c.args.budget in
     let query = c.query-item.result in
+    let old = c.args.shelves.now in
+    let tells = c.in_ok-judgement.ensures in
     record {
       allowed =
-          allowed_more it effort c.args.queries.now c.loop-query.query-index query c.loop-query-test.true c.query-item.is c.loop-query.by c.push.new.self c.in-Allowed.allowed c.loop-query.invariant.allowed
-          (allowed_as (asked_by it query) effort c.in_ok-judgement.judgement c.in-Allowed.allowed c.in-Allowed.is c.in_ok-judgement.ensures.judges) c.in_ok-push-in-Allowed.ensures.ok;
+          allowed_more it c.args.queries.now c.loop-query.query-index query c.loop-query-test.true c.query-item.is effort old c.loop-query.by c.push.new.self c.in-Allowed.allowed c.loop-query.invariant.allowed
+          (judged_since (asked_by it query) effort old c.loop-query.shelves c.in_ok-judgement.judgement (judged.Allowed c.in-Allowed.allowed) c.in-Allowed.is c.loop-query.invariant.learns tells.judges tells.first tells.parts)
+          c.in_ok-push-in-Allowed.ensures.ok;
       learns = both c.loop-query.invariant.learns c.judge.ensures.learns;
     }
 

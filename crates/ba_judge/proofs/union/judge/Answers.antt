@@ -1,10 +1,12 @@
 use Rattle.std.proofs.Common.{IfSome, ap, subst}
-use Rattle.ba_judge.proofs.JudgeLemmas.{first_allowed, first_blocked, parts_allowed, uncovered}
+use Rattle.ba_judge.proofs.JudgeLemmas.{alone_allowed, alone_blocked, first_allowed, first_blocked, parts_allowed, uncovered, whole_after}
 use Rattle.ba_judge.specs.Shelves.{standing_for}
 use Rattle.ba_judge.specs.declared.shelves.Shelves.{Shelves}
 use Rattle.ba_judge.proofs.UnionLemmas.{by_parts}
 use Rattle.ba_judge.specs.Judging.{IsByParts, effort_in, seen}
+use Rattle.ba_judge.specs.declared.verdict.Allowed.TheVariants.{Whole}
 use Rattle.ba_judge.specs.declared.verdict.By.{By}
+use Rattle.ba_judge.specs.declared.verdict.Judgement.TheVariants as judged
 use Rattle.std.specs.Prelude.{List, Option}
 use Rattle.ba_judge.specs.Shelves.Learns.{both}
 use Rattle.ba_judge.proofs.union.judge.Goals as goal
@@ -31,7 +33,22 @@ returns-in-Deny-clause-first g c = λ one.
 
 pub returns-in-Allow-clause-parts : goal.returns-in-Allow-clause-parts
 returns-in-Allow-clause-parts g c = λ several.
-    parts_allowed (seen c.args.asked.now) (effort_in (g.S.Settle.orders c.args.settle.now) c.args.budget) c.in-Allow.by (c.in_ok-each.ensures.blocked c.in_default-each.is several)
+    let asked = seen c.args.asked.now in
+    let effort = effort_in (g.S.Settle.orders c.args.settle.now) c.args.budget in
+    let old = c.args.shelves.now in
+    let now = c.each_allowed.new.shelves in
+    parts_allowed asked effort old c.in-Allow.by
+    (whole_after asked effort old now (judged.Allowed (Whole c.in-Allow.by)) (c.in_ok-each.ensures.blocked c.in_default-each.is several) c.each_allowed.ensures.learns
+    (alone_allowed asked (standing_for now asked.query) c.in_ok-finding.finding c.in-Allow.by c.in_ok-finding.ensures.first c.in-Allow.is))
+
+pub returns-in-Deny-clause-parts : goal.returns-in-Deny-clause-parts
+returns-in-Deny-clause-parts g c = λ several.
+    let asked = seen c.args.asked.now in
+    let effort = effort_in (g.S.Settle.orders c.args.settle.now) c.args.budget in
+    let old = c.args.shelves.now in
+    let now = c.each_allowed.new.shelves in
+    whole_after asked effort old now (judged.Blocked c.in-Deny.reason) (c.in_ok-each.ensures.blocked c.in_default-each.is several) c.each_allowed.ensures.learns
+    (alone_blocked asked (standing_for now asked.query) c.in_ok-finding.finding c.in-Deny.reason c.in_ok-finding.ensures.first c.in-Deny.is)
 
 pub returns-in_err-finding-clause-learns : goal.returns-in_err-finding-clause-learns
 returns-in_err-finding-clause-learns g c = both c.each_allowed.ensures.learns c.conclude.ensures.learns
