@@ -6,7 +6,6 @@ use Rattle.ba_event.specs.declared.event.Event.{Event}
 use Rattle.ba_event.specs.declared.event.Event.TheVariants as event
 use Rattle.ba_judge.specs.Judging.{Asked as Question, IsBlockedFor, IsStrong, Prefers, RestsOn}
 use Rattle.ba_judge.specs.Reading.{JudgesRead, Reader}
-use Rattle.ba_judge.specs.Shelves.{standing_for}
 use Rattle.ba_judge.specs.declared.reading.Read.{Read}
 use Rattle.ba_judge.specs.declared.verdict.Allowed.{Allowed}
 use Rattle.ba_judge.specs.declared.verdict.Judgement.TheVariants as judged
@@ -102,8 +101,8 @@ pub record Allows (effort : Effort) (line : ℕ) (name text : List ℕ) (it : Al
   pub reads : query_of old.policy.schema old.policy.params text ≡ Ok query
   pub rests : RestsOn (question_in old.policy asker query) effort it
   pub strong : IsStrong (question_in old.policy asker query)
-  pub prefers : Prefers (question_in old.policy asker query) effort
-      (standing_for old.shelves query) (judged.Allowed it)
+  pub prefers : Prefers (question_in old.policy asker query) effort old.shelves
+      (judged.Allowed it)
   pub opens : Opens name (Some (with_line line asker)) old.requests new.requests
   pub expects : Expects line (Some (record { name = name; query = query }))
       old.questions new.questions
@@ -124,8 +123,8 @@ pub record Blocks (effort : Effort) (name text : List ℕ) (it : Reason) (old ne
   pub query : Query
   pub reads : query_of old.policy.schema old.policy.params text ≡ Ok query
   pub blocked : IsBlockedFor (question_in old.policy asker query) effort it
-  pub prefers : Prefers (question_in old.policy asker query) effort
-      (standing_for old.shelves query) (judged.Blocked it)
+  pub prefers : Prefers (question_in old.policy asker query) effort old.shelves
+      (judged.Blocked it)
 
 pub record FailsToRead (name text : List ℕ) (fault : ReadQueryFault) (old new : Live) : Type 0 where
   pub asker : Open
@@ -182,7 +181,7 @@ pub record Reads (effort : Effort) (name key : List ℕ) (members : List Member)
   pub arguments : Context
   pub is_key : IsKeyRead old key members found arguments
   pub few : asker.asks + length found.queries ≤ most_open_asks
-  pub judged : JudgesRead (reader_in old.policy asker) effort
+  pub judged : JudgesRead (reader_in old.policy asker) effort old.shelves
       (key_queries old.policy found arguments) it
   pub opens : Opens name (Some (asked_more (length found.queries) asker)) old.requests new.requests
   pub asked : LeavesAsked old.questions new.questions

@@ -30,7 +30,8 @@ impl Live {
     ///   [`MAX_OPEN`] are open.
     /// - A question is judged after what its request was told, and no question changes that. An
     ///   allowed one may be told, once. Of one part the first template that matches of those on the
-    ///   shelves allows it, before any search.
+    ///   shelves allows it, before any search; of several each part in the same way, and the whole
+    ///   only where a part is blocked.
     /// - Of a cache key each query is judged so, in order, up to the first that is blocked. Each
     ///   counts as a question.
     /// - Told rows join what the request of their question was told, and of no other request.
