@@ -3,7 +3,7 @@
 use crate::ended::{Ended, lacking};
 use crate::explanation::complaint_of;
 use ba_lanes::{Entry, Journal};
-use ba_lint::{File, LintWords, Refuted, Report, Unread, find_refuted, lint};
+use ba_lint::{File, Format, LintWords, Refuted, Report, Unread, find_refuted, lint};
 use ba_model::{Failure, Query, Str};
 use ba_notice::notice;
 use ba_outside::{FirstPiece, FolderFiles, FreeGate, Held, KeptFiles};
@@ -133,7 +133,7 @@ where
     match &run {
         Some(words) => tell_with_script(rt, asked, prefix, words, report, out),
         None => {
-            let status = write_report(&report, asked.is_json, report.status(), out);
+            let status = write_report(&report, asked.format, report.status(), out);
             Ok(Ended {
                 status,
                 told: Some(String::new(alloc)),
@@ -143,8 +143,8 @@ where
 }
 
 // Writes the findings, and gives the status: this one, or that for want of memory.
-fn write_report<W: Write>(report: &Report, is_json: bool, status: u8, out: &mut W) -> u8 {
-    match report.write(is_json, out) {
+fn write_report<W: Write>(report: &Report, format: Format, status: u8, out: &mut W) -> u8 {
+    match report.write(format, out) {
         Err(e) if e.kind() == ErrorKind::OutOfMemory => MEMORY,
         _ => status,
     }
@@ -176,7 +176,7 @@ where
     let mut sink = FirstPiece::new(alloc);
     let outcome = blockaid(rt, alloc, words, &mut files, &mut sink, &FreeGate);
     let Some(journal) = &outcome.journal else {
-        let status = write_report(&report, asked.is_json, outcome.status, out);
+        let status = write_report(&report, asked.format, outcome.status, out);
         let asked = files.files().asked();
         let mut ended = complaint_of(rt, words, prefix, asked, &outcome, sink.text())?;
         ended.status = status;
@@ -189,7 +189,7 @@ where
         outcome.status
     };
     Ok(Ended {
-        status: write_report(&report, asked.is_json, status, out),
+        status: write_report(&report, asked.format, status, out),
         told: Some(String::new(alloc)),
     })
 }

@@ -14,7 +14,8 @@ pub enum Spot {
     Marked(Mark),
 }
 
-/// Where a fault stands, and what it is and what would mend it: words without a capital and a full stop.
+/// Where a fault stands, and what it is and what would mend it: words without a capital and a full
+/// stop.
 #[derive(Drop)]
 pub struct Hint {
     pub spot: Spot,

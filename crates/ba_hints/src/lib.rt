@@ -1,13 +1,15 @@
 //! Where a fault of a text stands, and what would mend it.
 //!
-//! A hint says no more than what was found in the text: where a small reader of its own finds none of a fault, it tells no place. Long texts
-//! are cut; control characters and bytes that are no text are shown as `?`.
+//! A hint says no more than what was found in the text: where a small reader of its own finds none
+//! of a fault, it tells no place. Long texts are cut; control characters and bytes that are no text
+//! are shown as `?`.
 #![tactic(auto)]
 
 mod grammar;
 mod hint;
 mod lex;
 mod lines;
+mod names;
 mod policy;
 mod query;
 mod rows;
@@ -22,6 +24,7 @@ mod words;
 
 pub use grammar::{POLICY, QUERY, SCHEMA, Stage, Step, Term, When};
 pub use hint::{Hint, Spot, listed};
+pub use names::{column_name, literal_text, view_name};
 pub use policy::{end_of, policy_hint};
 pub use query::question_hint;
 pub use rows::{key_hint, link_hint, rows_hint};

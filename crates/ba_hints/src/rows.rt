@@ -1,6 +1,7 @@
 //! Files of rows that aren't read, or break a key or a link.
 
 use crate::hint::{Hint, Spot, listed};
+use crate::names::column_name;
 use crate::sight::push_columns;
 use ba_model::{Failure, Link, Schema, Table};
 use ba_place::{Place, WORD_CHARS, shown};
@@ -69,13 +70,6 @@ impl Record {
             texts.push(text)?;
         }
         texts.join(alloc, ", ")
-    }
-}
-
-fn column_name(table: &Table, column: u32) -> &str {
-    match table.columns.find(column as usize) {
-        Some(column) => column.name.as_str(),
-        None => "?",
     }
 }
 

@@ -10,8 +10,8 @@ use ba_sql_ddl::read_schema;
 use ba_sql_query::{ReadQueryFault, read_query};
 use std::alloc::{AllocError, Global};
 
-/// A hint on the bracket before a query of a rule, where all words behind it were taken for words of
-/// the query.
+/// A hint on the bracket before a query of a rule, where all words behind it were taken for words
+/// of the query.
 pub fn open_hint(
     alloc: Global,
     bytes: &[u8],
@@ -120,7 +120,8 @@ fn query_fault(
     }
 }
 
-// A hint on the first query of a rule that has a fault, or on its heads, where RULE stands at a place.
+// A hint on the first query of a rule that has a fault, or on its heads, where RULE stands at a
+// place.
 fn queries_hint(
     alloc: Global,
     schema: &Schema,

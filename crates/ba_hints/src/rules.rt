@@ -4,28 +4,17 @@ ghost use Rattle.ba_model.specs.Fit.{IsQuery};
 ghost use Rattle.ba_model.specs.RuleFaults.{AreRules};
 
 use crate::hint::{Hint, Spot};
+use crate::names::literal_text;
 use ba_model::{List, Query, Row, Schema, Value};
-use ba_place::{LIST_CHARS, WORD_CHARS, shown};
+use ba_place::{LIST_CHARS, shown};
 use ba_sql_print::print_query;
 use std::alloc::{AllocError, Global};
-
-// A value as a literal.
-fn value_text(alloc: Global, value: &Value) -> Result<String, AllocError> {
-    match value {
-        Value::Null => String::from_str(alloc, "NULL"),
-        Value::Int(number) => number.to_string(alloc),
-        Value::Text(text) => {
-            let text = shown(alloc, text.as_bytes(), WORD_CHARS)?;
-            format!(in alloc; "'{text}'")
-        }
-    }
-}
 
 // The values of a row between brackets.
 fn row_text(alloc: Global, row: &[Value]) -> Result<String, AllocError> {
     let mut texts = Vec::new(alloc);
     for value in row {
-        let text = value_text(alloc, value)?;
+        let text = literal_text(alloc, value)?;
         texts.push(text)?;
     }
     let inside = texts.join(alloc, ", ")?;
@@ -41,7 +30,8 @@ fn query_text(alloc: Global, schema: &Schema, query: &Query) -> Result<String, A
     shown(alloc, text.as_bytes(), LIST_CHARS)
 }
 
-/// A hint on a row of a rule's left query that isn't one of its right query: both queries in SQL, and the row.
+/// A hint on a row of a rule's left query that isn't one of its right query: both queries in SQL,
+/// and the row.
 pub fn rule_hint(
     alloc: Global,
     schema: &Schema,

@@ -63,9 +63,9 @@ fn line_text(alloc: Global, line: &[u8], field: Option<&str>) -> Result<String, 
     }
 }
 
-/// A hint on the line of a number, from 1, of a template file: the field of this name is bad, `keys`
-/// where there is another one; or it is no JSON object, where none is named. Where the file's bytes
-/// are given, it tells what the line has.
+/// A hint on the line of a number, from 1, of a template file: the field of this name is bad,
+/// `keys` where there is another one; or it is no JSON object, where none is named. Where the
+/// file's bytes are given, it tells what the line has.
 pub fn template_hint(
     alloc: Global,
     bytes: Option<&[u8]>,

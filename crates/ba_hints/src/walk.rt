@@ -186,7 +186,7 @@ fn stands(term: Term, tokens: &[Token]) -> bool {
 impl State {
     // Whether a step may be taken.
     fn allows(&self, step: &Step) -> bool {
-        step.0 as u8 == self.stage as u8
+        step.from == self.stage
             && match step.when() {
                 When::Always | When::Begins | When::Opens => true,
                 When::Closes => self.depth > 0,
@@ -197,7 +197,7 @@ impl State {
 
     // Where it stands behind a step.
     fn behind(self, step: &Step) -> State {
-        let stage = step.2;
+        let stage = step.to;
         let next = State { stage, ..self };
         match step.when() {
             When::Begins => State {
@@ -224,7 +224,7 @@ impl State {
     // The step over the front of the tokens.
     fn step(&self, steps: &[Step], tokens: &[Token]) -> Option<Step> {
         for step in steps {
-            if self.allows(step) && stands(step.1, tokens) {
+            if self.allows(step) && stands(step.over, tokens) {
                 return Some(*step);
             }
         }
@@ -235,7 +235,7 @@ impl State {
     pub fn wanted(&self, alloc: Global, steps: &[Step]) -> Result<Vec<&'static str>, AllocError> {
         let mut words = Vec::new(alloc);
         for step in steps {
-            let word = step.1.text();
+            let word = step.over.text();
             if self.allows(step) && !words.contains(&word) {
                 words.push(word)?;
             }
@@ -263,7 +263,7 @@ pub fn take_tokens(
             break;
         };
         state = state.behind(&step);
-        let term = step.1;
+        let term = step.over;
         let group = state.group;
         taken.push(Taken { term, group })?;
     }

@@ -37,6 +37,7 @@ impl<'a> Words<'a> {
         }
     }
 
+    /// What a token was taken for: `Any`, where it was taken for nothing.
     pub fn term(&self, at: usize) -> Term {
         match self.taken.get(at) {
             Some(taken) => taken.term,
@@ -46,7 +47,7 @@ impl<'a> Words<'a> {
 
     /// Whether a token was taken for that.
     pub fn is(&self, at: usize, term: Term) -> bool {
-        self.term(at) as u8 == term as u8
+        self.term(at) == term
     }
 
     /// Its select or table, from 1.

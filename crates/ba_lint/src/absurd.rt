@@ -96,25 +96,13 @@ fn denies_null(atom: &Atom, side: &Operand) -> bool {
 
 // Whether what a condition says to be NULL can't be, by its table or by another condition.
 fn nulls_differ(text: &ViewText<'_>, part: &Part) -> bool {
-    for atom in part.conds.as_slice() {
-        if says_null(atom) && is_denied(text, part, &atom.left) {
-            return true;
-        }
-    }
-    false
+    part.conds.as_slice().iter().any(|atom| says_null(atom) && is_denied(text, part, &atom.left))
 }
 
 // Whether a side of a condition isn't NULL, by its table or by a condition.
 fn is_denied(text: &ViewText<'_>, part: &Part, side: &Operand) -> bool {
-    if is_never_null(text, part, side) {
-        return true;
-    }
-    for atom in part.conds.as_slice() {
-        if denies_null(atom, side) {
-            return true;
-        }
-    }
-    false
+    let conds = part.conds.as_slice();
+    is_never_null(text, part, side) || conds.iter().any(|atom| denies_null(atom, side))
 }
 
 // Whether the conditions of a part contradict each other.
@@ -128,15 +116,8 @@ fn is_absurd(
         return Ok(true);
     }
     let order = order_of(alloc, part, terms)?;
-    if order.absurd() {
-        return Ok(true);
-    }
-    for atom in part.conds.as_slice() {
-        if denies_equal(&order, terms, atom) {
-            return Ok(true);
-        }
-    }
-    Ok(false)
+    let conds = part.conds.as_slice();
+    Ok(order.absurd() || conds.iter().any(|atom| denies_equal(&order, terms, atom)))
 }
 
 /// Finds a part of a view whose conditions contradict each other.

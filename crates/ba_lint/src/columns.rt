@@ -5,17 +5,9 @@ use crate::report::Report;
 use crate::terms::Terms;
 use crate::ties::{count_tables, shows};
 use crate::written::ViewText;
-use ba_hints::listed;
+use ba_hints::{column_name, listed};
 use ba_model::{List, Operand, Part, Table};
 use std::alloc::{AllocError, Global};
-
-/// The name of a table's column.
-pub fn column_name(table: &Table, column: u32) -> &str {
-    match table.columns.find(column as usize) {
-        Some(column) => column.name.as_str(),
-        None => "?",
-    }
-}
 
 /// Finds columns that a part of a view compares, and whose values its rows and the parameters don't
 /// tell: of columns that are equal the first.
@@ -76,23 +68,15 @@ fn tell_hidden(
 
 // Whether the values of all columns of a key of the table at a place are known.
 fn is_key_known(terms: &Terms<'_>, place: u32, key: &List<u32>) -> bool {
-    for column in key.as_slice() {
-        let operand = Operand::Col(place, *column);
-        if !terms.is_known(&operand) {
-            return false;
-        }
-    }
-    true
+    key.as_slice()
+        .iter()
+        .all(|column| terms.is_known(&Operand::Col(place, *column)))
 }
 
 // Whether a table has keys, and the values of none of them are known.
 fn is_keyless(terms: &Terms<'_>, place: u32, table: &Table) -> bool {
-    for key in table.keys.as_slice() {
-        if is_key_known(terms, place, key) {
-            return false;
-        }
-    }
-    !table.keys.as_slice().is_empty()
+    let keys = table.keys.as_slice();
+    !keys.is_empty() && !keys.iter().any(|key| is_key_known(terms, place, key))
 }
 
 // The columns of a table's first key.

@@ -64,52 +64,57 @@ fn without(alloc: Global, bytes: &[u8], mark: Mark) -> Result<Vec<u8>, AllocErro
     Ok(rest)
 }
 
+// What is wrong with the statement that a fault names.
+#[derive(Clone, Copy, PartialEq, Eq)]
+enum Wrong {
+    // It is the second of its name.
+    Second,
+    // Its query names a parameter that isn't there.
+    NoParam,
+    // Its query has another fault.
+    Query,
+}
+
 // The statement that has a fault: the first of that keyword and name, or the second.
 #[derive(Drop)]
 struct Named {
     keyword: &'static str,
     name: Str,
-    is_second: bool,
-    // Whether the fault is that a parameter isn't there.
-    wants_param: bool,
+    wrong: Wrong,
 }
 
 impl Named {
-    fn new(keyword: &'static str, name: Str, is_second: bool, wants_param: bool) -> Option<Named> {
-        Some(Named {
+    // The second statement of a name.
+    fn second(keyword: &'static str, name: Str) -> Named {
+        Named {
             keyword,
             name,
-            is_second,
-            wants_param,
-        })
+            wrong: Wrong::Second,
+        }
     }
 
-    // The view that has a fault.
-    fn of_view(name: Str, fault: &ReadQueryFault) -> Option<Named> {
-        let wants_param = matches!(fault, ReadQueryFault::UnknownParam);
-        Named::new("VIEW", name, false, wants_param)
-    }
-
-    // The cache key that has a fault.
-    fn of_key(name: Str, fault: &ReadQueryFault) -> Option<Named> {
-        let wants_param = matches!(fault, ReadQueryFault::UnknownParam);
-        Named::new("KEY", name, false, wants_param)
+    // The statement whose query has a fault.
+    fn of_query(keyword: &'static str, name: Str, fault: &ReadQueryFault) -> Named {
+        let wrong = match fault {
+            ReadQueryFault::UnknownParam => Wrong::NoParam,
+            _ => Wrong::Query,
+        };
+        Named {
+            keyword,
+            name,
+            wrong,
+        }
     }
 
     // The statement that a fault names, if it names one.
     fn of_fault(fault: PolicyFault) -> Option<Named> {
         match fault {
-            PolicyFault::View(name, fault) => Named::of_view(name, &fault),
-            PolicyFault::DuplicateView(name) => Named::new("VIEW", name, true, false),
-            PolicyFault::DuplicateParam(name) => Named::new("PARAM", name, true, false),
-            PolicyFault::DuplicateKey(name) => Named::new("KEY", name, true, false),
-            PolicyFault::Key(name, fault) => Named::of_key(name, &fault),
-            PolicyFault::Lex(_fault) => None,
-            PolicyFault::Syntax => None,
-            PolicyFault::TooMany {
-                what: _what,
-                limit: _limit,
-            } => None,
+            PolicyFault::View(name, fault) => Some(Named::of_query("VIEW", name, &fault)),
+            PolicyFault::Key(name, fault) => Some(Named::of_query("KEY", name, &fault)),
+            PolicyFault::DuplicateView(name) => Some(Named::second("VIEW", name)),
+            PolicyFault::DuplicateParam(name) => Some(Named::second("PARAM", name)),
+            PolicyFault::DuplicateKey(name) => Some(Named::second("KEY", name)),
+            PolicyFault::Lex(_) | PolicyFault::Syntax | PolicyFault::TooMany { .. } => None,
         }
     }
 
@@ -120,7 +125,7 @@ impl Named {
         bytes: &[u8],
     ) -> Result<Option<Named>, AllocError> {
         match read_policy(alloc, schema, bytes) {
-            Ok(_policy) => Ok(None),
+            Ok(_) => Ok(None),
             Err(Failure::NoMemory) => Err(AllocError),
             Err(Failure::Fault(fault)) => Ok(Named::of_fault(fault)),
         }
@@ -133,7 +138,7 @@ impl Named {
 
     // Where its name stands.
     fn mark(&self, tokens: &[Token], len: usize) -> Option<Mark> {
-        let mut is_behind = !self.is_second;
+        let mut is_behind = self.wrong != Wrong::Second;
         let mut before: Option<&Token> = None;
         for token in tokens {
             if let Some(keyword) = before
@@ -153,7 +158,7 @@ impl Named {
 // Whether it is the second statement of its name.
 fn is_second(named: &Option<Named>) -> bool {
     match named {
-        Some(named) => named.is_second,
+        Some(named) => named.wrong == Wrong::Second,
         None => false,
     }
 }
@@ -193,7 +198,7 @@ fn mark_of(
 fn wants_lost_param(lost: Lost<'_>, named: &Option<Named>, mark: Option<Mark>) -> bool {
     match (named, mark) {
         (Some(named), Some(mark)) => {
-            named.wants_param && lost.declares(name_in(lost.sound, mark))
+            named.wrong == Wrong::NoParam && lost.declares(name_in(lost.sound, mark))
         }
         _ => false,
     }
@@ -230,8 +235,8 @@ fn next_fault(
     Ok(Some(without(alloc, bytes, statement)?))
 }
 
-/// Finds the faults of a policy's statements, at most a hundred: the first of each. What may come of
-/// a statement that has one isn't told. Gives the policy's bytes with blanks in place of the
+/// Finds the faults of a policy's statements, at most a hundred: the first of each. What may come
+/// of a statement that has one isn't told. Gives the policy's bytes with blanks in place of the
 /// statements that have one, or nothing where the reader can't go on.
 pub fn find_faults(
     report: &mut Report,
@@ -278,7 +283,7 @@ impl Subject {
         match read_schema(alloc, bytes) {
             Err(Failure::Fault(fault)) => Ok(Subject::of_fault(&fault)),
             Err(Failure::NoMemory) => Err(AllocError),
-            Ok(_schema) => Ok(Subject::Other),
+            Ok(_) => Ok(Subject::Other),
         }
     }
 }

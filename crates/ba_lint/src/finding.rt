@@ -3,7 +3,7 @@
 use std::alloc::{AllocError, Global};
 
 /// How much a finding weighs.
-#[derive(Clone, Copy)]
+#[derive(Clone, Copy, PartialEq, Eq)]
 pub enum Weight {
     /// The file isn't read as it stands.
     Error,
@@ -25,7 +25,7 @@ impl Weight {
 
     /// Whether it is that of a note.
     pub fn is_note(self) -> bool {
-        matches!(&self, Weight::Note)
+        self == Weight::Note
     }
 }
 
@@ -128,6 +128,7 @@ pub enum Finding<'a> {
 }
 
 impl Finding<'_> {
+    /// How much it weighs.
     pub fn weight(&self) -> Weight {
         match self {
             Finding::Fault(_) => Weight::Error,

@@ -9,7 +9,7 @@ use std::alloc::{AllocError, Global};
 const MOST_TIES: usize = 10_000;
 
 /// A column of a table, by their numbers.
-#[derive(Clone, Copy)]
+#[derive(Clone, Copy, PartialEq, Eq)]
 pub struct Field {
     pub table: u32,
     pub column: u32,
@@ -27,15 +27,10 @@ impl Field {
             column: *column,
         })
     }
-
-    /// Whether it is that column.
-    pub fn is(self, other: Field) -> bool {
-        self.table == other.table && self.column == other.column
-    }
 }
 
 // A column that holds what a parameter of a number does.
-#[derive(Clone, Copy)]
+#[derive(Clone, Copy, PartialEq, Eq)]
 struct Tie {
     field: Field,
     param: u32,
@@ -73,22 +68,14 @@ impl<'a> Fits<'a> {
 
     /// Whether a column is tied to the parameter of a number.
     pub fn ties(&self, field: Field, param: u32) -> bool {
-        for tie in self.ties.iter() {
-            if tie.field.is(field) && tie.param == param {
-                return true;
-            }
-        }
-        false
+        self.ties
+            .iter()
+            .any(|tie| tie.field == field && tie.param == param)
     }
 
     /// Whether a view compares a column with that constant.
     pub fn has_constant(&self, field: Field, value: &Value) -> bool {
-        for constant in self.constants.iter() {
-            if constant.field.is(field) && constant.value.same(value) {
-                return true;
-            }
-        }
-        false
+        self.constants.iter().any(|constant| constant.field == field && constant.value.same(value))
     }
 
     // Ties a column to a parameter, if it isn't.
@@ -176,12 +163,10 @@ impl<'a> Fits<'a> {
 
     // Ties the columns that a link joins to a tied one.
     fn follow_tie(&mut self, schema: &Schema, tie: Tie) -> Result<(), AllocError> {
-        let mut number = 0u32;
-        for table in schema.tables.as_slice() {
+        for (table, number) in schema.tables.as_slice().iter().zip(0..u32::MAX) {
             for link in table.links.as_slice() {
                 self.follow_link(number, link, tie)?;
             }
-            number = number.saturating_add(1);
         }
         Ok(())
     }
@@ -206,9 +191,9 @@ impl<'a> Fits<'a> {
 
     // Ties one of two columns, if the other is the tied one.
     fn join(&mut self, one: Field, other: Field, tie: Tie) -> Result<(), AllocError> {
-        if one.is(tie.field) {
+        if one == tie.field {
             self.tie(other, tie.param)
-        } else if other.is(tie.field) {
+        } else if other == tie.field {
             self.tie(one, tie.param)
         } else {
             Ok(())

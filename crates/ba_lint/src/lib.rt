@@ -25,5 +25,5 @@ mod written;
 pub use finding::{Finding, Scope, Weight};
 pub use linter::{Unread, lint};
 pub use refuted::{Refuted, find_refuted};
-pub use report::{File, Report};
+pub use report::{File, Format, Report};
 pub use words::LintWords;

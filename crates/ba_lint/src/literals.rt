@@ -1,12 +1,11 @@
 //! Literals of views that stand in no row.
 
-use crate::columns::column_name;
 use crate::finding::Finding;
 use crate::report::Report;
 use crate::written::ViewText;
+use ba_hints::{column_name, literal_text};
 use ba_model::{Atom, Op, Operand, Part, Row, RowSet, Same, Value};
-use ba_place::{WORD_CHARS, shown};
-use std::alloc::{AllocError, Global};
+use std::alloc::AllocError;
 
 fn has_value(row: &Row, column: u32, value: &Value) -> bool {
     match row.find(column as usize) {
@@ -20,24 +19,8 @@ fn is_in_no_row(rows: &RowSet, table: u32, column: u32, value: &Value) -> bool {
     let Some(rows) = rows.tables.find(table as usize) else {
         return false;
     };
-    for row in rows.as_slice() {
-        if has_value(row, column, value) {
-            return false;
-        }
-    }
-    !rows.as_slice().is_empty()
-}
-
-/// A value as a literal.
-pub fn literal_text(alloc: Global, value: &Value) -> Result<String, AllocError> {
-    match value {
-        Value::Null => String::from_str(alloc, "NULL"),
-        Value::Int(number) => number.to_string(alloc),
-        Value::Text(text) => {
-            let front = shown(alloc, text.as_bytes(), WORD_CHARS)?;
-            format!(in alloc; "'{front}'")
-        }
-    }
+    let rows = rows.as_slice();
+    !rows.is_empty() && !rows.iter().any(|row| has_value(row, column, value))
 }
 
 // Finds that no row has a literal that is compared with a column.

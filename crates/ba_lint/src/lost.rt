@@ -24,23 +24,13 @@ impl Lost<'_> {
 
     /// Whether one of them has a word or a quoted name.
     pub fn names(self, name: &str) -> bool {
-        for at in 0..self.bytes.len() {
-            if self.has_name(at, name) {
-                return true;
-            }
-        }
-        false
+        (0..self.bytes.len()).any(|at| self.has_name(at, name))
     }
 
-    /// Whether one of them has a word or a quoted name that isn't a parameter behind its `?`, so that
-    /// it may declare that.
+    /// Whether one of them has a word or a quoted name that isn't a parameter behind its `?`, so
+    /// that it may declare that.
     pub fn declares(self, name: &str) -> bool {
-        for at in 0..self.bytes.len() {
-            if self.has_name(at, name) && self.before(at) != Some(b'?') {
-                return true;
-            }
-        }
-        false
+        (0..self.bytes.len()).any(|at| self.has_name(at, name) && self.before(at) != Some(b'?'))
     }
 
     // The byte before a place.

@@ -4,7 +4,7 @@ use crate::finding::Finding;
 use crate::report::Report;
 use crate::written::PolicyText;
 use ba_direct::cover;
-use ba_hints::Term;
+use ba_hints::{Term, view_name};
 use ba_model::{Context, Duplicate, Kind, List, Parameter, Policy, Str, Value, View};
 use std::alloc::{AllocError, Global};
 
@@ -104,14 +104,6 @@ impl Split<'_> {
             }
         }
         Ok(None)
-    }
-}
-
-// The name of the view of a number.
-fn view_name(policy: &Policy, number: usize) -> &str {
-    match policy.views.find(number) {
-        Some(view) => view.name.as_str(),
-        None => "?",
     }
 }
 

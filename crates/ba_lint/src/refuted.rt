@@ -1,12 +1,10 @@
 //! Questions that are refuted, with the views that would cover them.
 
-use crate::columns::column_name;
 use crate::finding::Finding;
 use crate::fits::{Field, Fits};
-use crate::literals::literal_text;
 use crate::report::{File, Report};
 use ba_direct::cover;
-use ba_hints::Spot;
+use ba_hints::{Spot, column_name, literal_text};
 use ba_model::{
     Atom, Context, Duplicate, List, Operand, Part, Policy, Query, QueryDraft, Same, Value,
 };
@@ -36,12 +34,10 @@ struct Reading<'a> {
 impl Reading<'_> {
     // The first parameter of that value that a column is tied to, by its number.
     fn param_of(&self, field: Field, value: &Value) -> Option<u32> {
-        let mut number = 0u32;
-        for it in self.context.values.as_slice() {
+        for (it, number) in self.context.values.as_slice().iter().zip(0..u32::MAX) {
             if it.same(value) && self.fits.ties(field, number) {
                 return Some(number);
             }
-            number = number.saturating_add(1);
         }
         None
     }
@@ -78,12 +74,13 @@ impl Reading<'_> {
 
     // Adds what is said, if it isn't there.
     fn push_kept(&mut self, text: String) -> Result<(), AllocError> {
-        for other in self.kept.iter() {
-            if other.as_str() == text.as_str() {
-                return Ok(());
-            }
+        let is_there = self
+            .kept
+            .iter()
+            .any(|other| other.as_str() == text.as_str());
+        if !is_there {
+            self.kept.push(text)?;
         }
-        self.kept.push(text)?;
         Ok(())
     }
 

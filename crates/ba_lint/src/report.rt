@@ -8,6 +8,15 @@ use std::alloc::{AllocError, Global};
 use std::io;
 use std::io::Write;
 
+/// How findings are told.
+#[derive(Clone, Copy, PartialEq, Eq)]
+pub enum Format {
+    /// Each as a line that editors read: file, line, column, weight and words.
+    Text,
+    /// Each as a compact JSON object.
+    Json,
+}
+
 /// A file that findings are of: its name and its bytes.
 #[derive(Clone, Copy)]
 pub struct File<'a> {
@@ -15,8 +24,9 @@ pub struct File<'a> {
     pub bytes: &'a [u8],
 }
 
-// Where a finding stands, as far as that is known.
-#[derive(Clone, Copy)]
+// Where a finding stands, as far as that is known: its line and its column, from 1. What isn't
+// known comes before what is.
+#[derive(Clone, Copy, PartialEq, Eq, PartialOrd, Ord)]
 struct Position {
     line: Option<u64>,
     column: Option<u64>,
@@ -41,23 +51,6 @@ impl Position {
                 }
             }
         }
-    }
-
-    // Its line and its column, or 0 for what isn't known.
-    fn numbers(self) -> (u64, u64) {
-        (self.line.unwrap_or(0), self.column.unwrap_or(0))
-    }
-
-    fn is_at(self, other: Position) -> bool {
-        let (line, column) = self.numbers();
-        let (other_line, other_column) = other.numbers();
-        line == other_line && column == other_column
-    }
-
-    fn is_behind(self, other: Position) -> bool {
-        let (line, column) = self.numbers();
-        let (other_line, other_column) = other.numbers();
-        line > other_line || (line == other_line && column > other_column)
     }
 }
 
@@ -132,11 +125,11 @@ impl Entry {
         if weight.is_note() {
             return false;
         }
-        self.weight.is_note() || (self.file.as_str() == file && self.position.is_behind(position))
+        self.weight.is_note() || (self.file.as_str() == file && self.position > position)
     }
 
     fn is_same(&self, file: &str, position: Position, text: &str) -> bool {
-        self.file.as_str() == file && self.position.is_at(position) && self.text.as_str() == text
+        self.file.as_str() == file && self.position == position && self.text.as_str() == text
     }
 }
 
@@ -158,22 +151,18 @@ impl Report {
     }
 
     fn has(&self, file: &str, position: Position, text: &str) -> bool {
-        for entry in &self.entries {
-            if entry.is_same(file, position, text) {
-                return true;
-            }
-        }
-        false
+        self.entries
+            .iter()
+            .any(|entry| entry.is_same(file, position, text))
     }
 
     // How many findings are told before one of that weight at that place of a file.
     fn count_before(&self, file: &str, position: Position, weight: Weight) -> usize {
-        for (number, entry) in self.entries.iter().enumerate() {
-            if entry.comes_behind(file, position, weight) {
-                return number;
-            }
-        }
-        self.entries.len()
+        let place = self
+            .entries
+            .iter()
+            .position(|entry| entry.comes_behind(file, position, weight));
+        place.unwrap_or(self.entries.len())
     }
 
     /// Adds a finding of a file, if it isn't there.
@@ -203,34 +192,26 @@ impl Report {
 
     /// Whether a file has a fault.
     pub fn has_error(&self) -> bool {
-        for entry in &self.entries {
-            if matches!(&entry.weight, Weight::Error) {
-                return true;
-            }
-        }
-        false
+        self.entries
+            .iter()
+            .any(|entry| entry.weight == Weight::Error)
     }
 
     /// The status: 1 where there is a fault or a warning.
     pub fn status(&self) -> u8 {
-        for entry in &self.entries {
-            if !entry.weight.is_note() {
-                return 1;
-            }
-        }
-        0
+        let is_clean = self.entries.iter().all(|entry| entry.weight.is_note());
+        if is_clean { 0 } else { 1 }
     }
 
-    /// Writes each finding on a line of its own, as a compact JSON object where that is asked for.
+    /// Writes each finding on a line of its own.
     ///
     /// # Errors
     /// A write that fails ends the telling; `OutOfMemory` tells that memory was wanting.
-    pub fn write<W: Write>(&self, is_json: bool, out: &mut W) -> io::Result<()> {
+    pub fn write<W: Write>(&self, format: Format, out: &mut W) -> io::Result<()> {
         for entry in &self.entries {
-            let line = if is_json {
-                entry.json(self.alloc)
-            } else {
-                entry.line(self.alloc)
+            let line = match format {
+                Format::Text => entry.line(self.alloc),
+                Format::Json => entry.json(self.alloc),
             };
             let line = line?;
             out.write_all(line.as_bytes())?;

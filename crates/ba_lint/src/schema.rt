@@ -118,10 +118,8 @@ pub fn find_cycles(
     text: &SchemaText<'_>,
     schema: &Schema,
 ) -> Result<(), AllocError> {
-    let mut number = 0u32;
-    for table in schema.tables.as_slice() {
+    for (table, number) in schema.tables.as_slice().iter().zip(0..u32::MAX) {
         find_links_back(report, text, schema, table, number)?;
-        number = number.saturating_add(1);
     }
     Ok(())
 }

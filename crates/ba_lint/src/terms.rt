@@ -39,12 +39,10 @@ impl<'a> Draft<'a> {
     }
 
     fn number(&self, operand: &Operand) -> Option<u32> {
-        let mut number = 0u32;
-        for other in self.operands.iter() {
+        for (other, number) in self.operands.iter().zip(0..u32::MAX) {
             if (*other).same(operand) {
                 return Some(number);
             }
-            number = number.saturating_add(1);
         }
         None
     }
@@ -117,13 +115,11 @@ impl<'a> Terms<'a> {
     }
 
     fn take_members(&mut self, draft: &Draft<'a>) -> Result<(), AllocError> {
-        let mut number = 0u32;
-        for operand in draft.operands.iter() {
+        for (operand, number) in draft.operands.iter().zip(0..u32::MAX) {
             self.members.push(Member {
                 operand: *operand,
                 class: draft.label(number),
             })?;
-            number = number.saturating_add(1);
         }
         Ok(())
     }

@@ -5,7 +5,7 @@ use crate::report::Report;
 use crate::terms::{Member, Terms};
 use crate::written::ViewText;
 use ba_classes::Classes;
-use ba_model::{Operand, Part};
+use ba_model::{Atom, Operand, Part};
 use std::alloc::{AllocError, Global};
 
 // Which tables of a part are tied to each other and to a parameter, by equations: the tables by
@@ -85,22 +85,23 @@ fn is_column(operand: &Operand, place: u32) -> bool {
 
 /// Whether a part puts out a column of the table at a place.
 pub fn shows(part: &Part, place: u32) -> bool {
-    for operand in part.head.as_slice() {
-        if is_column(operand, place) {
-            return true;
-        }
-    }
-    false
+    part.head
+        .as_slice()
+        .iter()
+        .any(|operand| is_column(operand, place))
+}
+
+// Whether a condition compares a column of the table at a place.
+fn compares(atom: &Atom, place: u32) -> bool {
+    is_column(&atom.left, place) || is_column(&atom.right, place)
 }
 
 // Which of the rows of the table at a place are shown.
 fn scope(part: &Part, place: u32) -> Scope {
-    for atom in part.conds.as_slice() {
-        if is_column(&atom.left, place) || is_column(&atom.right, place) {
-            return Scope::Chosen;
-        }
-    }
-    if part.from.len() > 1 {
+    let conds = part.conds.as_slice();
+    if conds.iter().any(|atom| compares(atom, place)) {
+        Scope::Chosen
+    } else if part.from.len() > 1 {
         Scope::Beside
     } else {
         Scope::All

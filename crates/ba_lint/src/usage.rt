@@ -20,50 +20,26 @@ fn is_param(operand: &Operand, number: u32) -> bool {
 
 // Whether a part uses the parameter of a number.
 fn part_uses(part: &Part, number: u32) -> bool {
-    for atom in part.conds.as_slice() {
-        if is_param(&atom.left, number) || is_param(&atom.right, number) {
-            return true;
-        }
-    }
-    for operand in part.head.as_slice() {
-        if is_param(operand, number) {
-            return true;
-        }
-    }
-    false
+    let (conds, head) = (part.conds.as_slice(), part.head.as_slice());
+    conds.iter().any(|atom| is_param(&atom.left, number) || is_param(&atom.right, number))
+        || head.iter().any(|operand| is_param(operand, number))
 }
 
 fn query_uses(query: &Query, number: u32) -> bool {
-    for part in query.parts.as_slice() {
-        if part_uses(part, number) {
-            return true;
-        }
-    }
-    false
+    let parts = query.parts.as_slice();
+    parts.iter().any(|part| part_uses(part, number))
 }
 
 // Whether a query of a cache key uses the parameter of a number.
 fn key_uses(key: &CacheKey, number: u32) -> bool {
-    for query in key.queries.as_slice() {
-        if query_uses(query, number) {
-            return true;
-        }
-    }
-    false
+    let queries = key.queries.as_slice();
+    queries.iter().any(|query| query_uses(query, number))
 }
 
 fn is_used(policy: &Policy, number: u32) -> bool {
-    for view in policy.views.as_slice() {
-        if query_uses(&view.query, number) {
-            return true;
-        }
-    }
-    for key in policy.keys.as_slice() {
-        if key_uses(key, number) {
-            return true;
-        }
-    }
-    false
+    let (views, keys) = (policy.views.as_slice(), policy.keys.as_slice());
+    views.iter().any(|view| query_uses(&view.query, number))
+        || keys.iter().any(|key| key_uses(key, number))
 }
 
 /// Finds parameters that no view and no cache key uses, and no statement that has a fault names.
@@ -73,35 +49,27 @@ pub fn find_unused(
     policy: &Policy,
     lost: Lost<'_>,
 ) -> Result<(), AllocError> {
-    let mut number = 0u32;
-    for param in policy.params.as_slice() {
+    for (param, number) in policy.params.as_slice().iter().zip(0..u32::MAX) {
         let name = param.name.as_str();
         if !is_used(policy, number) && !lost.names(name) {
             let spot = text.spot(Term::Param, name);
             report.add(text.file, spot, &Finding::UnusedParam(name))?;
         }
-        number = number.saturating_add(1);
     }
     Ok(())
 }
 
 // Whether a view reads the table of a number.
 fn view_reads(view: &View, table: u32) -> bool {
-    for part in view.query.parts.as_slice() {
-        if part.from.as_slice().contains(&table) {
-            return true;
-        }
-    }
-    false
+    let parts = view.query.parts.as_slice();
+    parts
+        .iter()
+        .any(|part| part.from.as_slice().contains(&table))
 }
 
 fn is_read(policy: &Policy, table: u32) -> bool {
-    for view in policy.views.as_slice() {
-        if view_reads(view, table) {
-            return true;
-        }
-    }
-    false
+    let views = policy.views.as_slice();
+    views.iter().any(|view| view_reads(view, table))
 }
 
 // Adds the columns of a class of a part.
@@ -150,12 +118,7 @@ impl<'a> Showing<'a> {
 
     // Whether the view shows a column.
     fn has(&self, field: Field) -> bool {
-        for other in self.fields.iter() {
-            if other.is(field) {
-                return true;
-            }
-        }
-        false
+        self.fields.contains(&field)
     }
 }
 
@@ -171,13 +134,11 @@ fn showings(alloc: Global, policy: &Policy) -> Result<Vec<Showing<'_>>, AllocErr
 // A view with the parameters that it uses.
 fn view_text(alloc: Global, policy: &Policy, view: &View) -> Result<String, AllocError> {
     let mut params = String::new(alloc);
-    let mut number = 0u32;
-    for param in policy.params.as_slice() {
+    for (param, number) in policy.params.as_slice().iter().zip(0..u32::MAX) {
         if query_uses(&view.query, number) {
             params.push_str(if params.is_empty() { "?" } else { ", ?" })?;
             params.push_str(param.name.as_str())?;
         }
-        number = number.saturating_add(1);
     }
     if params.is_empty() {
         return format!(in alloc; "{} (to every user)", view.name);
@@ -246,14 +207,12 @@ impl Notes<'_> {
     ) -> Result<(), AllocError> {
         let name = table.name.as_str();
         let tells_unseen = !self.lost.names(name);
-        let mut place = 0u32;
-        for it in table.columns.as_slice() {
+        for (it, column) in table.columns.as_slice().iter().zip(0..u32::MAX) {
             let field = Field {
                 table: number,
-                column: place,
+                column,
             };
             self.note_column(report, name, it.name.as_str(), field, tells_unseen)?;
-            place = place.saturating_add(1);
         }
         Ok(())
     }
@@ -293,10 +252,8 @@ pub fn note_usage(
         lost,
         showings: showings(alloc, policy)?,
     };
-    let mut number = 0u32;
-    for table in policy.schema.tables.as_slice() {
+    for (table, number) in policy.schema.tables.as_slice().iter().zip(0..u32::MAX) {
         notes.note_table(report, table, number)?;
-        number = number.saturating_add(1);
     }
     Ok(())
 }

@@ -1,5 +1,6 @@
 //! The words of the linter.
 
+use crate::report::Format;
 use std::alloc::{AllocError, Global};
 
 /// What is asked for: the names of the files, and how findings are told.
@@ -11,7 +12,7 @@ pub struct LintWords<'a> {
     pub tables: Option<&'a str>,
     /// The script whose questions are asked, where one is named; then tables are named too.
     pub script: Option<&'a str>,
-    pub is_json: bool,
+    pub format: Format,
 }
 
 // The options so far.
@@ -21,7 +22,7 @@ struct Options<'a> {
     policy: Option<&'a str>,
     tables: Option<&'a str>,
     script: Option<&'a str>,
-    is_json: bool,
+    format: Format,
 }
 
 // A value behind its option: one that begins with `-` and is longer stands behind `=`.
@@ -56,13 +57,13 @@ impl<'a> Options<'a> {
 
     // With `--json`, if it isn't there.
     fn in_json(self) -> Option<Options<'a>> {
-        if self.is_json {
-            return None;
+        match self.format {
+            Format::Text => Some(Options {
+                format: Format::Json,
+                ..self
+            }),
+            Format::Json => None,
         }
-        Some(Options {
-            is_json: true,
-            ..self
-        })
     }
 
     // With the option at the front of the words, and those behind it.
@@ -96,7 +97,7 @@ impl<'a> LintWords<'a> {
             policy: None,
             tables: None,
             script: None,
-            is_json: false,
+            format: Format::Text,
         };
         let mut rest = words;
         for _ in 0..words.len() {
@@ -112,7 +113,7 @@ impl<'a> LintWords<'a> {
             policy: options.policy?,
             tables: options.tables,
             script: options.script,
-            is_json: options.is_json,
+            format: options.format,
         })
     }
 

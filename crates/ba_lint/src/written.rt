@@ -158,12 +158,7 @@ impl<'a> ViewText<'a> {
     fn is_behind_from(&self, at: usize) -> bool {
         let words = &self.sight.words;
         let group = Some(words.group(at));
-        for before in 0..at {
-            if words.is_in(before, Term::From, group) {
-                return true;
-            }
-        }
-        false
+        (0..at).any(|before| words.is_in(before, Term::From, group))
     }
 
     // Whether a token is that column of that table in a condition.
