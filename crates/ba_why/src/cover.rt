@@ -2,8 +2,9 @@
 
 use crate::given::Given;
 use crate::page::Page;
-use crate::text::{view_name, view_sql};
+use crate::text::view_sql;
 use ba_direct::{Cover, PartCover};
+use ba_hints::view_name;
 use ba_model::List;
 use ba_sql_print::print_query;
 use ba_sql_query::read_query;

@@ -35,7 +35,8 @@ fn problem_of(
     }
 }
 
-// The start of the derivation of a question. There is none where the question isn't one for the policy.
+// The start of the derivation of a question. There is none where the question isn't one for the
+// policy.
 fn start(
     alloc: Global,
     given: &Given,
@@ -49,7 +50,8 @@ fn start(
     }
 }
 
-/// Tells a question's derivation: with what it begins, and its steps, the last ones where there are more than are shown.
+/// Tells a question's derivation: with what it begins, and its steps, the last ones where there are
+/// more than are shown.
 pub fn tell_derivation(
     page: &mut Page,
     given: &Given,

@@ -14,7 +14,8 @@ use ba_sql_ddl::read_schema;
 use std::alloc::{AllocError, Global};
 use std::marker::Model;
 
-/// A policy and a script for it. A contract sees the policy, which the type keeps to be a checked one.
+/// A policy and a script for it. A contract sees the policy, which the type keeps to be a checked
+/// one.
 #[derive(Drop)]
 pub struct Given {
     policy: Shared<Policy>,
@@ -58,7 +59,8 @@ impl Given {
         Ok(Some(given))
     }
 
-    /// What these bytes are, as the run read them, which searched in so many orders. They have readings, so that an error is want of memory.
+    /// What these bytes are, as the run read them, which searched in so many orders. They have
+    /// readings, so that an error is want of memory.
     pub fn read(
         alloc: Global,
         schema: &[u8],

@@ -71,7 +71,8 @@ impl Page {
         self.text.as_str()
     }
 
-    /// Adds a text on lines of its own, which begin so many columns in, and two more where they go on.
+    /// Adds a text on lines of its own, which begin so many columns in, and two more where they go
+    /// on.
     pub fn say(&mut self, indent: usize, text: &str) -> Result<(), AllocError> {
         let plain = shown(self.alloc, text, TEXT_BYTES)?;
         self.begin_line(indent)?;
@@ -102,7 +103,8 @@ impl Page {
         text.len() <= VALUE_BYTES && text.len() <= self.room(indent)
     }
 
-    // How many bytes of a word are shown on lines that begin so many columns in and go on two further: with `..` behind them they fit.
+    // How many bytes of a word are shown on lines that begin so many columns in and go on two
+    // further: with `..` behind them they fit.
     fn word_bytes(&self, indent: usize) -> usize {
         self.room(indent.saturating_add(4)).min(VALUE_BYTES)
     }

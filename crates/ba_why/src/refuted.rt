@@ -106,7 +106,8 @@ fn has(rows: &[Row], row: &Row) -> bool {
     false
 }
 
-// Whether the views show the same of the two databases, and both give the earlier questions just the rows that were told.
+// Whether the views show the same of the two databases, and both give the earlier questions just
+// the rows that were told.
 fn are_alike(
     alloc: Global,
     given: &Given,

@@ -8,7 +8,8 @@ use ba_script::{Script, ScriptEntry};
 use ba_session::Reply;
 use std::alloc::{AllocError, Global};
 
-/// A request's context, and the answers that it was given before a question, each with its line in the script.
+/// A request's context, and the answers that it was given before a question, each with its line in
+/// the script.
 #[derive(Drop)]
 pub struct Scene {
     pub context: Context,

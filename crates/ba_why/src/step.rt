@@ -2,13 +2,15 @@
 
 use crate::given::Given;
 use crate::scene::Scene;
-use crate::text::{atom_text, columns_text, fact_text, rule_sql, view_name};
+use crate::text::{atom_text, columns_text, fact_text, rule_sql};
 use ba_facts::{Branch, TermAtom};
+use ba_hints::view_name;
 use ba_kernel::{Search, Step};
 use ba_model::{List, Table};
 use std::alloc::{AllocError, Global};
 
-/// Why a step was taken, after it: what goes before the facts that it adds. `branches` is how many numbers of branches there were before.
+/// Why a step was taken, after it: what goes before the facts that it adds. `branches` is how many
+/// numbers of branches there were before.
 pub fn cause_text(
     alloc: Global,
     given: &Given,

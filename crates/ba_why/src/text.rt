@@ -5,12 +5,15 @@ ghost use Rattle.ba_model.specs.RuleFaults.{RuleFits};
 
 use crate::page::{VALUE_BYTES, shown};
 use ba_facts::{Branch, Fact, Lesson, Side, Term, TermAtom};
+use ba_hints::column_name;
 use ba_model::{Context, Duplicate, List, Op, Policy, Query, QueryDraft, Table, Value};
 use ba_sql_print::print_query;
 use std::alloc::{AllocError, Global};
 
-/// A value as a literal.
-pub fn value_text(alloc: Global, value: &Value) -> Result<String, AllocError> {
+/// A value as a literal of SQL: a text stands between quotes, and a quote inside it is doubled. Of
+/// a text no more than `VALUE_BYTES` bytes are shown, as of all that a page has, and not as many
+/// characters as of a hint's.
+pub fn literal_text(alloc: Global, value: &Value) -> Result<String, AllocError> {
     match value {
         Value::Null => String::from_str(alloc, "NULL"),
         Value::Int(number) => number.to_string(alloc),
@@ -26,14 +29,15 @@ pub fn value_text(alloc: Global, value: &Value) -> Result<String, AllocError> {
 pub fn row_text(alloc: Global, row: &[Value]) -> Result<String, AllocError> {
     let mut texts = Vec::new(alloc);
     for value in row {
-        let text = value_text(alloc, value)?;
+        let text = literal_text(alloc, value)?;
         texts.push(text)?;
     }
     let inside = texts.join(alloc, ", ")?;
     format!(in alloc; "({inside})")
 }
 
-/// The values of a policy's parameters in a context, between brackets behind a blank, if there are any.
+/// The values of a policy's parameters in a context, between brackets behind a blank, if there are
+/// any.
 pub fn context_text(
     alloc: Global,
     policy: &Policy,
@@ -42,7 +46,7 @@ pub fn context_text(
     let mut texts = Vec::new(alloc);
     for (number, value) in context.values.as_slice().iter().enumerate() {
         if let Some(param) = policy.params.find(number) {
-            let value = value_text(alloc, value)?;
+            let value = literal_text(alloc, value)?;
             let text = format!(in alloc; "{} = {value}", param.name)?;
             texts.push(text)?;
         }
@@ -73,26 +77,14 @@ pub fn columns_text(
 ) -> Result<String, AllocError> {
     let mut names = Vec::new(alloc);
     for column in columns.as_slice() {
-        let name = match table.columns.find(*column as usize) {
-            Some(column) => column.name.as_str(),
-            None => "?",
-        };
-        let name = String::from_str(alloc, name)?;
+        let name = String::from_str(alloc, column_name(table, *column))?;
         names.push(name)?;
     }
     let inside = names.join(alloc, ", ")?;
     format!(in alloc; "({inside})")
 }
 
-/// The name of the view of a number.
-pub fn view_name(policy: &Policy, number: usize) -> &str {
-    match policy.views.find(number) {
-        Some(view) => view.name.as_str(),
-        None => "?",
-    }
-}
-
-/// The name of the cache key of a number.
+/// The name of the cache key of a number, from 0, of a policy: `?` where there is none.
 pub fn key_name(policy: &Policy, number: usize) -> &str {
     match policy.keys.find(number) {
         Some(key) => key.name.as_str(),
@@ -135,7 +127,8 @@ pub fn rule_sql(alloc: Global, policy: &Policy, number: usize) -> Result<String,
     format!(in alloc; "each row of {left} a row of {right}")
 }
 
-// A term of a branch: its literal, if it is shown to have one, else a name that it has in common with all that are shown equal.
+// A term of a branch: its literal, if it is shown to have one, else a name that it has in common
+// with all that are shown equal.
 fn term_text(
     alloc: Global,
     policy: &Policy,
@@ -143,14 +136,14 @@ fn term_text(
     term: &Term,
 ) -> Result<String, AllocError> {
     if let Some(value) = branch.literal(term) {
-        return value_text(alloc, value);
+        return literal_text(alloc, value);
     }
     match term {
         Term::Unknown(number) => {
             let least = branch.least_of(*number);
             format!(in alloc; "x{least}")
         }
-        Term::Val(value) => value_text(alloc, value),
+        Term::Val(value) => literal_text(alloc, value),
         Term::Param(number) => match policy.params.find(*number as usize) {
             Some(param) => format!(in alloc; "?{}", param.name),
             None => String::from_str(alloc, "?"),
@@ -243,7 +236,8 @@ fn compared(lesson: &Lesson) -> Option<&TermAtom> {
     }
 }
 
-/// The comparisons that are known in a branch, but for equations, which the names of terms tell. Nothing, where there are none.
+/// The comparisons that are known in a branch, but for equations, which the names of terms tell.
+/// Nothing, where there are none.
 pub fn known_text(alloc: Global, policy: &Policy, branch: &Branch) -> Result<String, AllocError> {
     let mut texts = Vec::new(alloc);
     for lesson in branch.known.learned() {

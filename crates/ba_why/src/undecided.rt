@@ -53,45 +53,76 @@ fn tell_budget(page: &mut Page, count: u64) -> Result<(), AllocError> {
 }
 
 // The kind of a step.
-fn kind_of(step: &Step) -> &'static str {
-    match step {
-        Step::Entry { .. } => "by earlier answers",
-        Step::Key { .. } => "by keys",
-        Step::Link { .. } => "by links",
-        Step::Rule { .. } => "by rules",
-        Step::View { .. } => "by views",
-        Step::Split { .. } => "by cases",
-        Step::Absurd { .. } => "by what can't be true",
-        Step::Goal { .. } => "by the question",
+#[derive(Clone, Copy, PartialEq, Eq)]
+enum StepKind {
+    Entry,
+    Key,
+    Link,
+    Rule,
+    View,
+    Split,
+    Absurd,
+    Goal,
+}
+
+impl StepKind {
+    // All kinds, in the order in which they are told.
+    const ALL: [StepKind; 8] = [
+        StepKind::Entry,
+        StepKind::Key,
+        StepKind::Link,
+        StepKind::Rule,
+        StepKind::View,
+        StepKind::Split,
+        StepKind::Absurd,
+        StepKind::Goal,
+    ];
+
+    fn of(step: &Step) -> StepKind {
+        match step {
+            Step::Entry { .. } => StepKind::Entry,
+            Step::Key { .. } => StepKind::Key,
+            Step::Link { .. } => StepKind::Link,
+            Step::Rule { .. } => StepKind::Rule,
+            Step::View { .. } => StepKind::View,
+            Step::Split { .. } => StepKind::Split,
+            Step::Absurd { .. } => StepKind::Absurd,
+            Step::Goal { .. } => StepKind::Goal,
+        }
+    }
+
+    // By what its steps were taken.
+    fn text(self) -> &'static str {
+        match self {
+            StepKind::Entry => "by earlier answers",
+            StepKind::Key => "by keys",
+            StepKind::Link => "by links",
+            StepKind::Rule => "by rules",
+            StepKind::View => "by views",
+            StepKind::Split => "by cases",
+            StepKind::Absurd => "by what can't be true",
+            StepKind::Goal => "by the question",
+        }
     }
 }
 
 // How many steps there are of each kind.
 fn kinds_text(alloc: Global, steps: &[Step]) -> Result<String, AllocError> {
     let mut texts = Vec::new(alloc);
-    for kind in [
-        "by earlier answers",
-        "by keys",
-        "by links",
-        "by rules",
-        "by views",
-        "by cases",
-        "by what can't be true",
-        "by the question",
-    ] {
+    for kind in StepKind::ALL {
         let count = count_of(steps, kind);
         if count > 0 {
-            let text = format!(in alloc; "{count} {kind}")?;
+            let text = format!(in alloc; "{count} {}", kind.text())?;
             texts.push(text)?;
         }
     }
     texts.join(alloc, ", ")
 }
 
-fn count_of(steps: &[Step], kind: &str) -> usize {
+fn count_of(steps: &[Step], kind: StepKind) -> usize {
     let mut count = 0usize;
     for step in steps {
-        if kind_of(step) == kind {
+        if StepKind::of(step) == kind {
             count = count.saturating_add(1);
         }
     }

@@ -7,7 +7,8 @@ use ba_place::Window;
 use ba_sql_query::ReadQueryFault;
 use std::alloc::{AllocError, Global};
 
-// The characters of a line from a number on, as many as are said, and where others stand before them what stands for these.
+// The characters of a line from a number on, as many as are said, and where others stand before
+// them what stands for these.
 fn part(
     alloc: Global,
     line: &str,
@@ -25,7 +26,8 @@ fn part(
     Ok(text)
 }
 
-// The part of a window round its mark that has at most so many characters, with `..` where its line goes on.
+// The part of a window round its mark that has at most so many characters, with `..` where its line
+// goes on.
 fn narrowed(alloc: Global, window: Window, most: usize) -> Result<Window, AllocError> {
     let total = window.line.as_str().chars().count();
     if total <= most {

@@ -12,7 +12,8 @@ pub enum Wanted {
     Line(u64),
 }
 
-/// The names of the files that are read again to explain a run, and in how many orders it searches.
+/// The names of the files whose bytes are kept to explain a run, and in how many orders it
+/// searches.
 #[derive(Drop)]
 pub struct Names {
     pub schema: Str,
