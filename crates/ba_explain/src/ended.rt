@@ -14,8 +14,8 @@ use std::thread::Threads;
 pub struct Ended {
     /// The run's status, or that for want of memory.
     pub status: u8,
-    /// What is told of it on standard error, each line with its end, where there was memory for that:
-    /// nothing of a run that ended well.
+    /// What is told of it on standard error, each line with its end, where there was memory for
+    /// that: nothing of a run that ended well.
     pub told: Option<String>,
 }
 

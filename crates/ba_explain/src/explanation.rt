@@ -27,10 +27,11 @@ pub struct Asked<'a> {
     pub telling: Telling,
 }
 
-/// Runs the top call, and writes why each question that is wanted was answered or not, with an empty
-/// line between two. A write that fails ends the telling, and doesn't change the status.
+/// Runs the top call, and writes why each question that is wanted was answered or not, with an
+/// empty line between two. A write that fails ends the telling, and doesn't change the status.
 ///
-/// What is told of how it ended is the fault line and the line on why, where the run has no journal.
+/// What is told of how it ended is the fault line and the line on why, where the run has no
+/// journal.
 ///
 /// # Errors
 /// A fault where the words are none of a run; then nothing is run.
@@ -88,7 +89,7 @@ fn status_of(told: &io::Result<()>, status: u8) -> u8 {
     }
 }
 
-// Says why a run has no journal: its fault line, and what is told of that.
+/// Says why a run has no journal: its fault line, and what is told of that.
 pub(crate) fn complaint_of<R: Files + AllocGlobal>(
     rt: &R,
     words: &[String],

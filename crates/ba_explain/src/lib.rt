@@ -1,6 +1,6 @@
 //! Runs the top call, and tells what became of it: why it ended so, and in words why each question
-//! was answered or not, from the evidence in the journal; or what the linter finds of a policy. Runs
-//! the decision service in the same way.
+//! was answered or not, from the evidence in the journal; or what the linter finds of a policy.
+//! Runs the decision service in the same way.
 #![tactic(auto)]
 
 mod ended;

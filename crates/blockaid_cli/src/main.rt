@@ -1,11 +1,20 @@
-//! `blockaid run --schema S --policy P --tables D --script F`: answers the questions of F over the tables of D that the
-//! policy P lets through, and blocks the others. `blockaid check --schema S --policy P --proof F`: says whether the proof F is accepted.
-//! `blockaid gen --seed N --requests R`: serves a generated workload, and prints the summary; with `--print` prints its script.
-//! `blockaid why run --schema S ..`: tells in words why each question of a run was answered or not.
-//! `blockaid lint --schema S --policy P`: tells where a policy may show too much or too little.
-//! `blockaid decide --schema S --policy P`: answers each line of standard input by the decision on it.
-//! Where its status isn't 0, one line on standard error says why. Where the environment has `BLOCKAID_PROGRESS=1`, lines of
-//! standard error tell how far the script is served.
+//! The program `blockaid`. Its first word says what it does:
+//!
+//! - `run --schema S --policy P --tables D --script F` answers the questions of F over the tables
+//!   of D that the policy P lets through, and blocks the others.
+//! - `store`, with the same options, serves F too, and prints the templates that its proofs leave,
+//!   with which another run may begin.
+//! - `audit --schema S --policy P --tables D --script F --output O` says whether each line of O,
+//!   the output of `run --proofs`, follows from the other four and the lines before it.
+//! - `check --schema S --policy P --proof F` says whether the proof F is accepted.
+//! - `gen --seed N --requests R` serves a generated workload, and prints the summary; with
+//!   `--print` it prints the workload's script.
+//! - `decide --schema S --policy P` answers each line of standard input by the decision on it.
+//! - `why run --schema S ..` tells in words why each question of a run was answered or not.
+//! - `lint --schema S --policy P` tells where a policy may show too much or too little.
+//!
+//! Where its status isn't 0, one line on standard error says why. Where the environment has
+//! `BLOCKAID_PROGRESS=1`, lines of standard error tell how far the script is served.
 #![tactic(auto)]
 
 ghost use Rattle.std.specs.Prelude.{◌≡◌};

@@ -6,7 +6,8 @@ use std::sync::atomic::{AtomicU64, Ordering};
 /// After how many lines of the script it is told.
 const STRIDE: u64 = 100;
 
-/// A gate that holds nobody. Where it is asked to, it tells on standard error how many lines of the script are served.
+/// A gate that holds nobody. Where it is asked to, it tells on standard error how many lines of the
+/// script are served.
 #[derive(Drop)]
 pub struct Progress<'a, R> {
     rt: &'a R,

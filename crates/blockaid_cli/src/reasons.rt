@@ -21,7 +21,8 @@ const LEAST_COLUMNS: usize = 40;
 
 const MOST_COLUMNS: usize = 200;
 
-// The words of a run, and what stands behind `--line`, if these are the first two words or the last two.
+// The words of a run, and what stands behind `--line`, if these are the first two words or the last
+// two.
 fn named_line(words: &[String]) -> (&[String], Option<&String>) {
     match words {
         [option, number, rest @ ..] if option.as_str() == "--line" => (rest, Some(number)),
@@ -41,7 +42,8 @@ fn wanted_of(word: Option<&String>) -> Option<Wanted> {
     }
 }
 
-// How many columns a line has: what the environment says, where that is a number that a terminal may have.
+// How many columns a line has: what the environment says, where that is a number that a terminal
+// may have.
 fn columns_of<R: Env + AllocGlobal>(rt: &R) -> usize {
     let Ok(text) = env::var(rt, "COLUMNS") else {
         return USUAL_COLUMNS;
@@ -52,8 +54,8 @@ fn columns_of<R: Env + AllocGlobal>(rt: &R) -> usize {
     }
 }
 
-/// Explains the run of these words, and gives the status. They are the words of a run, with `--line L`
-/// first or last where the reply at line L alone is wanted.
+/// Explains the run of these words, and gives the status. They are the words of a run, with
+/// `--line L` first or last where the reply at line L alone is wanted.
 pub fn explain_words<R>(rt: &R, words: &[String]) -> u8
 where
     R: Files + AllocGlobal + Env + Print + Eprint + Threads + Wait + Sync + Clone + Drop,
