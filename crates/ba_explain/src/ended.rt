@@ -1,5 +1,6 @@
 //! A run, and why it ended so.
-ghost use Rattle.std.specs.Prelude.{◌≡◌};
+ghost use Rattle.std.specs.Prelude.{◌≡◌, IfOk, OnErr, map, string_bytes};
+ghost use Rattle.ba_explain.specs.Words.{DidWords};
 
 use ba_notice::notice;
 use ba_outside::{FolderFiles, Gate, Sink};
@@ -33,10 +34,10 @@ impl Ended {
 }
 
 /// Runs the top call on the words, over the files of a folder: the names in the words stand behind
-/// the prefix.
+/// the prefix. What it promises of its words, its sink and its status is so.
 ///
 /// # Errors
-/// `AllocError` where there was no memory to begin.
+/// `AllocError` where there was no memory to begin; then nothing is written.
 pub fn run_words<R, S, G>(
     rt: &R,
     words: &[String],
@@ -48,6 +49,9 @@ where
     R: Files + AllocGlobal + Threads + Wait + Sync + Clone + Drop,
     S: Sink,
     G: Gate + Sync,
+    ensures did { IfOk result (λ ended. DidWords (map string_bytes words.now)
+        (S.seen sink.old) (S.seen sink.new) ended.status) }
+    ensures early { OnErr result (S.seen sink.new ≡ S.seen sink.old) }
 {
     let alloc = rt.alloc();
     let Ok(system) = rt.clone() else {
