@@ -196,9 +196,7 @@ impl Told {
 
     /// Where the link stands, or is to stand.
     fn link_place(&self, it: ToldLink) -> usize {
-        self.links
-            .as_slice()
-            .partition_point(|there| *there < it)
+        self.links.as_slice().partition_point(|there| *there < it)
     }
 
     /// Where the mapping is to stand.
