@@ -9,6 +9,7 @@ use Rattle.ba_event.specs.declared.event.Event.{Event}
 use Rattle.ba_event.specs.declared.event.Event.TheVariants as event
 use Rattle.ba_judge.specs.Judging.{IsStrong}
 use Rattle.ba_judge.specs.Reading.{AreAllowed}
+use Rattle.ba_judge.specs.declared.shelves.Shelves.{Shelves}
 use Rattle.ba_judge.specs.declared.reading.Read.TheVariants as read
 use Rattle.ba_judge.specs.declared.verdict.Allowed.{Allowed}
 use Rattle.ba_judge.specs.declared.verdict.Reason.{Reason}
@@ -190,12 +191,12 @@ safe policy journal name asker query is strong =
           allowed_has_one_answer (record { policy = policy; context = asker.context; trace = asker.trace; query = query }) is.told d e xs ys is.records strong alike ax ay;
     }
 
-all_safe : (policy : Policy) (journal : List Entry) (name : List ℕ) (asker : Open) (effort : Effort) (queries : List Query) (by : List Allowed) → IsAsker policy journal name asker.context asker.trace
-    → AreAllowed (reader_in policy asker) effort queries by → All (IsSafe policy journal name) queries
-all_safe policy journal name asker effort [] [] is h = All-nil (IsSafe policy journal name)
-all_safe policy journal name asker effort [] (b ∷ by) is h = absurd h
-all_safe policy journal name asker effort (q ∷ queries) [] is h = absurd h
-all_safe policy journal name asker effort (q ∷ queries) (b ∷ by) is h = All-cons (IsSafe policy journal name) q queries (safe policy journal name asker q is h.0.1) (all_safe policy journal name asker effort queries by is h.1)
+all_safe : (policy : Policy) (journal : List Entry) (name : List ℕ) (asker : Open) (effort : Effort) (old : Shelves) (queries : List Query) (by : List Allowed) → IsAsker policy journal name asker.context asker.trace
+    → AreAllowed (reader_in policy asker) effort old queries by → All (IsSafe policy journal name) queries
+all_safe policy journal name asker effort old [] [] is h = All-nil (IsSafe policy journal name)
+all_safe policy journal name asker effort old [] (b ∷ by) is h = absurd h
+all_safe policy journal name asker effort old (q ∷ queries) [] is h = absurd h
+all_safe policy journal name asker effort old (q ∷ queries) (b ∷ by) is h = All-cons (IsSafe policy journal name) q queries (safe policy journal name asker q is h.0.judges.1) (all_safe policy journal name asker effort old queries by is h.1)
 
 module _ (effort : Effort) (journal : List Entry) (e : Entry) (old new : Live) (tracks : Tracks old.policy journal old) (serves : Serves effort (length journal + 1) e old new) where
   allowed_here : (name text : List ℕ) (by : Allowed) → Says e (event.Ask name text) (decided.Allowed by) → OfText old.policy text (IsSafe old.policy journal name)
@@ -214,7 +215,7 @@ module _ (effort : Effort) (journal : List Entry) (e : Entry) (old new : Live) (
       let h : Reads effort name key members (read.Allowed queries by) old new = meant effort (length journal + 1) e old new (event.Read name key members) (decided.Read (read.Allowed queries by)) serves says (λ bytes z. z) in
       let judged = h.judged in (
         record { found = h.found; named = h.is_key.named; arguments = h.arguments; given = h.is_key.given; queries_are = judged.0 },
-        subst (All (IsSafe old.policy journal name)) (sym judged.0) (all_safe old.policy journal name h.asker effort _ by (tracks.each name h.asker h.is_open).asker_is judged.1),
+        subst (All (IsSafe old.policy journal name)) (sym judged.0) (all_safe old.policy journal name h.asker effort old.shelves _ by (tracks.each name h.asker h.is_open).asker_is judged.1),
       )
 
   read_blocked_here : (name key : List ℕ) (members : List Member) (queries : List Query) (by : List Allowed) (reason : Reason) → Says e (event.Read name key members) (decided.Read (read.Blocked queries by reason))
@@ -230,8 +231,8 @@ module _ (effort : Effort) (journal : List Entry) (e : Entry) (old new : Live) (
           query = behind.query;
           back = behind.back;
           are = judged.0 ∙ behind.are;
-          safe = all_safe old.policy journal name h.asker effort behind.front by asker_is behind.allowed;
-          denied = record { context = h.asker.context; trace = h.asker.trace; asker = asker_is; blocked = behind.blocked };
+          safe = all_safe old.policy journal name h.asker effort old.shelves behind.front by asker_is behind.allowed;
+          denied = record { context = h.asker.context; trace = h.asker.trace; asker = asker_is; blocked = behind.blocked.judges };
         },
       )
 
