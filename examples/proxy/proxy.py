@@ -8,15 +8,19 @@ of standard input is a query, or `as NUMBER`, which begins a request of that use
 would see goes to standard output.
 """
 import json
+import re
 import subprocess
 import sys
 
 SCHEMA, POLICY = "examples/clinic/schema.sql", "examples/clinic/policy.sql"
 MOST_BYTES, MOST_ROWS = 1_000_000, 100_000
+# What stands between quotes, and a parameter outside of them.
+PARAMETER = re.compile(r"""'[^']*'|"[^"]*"|`[^`]*`|\?(\w+)""")
 
 
 class Blocked(Exception):
-    """The query isn't allowed, or its rows aren't those of the question that was judged: what is said."""
+    """What the user sees in place of rows: the query isn't allowed, its rows aren't those of the question that was judged, or the
+    database refuses it."""
 
 
 class Proxy:
@@ -25,7 +29,7 @@ class Proxy:
     def __init__(self, program, database):
         words = [program, "decide", "--schema", SCHEMA, "--policy", POLICY]
         self.process = subprocess.Popen(words, stdin=subprocess.PIPE, stdout=subprocess.PIPE)
-        self.database, self.name = database, None
+        self.database, self.name, self.context = database, None, {}
 
     def say(self, line):
         """The decision on a line."""
@@ -42,20 +46,35 @@ class Proxy:
         begun = self.say({"begin": name, "context": context})
         if "begin" not in begun:
             raise ValueError(begun)
-        self.name = name
+        self.name, self.context = name, context
 
     def query(self, text):
         decision = self.say({"ask": self.name, "query": text})
         if "allowed" not in decision:
             raise Blocked(decision)
-        cursor = self.database.cursor()
-        cursor.execute(text)
-        # (how often a row comes isn't judged, so each is shown once)
-        rows = list(dict.fromkeys(cursor.fetchall()))
+        rows = self.rows(with_values(text, self.context))
         told = self.say({"told": decision["line"], "rows": as_many_as_fit(rows)})
         if "fault" in told:
             raise Blocked(told)
         return rows
+
+    def rows(self, text):
+        """The rows of a query, each once, since how often one comes isn't judged."""
+        try:
+            cursor = self.database.cursor()
+            cursor.execute(text)
+            return list(dict.fromkeys(cursor.fetchall()))
+        except self.database.Error as error:
+            raise Blocked(f"the database: {error}")
+
+
+def with_values(text, context):
+    """The query with the context's values in place of its parameters."""
+    return PARAMETER.sub(lambda it: literal_of(context[it[1]]) if it[1] else it[0], text)
+
+
+def literal_of(value):
+    return str(value) if isinstance(value, int) else "'" + value.replace("'", "''") + "'"
 
 
 def text_of(value):
