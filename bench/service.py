@@ -87,7 +87,8 @@ class Pipe:
 
 
 def service(program, folder, schema="schema.sql", policy="policy.sql"):
-    return Pipe([program, "decide", "--schema", f"{folder}/{schema}", "--policy", f"{folder}/{policy}"])
+    files = ["--schema", f"{folder}/{schema}", "--policy", f"{folder}/{policy}"]
+    return Pipe([program, "decide", *files, "--database", "sqlite"])
 
 
 def begun(program):
@@ -158,10 +159,10 @@ def conversation(program, folder, names, lines, opened):
         if "request" in answer:
             asks += 1
         if "allowed" in answer:
-            query = json.loads(line)["query"]
-            if query not in known:
-                known[query] = [list(it) for it in opened.execute(query).fetchall()]
-            sent.append(line_of(told=answer["line"], rows=known[query]))
+            text = answer["send"]
+            if text not in known:
+                known[text] = [list(it) for it in opened.execute(text).fetchall()]
+            sent.append(line_of(told=answer["line"], rows=known[text]))
             expect("told" in json.loads(pipe.trip(sent[-1])), True, "that rows are told")
     pipe.end()
     return b"".join(sent), asks

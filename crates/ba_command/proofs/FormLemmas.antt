@@ -183,7 +183,7 @@ pub decide_free : is_simple_and_free decide_app ≡ true
 decide_free = refl
 
 decide_values : AreValues decide_from
-decide_values f g same = rw (same (codes "schema"), same (codes "policy"), same (codes "load"), same (codes "budget"), same (codes "evidence")) refl
+decide_values f g same = rw (same (codes "schema"), same (codes "policy"), same (codes "load"), same (codes "budget"), same (codes "evidence"), same (codes "database"), same (codes "namespace")) refl
 
 pub decide_ok : (app : App) (words : List Text) (m : ArgMatches) → app ≡ decide_app → HasMatchesOf app words m → fault_of app words ≡ []
     → decide_from (first_value (found_of m)) ≡ decide_of words

@@ -3,16 +3,18 @@ ghost use Rattle.std.specs.Prelude.{◌≡◌, ◌≤◌, map, string_bytes, IfO
 ghost use Rattle.clap.specs.Words.{app_of, first_value, found_of};
 ghost use Rattle.ba_model.specs.Readings.{Gives};
 ghost use Rattle.ba_model.specs.Limits.{most_budget};
-ghost use Rattle.ba_command.specs.Deciding.{decide_app, decide_from, decide_of};
+ghost use Rattle.ba_command.specs.Deciding.{database_of, decide_app, decide_from, decide_of, target_from};
 
 use crate::command::WordsFault;
 use crate::form::{bare, flag, is_set, needed, option, refusal, text_of};
 use crate::number::{number, number_or};
 use ba_model::{BUDGET, Failure, MAX_BUDGET, MIN_BUDGET, Str};
+use ba_target::{Database, Target};
 use clap::{ArgMatches, Command as Form};
 use std::alloc::{AllocError, Global};
 
-/// What the words of `decide --schema S --policy P [--load T] [--budget B] [--evidence]` ask for.
+/// What the words of `decide --schema S --policy P [--load T] [--budget B] [--evidence]
+/// [--database postgresql|sqlite|mysql] [--namespace N]` ask for.
 #[derive(Debug, Drop)]
 pub struct Deciding {
     /// The name of the schema's file.
@@ -25,6 +27,9 @@ pub struct Deciding {
     pub budget: u32,
     /// Whether the lines of decisions tell their evidence.
     pub evidence: bool,
+    /// The database that allowed questions are sent to, PostgreSQL where the words don't say, and
+    /// the namespace of its tables, if they name one.
+    pub target: Target,
 }
 
 fn decide_form<'a>(alloc: Global) -> Result<Form<'a>, AllocError>
@@ -35,7 +40,39 @@ fn decide_form<'a>(alloc: Global) -> Result<Form<'a>, AllocError>
         .arg(needed(alloc, "policy"))?
         .arg(option(alloc, "load"))?
         .arg(number(alloc, "budget", MIN_BUDGET, MAX_BUDGET))?
-        .arg(flag(alloc, "evidence"))
+        .arg(flag(alloc, "evidence"))?
+        .arg(option(alloc, "database"))?
+        .arg(option(alloc, "namespace"))
+}
+
+// The database of this name; PostgreSQL where there is none.
+fn database_of(name: &Option<Str>) -> Option<Database>
+    ensures { result ≡ database_of name.now }
+{
+    let Some(name) = name else {
+        return Some(Database::PostgreSql);
+    };
+    match name.as_str() {
+        "postgresql" => Some(Database::PostgreSql),
+        "sqlite" => Some(Database::Sqlite),
+        "mysql" => Some(Database::MySql),
+        _ => None,
+    }
+}
+
+// The database that the words name, with the namespace.
+fn target_of(alloc: Global, matches: &ArgMatches<'_>) -> Result<Target, Failure<WordsFault>>
+    ensures { Gives result (target_from (first_value (found_of matches.now))) }
+{
+    let name = text_of(alloc, matches, "database")?;
+    let namespace = text_of(alloc, matches, "namespace")?;
+    match database_of(&name) {
+        Some(database) => Ok(Target {
+            database,
+            namespace,
+        }),
+        None => Err(Failure::Fault(WordsFault::NoForm)),
+    }
 }
 
 fn deciding_of(alloc: Global, matches: &ArgMatches<'_>) -> Result<Deciding, Failure<WordsFault>>
@@ -47,6 +84,7 @@ fn deciding_of(alloc: Global, matches: &ArgMatches<'_>) -> Result<Deciding, Fail
     let load = text_of(alloc, matches, "load")?;
     let budget = number_or(matches, "budget", MIN_BUDGET, MAX_BUDGET, BUDGET as u64) as u32;
     let evidence = is_set(matches, "evidence");
+    let target = target_of(alloc, matches)?;
     match (schema, policy) {
         (Some(schema), Some(policy)) => Ok(Deciding {
             schema,
@@ -54,13 +92,15 @@ fn deciding_of(alloc: Global, matches: &ArgMatches<'_>) -> Result<Deciding, Fail
             load,
             budget,
             evidence,
+            target,
         }),
         _ => Err(Failure::Fault(WordsFault::NoForm)),
     }
 }
 
 /// What the words behind `decide` ask for. The options stand in any order, each once and with one
-/// value, as `--option VALUE` or `--option=VALUE`; `--evidence` has none. All else is `NoForm`.
+/// value, as `--option VALUE` or `--option=VALUE`; `--evidence` has none, and the value of
+/// `--database` is `postgresql`, `sqlite` or `mysql`. All else is `NoForm`.
 pub fn read_decide(alloc: Global, words: &[String]) -> Result<Deciding, Failure<WordsFault>>
     ensures reads { Gives result (decide_of (map string_bytes words.now)) }
     ensures budget { IfOk result (λ it. it.budget ≤ most_budget) }

@@ -103,10 +103,10 @@ module _ (policy : Policy) (journal : List Entry) (e : Entry) (old new : Live) (
           }
 
   -- a question is allowed, and may be told
-  pub tracks_allows : (line : ℕ) (name text : List ℕ) (by : Allowed) (asker : Open) (query : Query) → Says e (event.Ask name text) (decided.Allowed by) → line ≡ length journal + 1
+  pub tracks_allows : (line : ℕ) (name text : List ℕ) (by : Allowed) (send : List ℕ) (asker : Open) (query : Query) → Says e (event.Ask name text) (decided.Allowed by send) → line ≡ length journal + 1
       → open_at old name ≡ Some asker → query_of policy.schema policy.params text ≡ Ok query → Opens name (Some (with_line line asker)) old.requests new.requests
       → Expects line (Some (record { name = name; query = query })) old.questions new.questions → ((name : List ℕ) → TurnsHere e name → ⊥) → Tracks policy (journal ++ e ∷ []) new
-  tracks_allows line name text by asker query says number is reads opens expects calm =
+  tracks_allows line name text by send asker query says number is reads opens expects calm =
       record {
         each = λ other it now.
             elim (opened_at name (Some (with_line line asker)) old.requests new.requests other it opens now) [
@@ -146,7 +146,8 @@ module _ (policy : Policy) (journal : List Entry) (e : Entry) (old new : Live) (
             after = began_within policy journal e name asker.context before.asker_is.began before.asker_is.request;
             text = text;
             by = by;
-            asks = at_here policy journal e (event.Ask name text) (decided.Allowed by) says;
+            send = send;
+            asks = at_here policy journal e (event.Ask name text) (decided.Allowed by send) says;
             reads = reads;
           }
 

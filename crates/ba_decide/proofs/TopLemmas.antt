@@ -11,8 +11,8 @@ use Rattle.ba_decide.specs.Decided.{ServesInput}
 use Rattle.ba_decide.specs.Ran.{Served}
 use Rattle.ba_decide.specs.declared.top.Ending.{Ending}
 
-pub serves_fresh : (input : PolicyInput) (how : Ending) (source left : SourceSeen) (old new : SinkSeen) (start : Live) → IsFresh input.policy input.loaded input.budget start
+pub serves_fresh : (input : PolicyInput) (how : Ending) (source left : SourceSeen) (old new : SinkSeen) (start : Live) → IsFresh input.policy input.target input.loaded input.budget start
     → Served input.evidence (effort_in 1 start.budget) start how source left old new → ServesInput input how source left old new
 serves_fresh input how source left old new start fresh served =
     let s = subst (λ (b : ℕ). Served input.evidence (effort_in 1 b) start how source left old new) fresh.budget_is served in
-    inl (record { start = start; fresh = fresh; served = s; headline = runs_headline input.policy input.loaded input.budget input.evidence (effort_in 1 input.budget) start s.journal s.texts s.last fresh s.runs })
+    inl (record { start = start; fresh = fresh; served = s; headline = runs_headline input.policy input.target input.loaded input.budget input.evidence (effort_in 1 input.budget) start s.journal s.texts s.last fresh s.runs })

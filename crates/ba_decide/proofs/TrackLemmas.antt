@@ -181,7 +181,7 @@ module _ (policy : Policy) (journal : List Entry) (e : Entry) where
 
   pub allowed_more : (name : List ℕ) (began line : ℕ) (query : Query) → WasAllowed policy journal name began line query → WasAllowed policy (journal ++ e ∷ []) name began line query
   allowed_more name began line query a =
-      record { place = a.place; line_is = a.line_is; after = a.after; text = a.text; by = a.by; asks = at_more a.place _ _ a.asks; reads = a.reads }
+      record { place = a.place; line_is = a.line_is; after = a.after; text = a.text; by = a.by; send = a.send; asks = at_more a.place _ _ a.asks; reads = a.reads }
 
   pub told_more : (name : List ℕ) (began : ℕ) (it : ToldRows) → WasTold policy journal name began it → WasTold policy (journal ++ e ∷ []) name began it
   told_more name began it t =

@@ -52,9 +52,9 @@ EndsStop stop how old new = EndsTold (fault_of stop) how old new
 pub record Serves (input : PolicyInput) (how : Ending) (source left : SourceSeen)
     (old new : SinkSeen) : Type 0 where
   pub start : Live
-  pub fresh : IsFresh input.policy input.loaded input.budget start
+  pub fresh : IsFresh input.policy input.target input.loaded input.budget start
   pub served : Served input.evidence (effort_in 1 input.budget) start how source left old new
-  pub headline : Headline input.policy (effort_in 1 input.budget) served.journal
+  pub headline : Headline input.policy input.target (effort_in 1 input.budget) served.journal
 
 -- there was no memory to begin
 pub record Lacks (how : Ending) (source left : SourceSeen) (old new : SinkSeen) : Type 0 where

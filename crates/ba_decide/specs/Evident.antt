@@ -11,7 +11,7 @@ use Rattle.ba_judge.specs.declared.verdict.Allowed.TheVariants.{Whole, Parts}
 use Rattle.ba_judge.specs.declared.verdict.By.{By}
 use Rattle.ba_judge.specs.declared.verdict.By.TheVariants.{Cover, Template, Proof}
 use Rattle.ba_judge.specs.declared.verdict.Reason.{Reason}
-use Rattle.ba_judge.specs.declared.verdict.Reason.TheVariants.{Refuted, Spent, Stuck}
+use Rattle.ba_judge.specs.declared.verdict.Reason.TheVariants.{Refuted, Spent, Stuck, Contradiction}
 use Rattle.ba_kernel.specs.Replays.{Closes}
 use Rattle.ba_kernel.specs.SearchStates as kernel
 use Rattle.ba_kernel.specs.declared.step.Step.{Step}
@@ -82,19 +82,19 @@ IsBasis asked (Parts bys) (parts its) = AreEvidence asked asked.query.parts bys 
 
 -- the line tells on what the allowed question rests
 pub record TellsBasis (params : List Parameter) (asked : Question) (number : ℕ) (name : List ℕ)
-    (it : Allowed) (text : List ℕ) : Type 0 where
+    (it : Allowed) (send text : List ℕ) : Type 0 where
   pub on : Basis
   pub is : IsBasis asked it on
-  pub text_is : text ≡ json_line (allowed_json params (needed it) on number name)
+  pub text_is : text ≡ json_line (allowed_json params (needed it) on number name send)
 
-pub record TellsAllowed (live : Live) (number : ℕ) (name : List ℕ) (it : Allowed) (text : List ℕ)
-    : Type 0 where
+pub record TellsAllowed (live : Live) (number : ℕ) (name : List ℕ) (it : Allowed)
+    (send text : List ℕ) : Type 0 where
   pub asker : Open
   pub is_open : open_at live name ≡ Some asker
   pub question : Asked
   pub was_asked : asked_at live number ≡ Some question
   pub tells : TellsBasis live.policy.params (question_in live.policy asker question.query) number
-      name it text
+      name it send text
 
 -- the pair that refutes the question; else the line is the plain one
 abbrev pub TellsBlocked : Live → ℕ → List ℕ → Reason → List ℕ → Type 0
@@ -104,9 +104,12 @@ TellsBlocked live number name (Spent steps) text =
     text ≡ named_bytes number name (decided.Blocked (Spent steps))
 TellsBlocked live number name (Stuck leaf clause) text =
     text ≡ named_bytes number name (decided.Blocked (Stuck leaf clause))
+TellsBlocked live number name (Contradiction steps) text =
+    text ≡ named_bytes number name (decided.Blocked (Contradiction steps))
 
 abbrev pub TellsNamed : Live → ℕ → List ℕ → Decision → List ℕ → Type 0
-TellsNamed live number name (decided.Allowed it) text = TellsAllowed live number name it text
+TellsNamed live number name (decided.Allowed it send) text =
+    TellsAllowed live number name it send text
 TellsNamed live number name (decided.Blocked it) text = TellsBlocked live number name it text
 TellsNamed live number name it text = text ≡ named_bytes number name it
 
@@ -159,6 +162,9 @@ TellsKeyBlocked live number name key queries before (Spent steps) text =
 TellsKeyBlocked live number name key queries before (Stuck leaf clause) text =
     text ≡ keyed_bytes number name key
     (decided.Read (reads.Blocked queries before (Stuck leaf clause)))
+TellsKeyBlocked live number name key queries before (Contradiction steps) text =
+    text ≡ keyed_bytes number name key
+    (decided.Read (reads.Blocked queries before (Contradiction steps)))
 
 abbrev pub TellsRead : Live → ℕ → List ℕ → List ℕ → Read → List ℕ → Type 0
 TellsRead live number name key (reads.Allowed queries by) text =

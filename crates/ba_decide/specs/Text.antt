@@ -1,5 +1,6 @@
 -- The line of a decision.
-use Rattle.std.specs.Prelude.{ℕ, List, [], ◌∷◌, codes, length, map}
+use Rattle.std.specs.Prelude.{ℕ, List, [], ◌∷◌, codes, length, map, Option, Some, None}
+use Rattle.std.specs.Option.{option_map_or}
 use Rattle.ba_judge.specs.declared.reading.Read.{Read}
 use Rattle.ba_judge.specs.declared.reading.Read.TheVariants as reads
 use Rattle.ba_judge.specs.declared.verdict.Allowed.{Allowed}
@@ -7,7 +8,7 @@ use Rattle.ba_judge.specs.declared.verdict.Allowed.TheVariants.{Whole, Parts}
 use Rattle.ba_judge.specs.declared.verdict.By.{By as Ground}
 use Rattle.ba_judge.specs.declared.verdict.By.TheVariants as ground
 use Rattle.ba_judge.specs.declared.verdict.Reason.{Reason}
-use Rattle.ba_judge.specs.declared.verdict.Reason.TheVariants.{Refuted, Spent, Stuck}
+use Rattle.ba_judge.specs.declared.verdict.Reason.TheVariants.{Refuted, Spent, Stuck, Contradiction}
 use Rattle.ba_live.specs.declared.decision.Decision.{Decision}
 use Rattle.ba_live.specs.declared.decision.Decision.TheVariants as decided
 use Rattle.ba_live.specs.declared.decision.Refusal.{Refusal}
@@ -27,13 +28,14 @@ reason_name refusal.Json = codes "json"
 reason_name refusal.Shape = codes "shape"
 reason_name refusal.Begun = codes "begun"
 reason_name refusal.Unbegun = codes "unbegun"
+reason_name refusal.Closed = codes "closed"
 reason_name refusal.Context = codes "context"
 reason_name refusal.Requests = codes "requests"
 reason_name refusal.Key = codes "key"
 reason_name refusal.Args = codes "args"
-reason_name refusal.Comment = codes "comment"
-reason_name refusal.ValueWord = codes "value_word"
 reason_name refusal.Asks = codes "asks"
+reason_name refusal.ZeroByte = codes "zero_byte"
+reason_name refusal.LongSend = codes "long_send"
 reason_name refusal.Unasked = codes "unasked"
 reason_name refusal.Rows = codes "rows"
 reason_name refusal.Misfit = codes "misfit"
@@ -60,10 +62,12 @@ abbrev pub needed : Allowed → By
 needed (Whole it) = by_of it
 needed (Parts its) = last_in its
 
-abbrev pub block_of : Reason → Block
-block_of (Refuted pair) = block.Refuted
-block_of (Spent steps) = block.Spent (length steps)
-block_of (Stuck leaf clause) = block.Stuck clause
+-- what blocks the question; nothing where what was told contradicts itself, which is a fault
+abbrev pub block_of : Reason → Option Block
+block_of (Refuted pair) = Some block.Refuted
+block_of (Spent steps) = Some (block.Spent (length steps))
+block_of (Stuck leaf clause) = Some (block.Stuck clause)
+block_of (Contradiction steps) = None
 
 abbrev pub memory_bytes : ℕ → List ℕ
 memory_bytes line = line_bytes (memory line)
@@ -71,32 +75,49 @@ memory_bytes line = line_bytes (memory line)
 abbrev pub faulty_bytes : ℕ → Refusal → List ℕ
 faulty_bytes line why = said_bytes (faulty (reason_name why) line)
 
+-- what was told contradicts itself
+abbrev pub contradiction_bytes : ℕ → List ℕ
+contradiction_bytes line = said_bytes (faulty (codes "contradiction") line)
+
+-- the line of what blocks, or of the fault
+abbrev pub blocked_bytes : ℕ → (Block → Said) → Reason → List ℕ
+blocked_bytes line say it =
+    option_map_or (λ why. said_bytes (say why)) (block_of it) (contradiction_bytes line)
+
 -- of a decision on a request's event
 abbrev pub named_bytes : ℕ → List ℕ → Decision → List ℕ
 named_bytes line name decided.Begun = said_bytes (begun name line)
-named_bytes line name (decided.Allowed it) = said_bytes (allowed (needed it) line name)
-named_bytes line name (decided.Blocked it) = said_bytes (blocked (block_of it) line name)
+named_bytes line name (decided.Allowed it send) = said_bytes (allowed (needed it) line name send)
+named_bytes line name (decided.Blocked it) = blocked_bytes line (λ why. blocked why line name) it
 named_bytes line name (decided.Unread fault) = said_bytes (unread line name fault)
 named_bytes line name (decided.Read it) = memory_bytes line
 named_bytes line name decided.Told = memory_bytes line
+named_bytes line name decided.Contradiction = contradiction_bytes line
 named_bytes line name decided.Ended = line_bytes (end name line)
 named_bytes line name decided.Memory = memory_bytes line
 named_bytes line name (decided.Refused why) = faulty_bytes line why
 
+-- of a read of a key of which the query of this number is blocked
+abbrev pub read_blocked_bytes : ℕ → List ℕ → List ℕ → ℕ → Reason → List ℕ
+read_blocked_bytes line name key query it =
+    blocked_bytes line (λ why. blocked_read why key line query name) it
+
 -- of a read of a key
-abbrev pub read_said : ℕ → List ℕ → List ℕ → Read → Said
-read_said line name key (reads.Allowed queries by) = allowed_read (map needed by) key line name
-read_said line name key (reads.Blocked queries before why) =
-    blocked_read (block_of why) key line (length before) name
+abbrev pub read_bytes : ℕ → List ℕ → List ℕ → Read → List ℕ
+read_bytes line name key (reads.Allowed queries by) =
+    said_bytes (allowed_read (map needed by) key line name)
+read_bytes line name key (reads.Blocked queries before why) =
+    read_blocked_bytes line name key (length before) why
 
 -- of a decision on what names no request
 abbrev pub other_bytes : ℕ → Decision → List ℕ
 other_bytes line (decided.Refused why) = faulty_bytes line why
+other_bytes line decided.Contradiction = contradiction_bytes line
 other_bytes line _ = memory_bytes line
 
 -- of a decision on a read of a key
 abbrev pub keyed_bytes : ℕ → List ℕ → List ℕ → Decision → List ℕ
-keyed_bytes line name key (decided.Read it) = said_bytes (read_said line name key it)
+keyed_bytes line name key (decided.Read it) = read_bytes line name key it
 keyed_bytes line name key it = other_bytes line it
 
 abbrev pub told_bytes : ℕ → ℕ → Decision → List ℕ

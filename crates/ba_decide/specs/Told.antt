@@ -10,11 +10,12 @@ use Rattle.ba_judge.specs.declared.reading.Read.TheVariants as read
 use Rattle.ba_judge.specs.declared.verdict.Allowed.{Allowed}
 use Rattle.ba_judge.specs.declared.verdict.Reason.{Reason}
 use Rattle.ba_keys.specs.Literals.{key_queries}
-use Rattle.ba_live.specs.Laws.{LookAlike, RecordsTold, ToldRows}
+use Rattle.ba_live.specs.Laws.{GivesTold, LookAlike, RecordsTold, ToldRows}
 use Rattle.ba_live.specs.Steps.{key_named}
 use Rattle.ba_live.specs.declared.decision.Decision.{Decision}
 use Rattle.ba_live.specs.declared.decision.Decision.TheVariants as decided
-use Rattle.ba_model.specs.Meaning.{IsAnswer}
+use Rattle.ba_model.specs.Conform.{Conforms}
+use Rattle.ba_model.specs.Meaning.{InAnswer, IsAnswer}
 use Rattle.ba_model.specs.declared.policy.CacheKey.{CacheKey}
 use Rattle.ba_model.specs.declared.policy.Context.{Context}
 use Rattle.ba_model.specs.declared.policy.Policy.{Policy}
@@ -23,8 +24,11 @@ use Rattle.ba_model.specs.declared.value.RowSet.{RowSet}
 use Rattle.ba_model.specs.declared.value.Value.{Value}
 use Rattle.ba_script.specs.Contexts.{context_of}
 use Rattle.ba_script.specs.declared.line.Member.{Member}
+use Rattle.ba_send.specs.ReadBack.{ReadsSent}
+use Rattle.ba_send.specs.Sent.{closed}
 use Rattle.ba_settle.specs.Settling.{Effort}
 use Rattle.ba_sql_query.specs.Texts.{query_of}
+use Rattle.ba_target.specs.declared.target.Target.{Target}
 
 -- the entry at this place, from 0, says the event, and has the decision
 pub record At (journal : List Entry) (place : ℕ) (it : Event) (decision : Decision) : Type 0 where
@@ -57,7 +61,8 @@ pub record WasAllowed (policy : Policy) (journal : List Entry) (name : List ℕ)
   pub after : began < place
   pub text : List ℕ
   pub by : Allowed
-  pub asks : At journal place (event.Ask name text) (decided.Allowed by)
+  pub send : List ℕ
+  pub asks : At journal place (event.Ask name text) (decided.Allowed by send)
   pub reads : query_of policy.schema policy.params text ≡ Ok query
 
 -- the rows of such a line were recorded, or, where there was no memory for all of them, a front
@@ -101,6 +106,33 @@ pub record IsSafe (policy : Policy) (journal : List Entry) (name : List ℕ) (qu
       LookAlike policy context asker.told d e →
       IsAnswer query context d xs → IsAnswer query context e ys → xs ≡ ys
 
+-- It is safe, and the database reads what is sent as the query, with the values of the request's
+-- context in place of its parameters.
+pub record IsSent (target : Target) (policy : Policy) (journal : List Entry) (name : List ℕ)
+    (query : Query) (send : List ℕ) : Type 0 where
+  pub safe : IsSafe policy journal name query
+  pub reads : ReadsSent target policy.schema send (closed safe.context query)
+
+-- No database that meets the schema gives all rows that the request, which is open under the name
+-- after these lines, was told.
+pub record IsContradicted (policy : Policy) (journal : List Entry) (name : List ℕ) : Type 0 where
+  pub context : Context
+  pub trace : List TraceEntry
+  pub asker : IsAsker policy journal name context trace
+  pub none : (d : RowSet) → Conforms policy.schema d → GivesTold context asker.told d → ⊥
+
+-- No such database gives these and the rows of the allowed question of the line.
+pub record ContradictsTold (policy : Policy) (journal : List Entry) (line : ℕ)
+    (rows : List (List Value)) : Type 0 where
+  pub name : List ℕ
+  pub query : Query
+  pub context : Context
+  pub trace : List TraceEntry
+  pub asker : IsAsker policy journal name context trace
+  pub allowed : WasAllowed policy journal name asker.began line query
+  pub none : (d : RowSet) → Conforms policy.schema d → GivesTold context asker.told d →
+      All (InAnswer query context d) rows → ⊥
+
 -- it isn't covered, and is blocked for this reason
 pub record IsDenied (policy : Policy) (effort : Effort) (journal : List Entry) (name : List ℕ)
     (query : Query) (reason : Reason) : Type 0 where
@@ -134,12 +166,14 @@ pub record IsReadDenied (policy : Policy) (effort : Effort) (journal : List Entr
   pub safe : All (IsSafe policy journal name) front
   pub denied : IsDenied policy effort journal name query reason
 
--- Each allowed question is safe after the lines before it, and so is each query of a key that may
--- be read; each block has its reason, and of a key's queries the first that is blocked has it.
-pub record Headline (policy : Policy) (effort : Effort) (journal : List Entry) : Type 0 where
-  pub allowed : (place : ℕ) (name text : List ℕ) (by : Allowed) →
-      At journal place (event.Ask name text) (decided.Allowed by) →
-      OfText policy text (IsSafe policy (take place journal) name)
+-- Each allowed question is safe after the lines before it, and is what the database reads in the text
+-- that is sent; so is each query of a key that may be read safe; each block has its reason, and of a
+-- key's queries the first that is blocked has it; and a contradiction is one.
+pub record Headline (policy : Policy) (target : Target) (effort : Effort) (journal : List Entry)
+    : Type 0 where
+  pub allowed : (place : ℕ) (name text : List ℕ) (by : Allowed) (send : List ℕ) →
+      At journal place (event.Ask name text) (decided.Allowed by send) →
+      OfText policy text (λ query. IsSent target policy (take place journal) name query send)
   pub blocked : (place : ℕ) (name text : List ℕ) (reason : Reason) →
       At journal place (event.Ask name text) (decided.Blocked reason) →
       OfText policy text (λ query. IsDenied policy effort (take place journal) name query reason)
@@ -153,3 +187,12 @@ pub record Headline (policy : Policy) (effort : Effort) (journal : List Entry) :
       (by : List Allowed) →
       At journal place (event.Read name key members) (decided.Read (read.Allowed queries by)) →
       AreOfKey policy key members queries × All (IsSafe policy (take place journal) name) queries
+  pub contradicted : (place : ℕ) (name text : List ℕ) →
+      At journal place (event.Ask name text) decided.Contradiction →
+      IsContradicted policy (take place journal) name
+  pub read_contradicted : (place : ℕ) (name key : List ℕ) (members : List Member) →
+      At journal place (event.Read name key members) decided.Contradiction →
+      IsContradicted policy (take place journal) name
+  pub told_contradicted : (place line : ℕ) (rows : List (List Value)) →
+      At journal place (event.Told line rows) decided.Contradiction →
+      ContradictsTold policy (take place journal) line rows

@@ -1,7 +1,6 @@
 //! The line of a decision.
 ghost use Rattle.std.specs.Prelude.{◌≡◌, IfOk, map, string_bytes};
-ghost use Rattle.ba_decide.specs.Text.{block_of, by_of, decision_bytes, faulty_bytes, keyed_bytes, last_in, last_of, memory_bytes, named_bytes, needed as needed_for, other_bytes, read_said, reason_name, told_bytes};
-ghost use Rattle.ba_wire.specs.Said.{said_bytes};
+ghost use Rattle.ba_decide.specs.Text.{block_of, by_of, contradiction_bytes, decision_bytes, faulty_bytes, keyed_bytes, last_in, last_of, memory_bytes, named_bytes, needed as needed_for, other_bytes, read_blocked_bytes, read_bytes, reason_name, told_bytes};
 
 use ba_judge::{Allowed, By as Ground, Read, Reason};
 use ba_live::{Decision, Refusal, Subject};
@@ -18,13 +17,14 @@ fn reason_name(reason: Refusal) -> &'static str
         Refusal::Shape => "shape",
         Refusal::Begun => "begun",
         Refusal::Unbegun => "unbegun",
+        Refusal::Closed => "closed",
         Refusal::Context => "context",
         Refusal::Requests => "requests",
         Refusal::Key => "key",
         Refusal::Args => "args",
-        Refusal::Comment => "comment",
-        Refusal::ValueWord => "value_word",
         Refusal::Asks => "asks",
+        Refusal::ZeroByte => "zero_byte",
+        Refusal::LongSend => "long_send",
         Refusal::Unasked => "unasked",
         Refusal::Rows => "rows",
         Refusal::Misfit => "misfit",
@@ -72,15 +72,17 @@ pub(crate) fn needed(allowed: &Allowed) -> By
     }
 }
 
-fn block_of(reason: &Reason) -> Block
+// What blocks the question; nothing where what was told contradicts itself, which is a fault.
+fn block_of(reason: &Reason) -> Option<Block>
     ensures { result ≡ block_of reason.now }
 {
     match reason {
-        Reason::Refuted(_) => Block::Refuted,
-        Reason::Spent(steps) => Block::Spent {
+        Reason::Refuted(_) => Some(Block::Refuted),
+        Reason::Spent(steps) => Some(Block::Spent {
             steps: steps.len() as u64,
-        },
-        Reason::Stuck(_, clause) => Block::Stuck { clause: *clause },
+        }),
+        Reason::Stuck(_, clause) => Some(Block::Stuck { clause: *clause }),
+        Reason::Contradiction(_) => None,
     }
 }
 
@@ -101,6 +103,14 @@ fn refusal_text(alloc: Global, line: u64, reason: Refusal) -> Result<String, All
     said_text(alloc, &SaidLine::Faulty { fault, line })
 }
 
+// The line that says that what was told contradicts itself.
+fn contradiction_text(alloc: Global, line: u64) -> Result<String, AllocError>
+    ensures { IfOk result (λ text. string_bytes text ≡ contradiction_bytes line) }
+{
+    let fault = "contradiction";
+    said_text(alloc, &SaidLine::Faulty { fault, line })
+}
+
 /// The line that says that there was no memory.
 pub(crate) fn memory_text(alloc: Global, line: u64) -> Result<String, AllocError>
     ensures { IfOk result (λ text. string_bytes text ≡ memory_bytes line) }
@@ -113,12 +123,18 @@ fn allowed_text(
     line: u64,
     request: &Str,
     allowed: &Allowed,
+    send: &Str,
 ) -> Result<String, AllocError>
     ensures { IfOk result (λ text. string_bytes text
-        ≡ named_bytes line request.now (Decision.Allowed allowed.now)) }
+        ≡ named_bytes line request.now (Decision.Allowed allowed.now send.now)) }
 {
-    let by = needed(allowed);
-    said_text(alloc, &SaidLine::Allowed { by, line, request })
+    let said = SaidLine::Allowed {
+        by: needed(allowed),
+        line,
+        request,
+        send,
+    };
+    said_text(alloc, &said)
 }
 
 fn blocked_text(
@@ -130,13 +146,17 @@ fn blocked_text(
     ensures { IfOk result (λ text. string_bytes text
         ≡ named_bytes line request.now (Decision.Blocked reason.now)) }
 {
-    let blocked = block_of(reason);
-    let said = SaidLine::Blocked {
-        blocked,
-        line,
-        request,
-    };
-    said_text(alloc, &said)
+    match block_of(reason) {
+        Some(blocked) => {
+            let said = SaidLine::Blocked {
+                blocked,
+                line,
+                request,
+            };
+            said_text(alloc, &said)
+        }
+        None => contradiction_text(alloc, line),
+    }
 }
 
 // The line of a decision on a request's event.
@@ -150,7 +170,7 @@ pub(crate) fn named_text(
 {
     match decision {
         Decision::Begun => said_text(alloc, &SaidLine::Begun { begin: name, line }),
-        Decision::Allowed(allowed) => allowed_text(alloc, line, name, allowed),
+        Decision::Allowed { by, send } => allowed_text(alloc, line, name, by, send),
         Decision::Blocked(reason) => blocked_text(alloc, line, name, reason),
         Decision::Unread(unread) => {
             let said = SaidLine::Unread {
@@ -162,7 +182,35 @@ pub(crate) fn named_text(
         }
         Decision::Ended => line_text(alloc, &Line::End { end: name, line }),
         Decision::Refused(reason) => refusal_text(alloc, line, *reason),
+        Decision::Contradiction => contradiction_text(alloc, line),
         Decision::Read(_) | Decision::Told | Decision::Memory => memory_text(alloc, line),
+    }
+}
+
+// The line of a read of a key of which the query behind so many is blocked.
+fn read_blocked_text(
+    alloc: Global,
+    line: u64,
+    name: &Str,
+    key: &Str,
+    query: u64,
+    reason: &Reason,
+) -> Result<String, AllocError>
+    ensures { IfOk result (λ text. string_bytes text
+        ≡ read_blocked_bytes line name.now key.now query reason.now) }
+{
+    match block_of(reason) {
+        Some(blocked) => {
+            let said = SaidLine::BlockedRead {
+                blocked,
+                key,
+                line,
+                query,
+                read: name,
+            };
+            said_text(alloc, &said)
+        }
+        None => contradiction_text(alloc, line),
     }
 }
 
@@ -175,7 +223,7 @@ fn read_text(
     read: &Read,
 ) -> Result<String, AllocError>
     ensures { IfOk result (λ text. string_bytes text
-        ≡ said_bytes (read_said line name.now key.now read.now)) }
+        ≡ read_bytes line name.now key.now read.now) }
 {
     match read {
         Read::Allowed { by, .. } => {
@@ -189,14 +237,8 @@ fn read_text(
             said_text(alloc, &said)
         }
         Read::Blocked { before, reason, .. } => {
-            let said = SaidLine::BlockedRead {
-                blocked: block_of(reason),
-                key,
-                line,
-                query: before.len() as u64,
-                read: name,
-            };
-            said_text(alloc, &said)
+            let query = before.len() as u64;
+            read_blocked_text(alloc, line, name, key, query, reason)
         }
     }
 }
@@ -207,6 +249,7 @@ fn other_text(alloc: Global, line: u64, decision: &Decision) -> Result<String, A
 {
     match decision {
         Decision::Refused(reason) => refusal_text(alloc, line, *reason),
+        Decision::Contradiction => contradiction_text(alloc, line),
         _ => memory_text(alloc, line),
     }
 }

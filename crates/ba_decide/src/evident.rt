@@ -142,17 +142,26 @@ fn basis_text(
     line: u64,
     name: &Str,
     allowed: &Allowed,
+    send: &Str,
 ) -> Result<String, AllocError>
     requires checked { IsChecked (seen asking.now).policy }
     ensures { IfOk result (λ text. TellsBasis params.now (seen asking.now) line name.now
-        allowed.now (string_bytes text)) }
+        allowed.now send.now (string_bytes text)) }
 {
     let by = needed(allowed);
     match allowed {
         Allowed::Whole(ground) => {
             let told = told_of(alloc, asking, ground)?;
             let ground = told.ground();
-            allowed_line(alloc, params, by, &Grounds::Whole(&ground), line, name)
+            allowed_line(
+                alloc,
+                params,
+                by,
+                &Grounds::Whole(&ground),
+                line,
+                name,
+                send,
+            )
         }
         Allowed::Parts(grounds) => {
             let parts = asking.query.parts.as_slice();
@@ -165,6 +174,7 @@ fn basis_text(
                 &Grounds::Parts(its.as_slice()),
                 line,
                 name,
+                send,
             )
         }
     }
@@ -176,9 +186,10 @@ fn allowed_text(
     line: u64,
     name: &Str,
     allowed: &Allowed,
+    send: &Str,
 ) -> Result<String, AllocError>
     requires sound { IsSound live.now }
-    ensures { IfOk result (λ text. TellsAllowed live.now line name.now allowed.now
+    ensures { IfOk result (λ text. TellsAllowed live.now line name.now allowed.now send.now
         (string_bytes text)) }
 {
     checked_links_fit();
@@ -202,6 +213,7 @@ fn allowed_text(
         line,
         name,
         allowed,
+        send,
     )
 }
 
@@ -219,7 +231,9 @@ fn blocked_text(
 {
     match reason {
         Reason::Refuted(pair) => pair_line(alloc, &live.policy().schema, pair, line, name),
-        Reason::Spent(_) | Reason::Stuck(..) => named_text(alloc, line, name, decision),
+        Reason::Spent(_) | Reason::Stuck(..) | Reason::Contradiction(_) => {
+            named_text(alloc, line, name, decision)
+        }
     }
 }
 
@@ -235,7 +249,7 @@ fn named_evident(
         (string_bytes text)) }
 {
     match decision {
-        Decision::Allowed(allowed) => allowed_text(alloc, live, line, name, allowed),
+        Decision::Allowed { by, send } => allowed_text(alloc, live, line, name, by, send),
         Decision::Blocked(reason) => blocked_text(alloc, live, line, name, decision, reason),
         _ => named_text(alloc, line, name, decision),
     }
@@ -350,7 +364,9 @@ fn read_evident(
                 let query = before.len() as u64;
                 pair_read_line(alloc, schema, pair, key, line, query, name)
             }
-            Reason::Spent(_) | Reason::Stuck(..) => keyed_text(alloc, line, name, key, decision),
+            Reason::Spent(_) | Reason::Stuck(..) | Reason::Contradiction(_) => {
+                keyed_text(alloc, line, name, key, decision)
+            }
         },
     }
 }

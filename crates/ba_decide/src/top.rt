@@ -3,6 +3,7 @@ ghost use Rattle.std.specs.Prelude.{◌≡◌, [], ◌∷◌, map, string_bytes}
 ghost use Rattle.ba_decide.specs.Decided.{Decides, EndsFault, EndsStop, ServesInput, status_of};
 ghost use Rattle.ba_input.specs.Deciding.{IsPolicyInput};
 ghost use Rattle.ba_plan.specs.Sent.{SentLines};
+ghost use Rattle.ba_target.specs.Names.{Serves as Served};
 ghost use Rattle.ba_wire.specs.Printed.{fault_bytes};
 
 use crate::serve::serve;
@@ -85,11 +86,18 @@ fn serve_input<L: Source, S: Sink>(
     sink: &mut S,
 ) -> Ending
     requires input { IsPolicyInput input }
+    requires serves { Served input.target input.policy.schema }
     ensures { ServesInput input result
         (L.seen source.old) (L.seen source.new) (S.seen sink.old) (S.seen sink.new) }
 {
     let evidence = input.evidence;
-    match Live::new(alloc, input.policy, &input.loaded, input.budget) {
+    match Live::new(
+        alloc,
+        input.policy,
+        input.target,
+        &input.loaded,
+        input.budget,
+    ) {
         Ok(mut live) => serve(alloc, &mut live, &InOrder, source, sink, evidence),
         Err(_) => Ending::Memory,
     }
@@ -105,7 +113,11 @@ fn serve_input<L: Source, S: Sink>(
 /// recorded. What is blocked isn't covered, and has its reason: a checked counterexample, a
 /// derivation as long as the budget, or a stuck branch. Recorded are rows of the request's own
 /// lines that weren't refused, and nothing else. That these are in the questions' answers in the
-/// database that is asked is for the caller to see to.
+/// database that is asked is for the caller to see to. Where they are found to be in no database, the
+/// line says so, and the request can only end.
+///
+/// The line of an allowed question has the text to send: the database that the words name reads it
+/// as the question that was judged, with the context's values in place of its parameters.
 ///
 /// A line has at most 1,048,576 bytes. Want of memory may stand in place of a decision, which its
 /// line says; where there is none for the line of a decision, the event may have been served.

@@ -22,9 +22,10 @@ basis_whole : (params : List Parameter) (it : Basis) → has_float (basis_json p
 basis_whole params (whole it) = evidence_whole params it
 basis_whole params (parts list) = all_whole (part_ground_json params) (part_whole params) list
 
-pub allowed_whole : (params : List Parameter) (by : By) (it : Basis) (line : ℕ) (request : List ℕ) → has_float (allowed_json params by it line request) ≡ false
+pub allowed_whole : (params : List Parameter) (by : By) (it : Basis) (line : ℕ) (request send : List ℕ)
+    → has_float (allowed_json params by it line request send) ≡ false
 unfolding allowed_json
-allowed_whole params by it line request = rw (basis_whole params it) refl
+allowed_whole params by it line request send = rw (basis_whole params it) refl
 
 pub pair_said_whole : (schema : Schema) (pair : Counterexample) (line : ℕ) (request : List ℕ) → has_float (pair_said_json schema pair line request) ≡ false
 unfolding pair_said_json
@@ -55,9 +56,10 @@ basis_flat : (params : List Parameter) (it : Basis) → depth (basis_json params
 basis_flat params (whole it) = let flat = evidence_flat params it in omega arith
 basis_flat params (parts list) = let flat = all_flat (part_ground_json params) 5 (part_flat params) list in omega arith
 
-pub allowed_flat : (params : List Parameter) (by : By) (it : Basis) (line : ℕ) (request : List ℕ) → depth (allowed_json params by it line request) ≤ max_depth
+pub allowed_flat : (params : List Parameter) (by : By) (it : Basis) (line : ℕ) (request send : List ℕ)
+    → depth (allowed_json params by it line request send) ≤ max_depth
 unfolding allowed_json
-allowed_flat params by it line request = let flat = basis_flat params it in omega arith
+allowed_flat params by it line request send = let flat = basis_flat params it in omega arith
 
 pub pair_said_flat : (schema : Schema) (pair : Counterexample) (line : ℕ) (request : List ℕ) → depth (pair_said_json schema pair line request) ≤ max_depth
 unfolding pair_said_json

@@ -35,12 +35,13 @@ basis_json params (whole it) = evidence_json params it
 basis_json params (parts list) = list_json (map (part_ground_json params) list)
 
 -- the object of an allowed question: what it rests on stands under `proof`
-unfoldable pub allowed_json : List Parameter → By → Basis → ℕ → List ℕ → Data
-allowed_json params by it line request =
+unfoldable pub allowed_json : List Parameter → By → Basis → ℕ → List ℕ → List ℕ → Data
+allowed_json params by it line request send =
     object (member (codes "allowed") (string (called by))
     (member (codes "line") (count line)
     (member (codes "proof") (basis_json params it)
-    (member (codes "request") (string request) no_members))))
+    (member (codes "request") (string request)
+    (member (codes "send") (string send) no_members)))))
 
 -- the object of a refuted question: the pair stands under `pair`
 unfoldable pub pair_said_json : Schema → Counterexample → ℕ → List ℕ → Data

@@ -73,9 +73,10 @@ fn allowed_json(
     it: &Grounds,
     line: u64,
     request: &Str,
+    send: &Str,
 ) -> Result<Json, AllocError>
     ensures { IfOk result (λ v. view v
-        ≡ allowed_json params.now by (basis it.now) line request.now) }
+        ≡ allowed_json params.now by (basis it.now) line request.now send.now) }
 {
     let mut members = Map::new(alloc);
     let by = Json::try_from_str(alloc, by.name())?;
@@ -85,13 +86,16 @@ fn allowed_json(
     put(&mut members, alloc, "proof", proof)?;
     let request = Json::try_from_str(alloc, request.as_str())?;
     put(&mut members, alloc, "request", request)?;
+    let send = Json::try_from_str(alloc, send.as_str())?;
+    put(&mut members, alloc, "send", send)?;
     Ok(Json::Object(members))
 }
 
 /// The line of an allowed question with what it rests on, and a line feed: what a cover, a template
 /// or a proof is stands under `proof`, or for each part an object of its own with `by` and `proof`.
-/// `by` is what it rests on by name, and `line` the line that it answers, from 1. The only error is
-/// want of memory, which leaves nothing behind.
+/// `by` is what it rests on by name, `line` the line that it answers, from 1, and `send` the text by
+/// which it may be put to the database. The only error is want of memory, which leaves nothing
+/// behind.
 pub fn allowed_line(
     alloc: Global,
     params: &[Parameter],
@@ -99,13 +103,14 @@ pub fn allowed_line(
     it: &Grounds,
     line: u64,
     request: &Str,
+    send: &Str,
 ) -> Result<String, AllocError>
     ensures text { IfOk result (λ s. string_bytes s ≡ json_line
-        (allowed_json params.now by (basis it.now) line request.now)) }
+        (allowed_json params.now by (basis it.now) line request.now send.now)) }
     ensures reads_back { IfOk result (λ s. ReadsBack (string_bytes s)
-        (allowed_json params.now by (basis it.now) line request.now)) }
+        (allowed_json params.now by (basis it.now) line request.now send.now)) }
 {
-    let value = allowed_json(alloc, params, by, it, line, request)?;
+    let value = allowed_json(alloc, params, by, it, line, request, send)?;
     line_of(alloc, &value)
 }
 

@@ -1,5 +1,5 @@
 -- What the words behind `decide` come to, stage by stage.
-use Rattle.std.proofs.Common.{◌≡◌, refl, ap₂, subst, List, Result, Ok, Err, ℕ}
+use Rattle.std.proofs.Common.{◌≡◌, refl, sym, ap₂, subst, List, Result, Ok, Err, ℕ}
 use Rattle.ba_command.specs.declared.decide.Deciding.{Deciding}
 use Rattle.ba_kernel.specs.SearchStates as kernel
 use Rattle.ba_model.specs.declared.policy.Policy.{Policy}
@@ -7,6 +7,7 @@ use Rattle.ba_outside.specs.Seen.{FilesSeen}
 use Rattle.ba_plan.specs.Follows.{Follows}
 use Rattle.ba_plan.specs.declared.stop.Stop.{Stop}
 use Rattle.ba_input.specs.Deciding.{LoadsFrom, ReadsNamed, given, policy_reading_of}
+use Rattle.ba_target.specs.declared.target.Target.{Target}
 use Rattle.ba_wire.specs.declared.fault.Fault.{Fault}
 
 -- by the names that are lent
@@ -32,3 +33,8 @@ named_ok named schema policy s m t it templates one two follows loads = record {
   follows = follows_named named schema policy s m (Ok it) one two follows;
   goes_on = record { templates = templates; loads = loads; is = refl };
 }
+
+-- the same for the database that is named
+pub named_for : (target : Target) (named : Deciding) (s t : FilesSeen) (it : Policy) (loaded : List kernel.Proof) → target ≡ named.target → ReadsNamed named s t (given named it (Ok loaded))
+    → ReadsNamed named s t (Ok (record { policy = it; loaded = loaded; budget = named.budget; evidence = named.evidence; target = target }))
+named_for target named s t it loaded e h = subst (λ (x : Target). ReadsNamed named s t (Ok (record { policy = it; loaded = loaded; budget = named.budget; evidence = named.evidence; target = x }))) (sym e) h

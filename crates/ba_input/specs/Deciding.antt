@@ -1,5 +1,5 @@
 -- What the words behind `decide` come to.
-use Rattle.std.specs.Prelude.{◌≡◌, ◌⊎◌, ℕ, ◌≤◌, List, [], All, Option, Some, None, Result, Ok, Err}
+use Rattle.std.specs.Prelude.{◌≡◌, ◌⊎◌, ℕ, ◌≤◌, List, [], All, Option, Some, None, Result, Ok, Err, ⊤}
 use Rattle.ba_command.specs.Deciding.{decide_of}
 use Rattle.ba_command.specs.declared.command.WordsFault.{WordsFault}
 use Rattle.ba_command.specs.declared.decide.Deciding.{Deciding}
@@ -20,7 +20,9 @@ use Rattle.ba_policy.specs.Reading.{policy_of}
 use Rattle.ba_sql_ddl.specs.Reading.{schema_of}
 use Rattle.ba_input.specs.Reading.{file_of}
 use Rattle.ba_input.specs.Reads.{Finds}
-use Rattle.ba_input.specs.Refusals.{ddl_refusal, policy_refusal}
+use Rattle.ba_input.specs.Refusals.{ddl_refusal, names_refusal, policy_refusal}
+use Rattle.ba_target.specs.Names.{Misnames, Serves}
+use Rattle.ba_target.specs.declared.names.Misnamed.{Misnamed}
 use Rattle.ba_input.specs.declared.deciding.PolicyInput.{PolicyInput}
 use Rattle.ba_wire.specs.declared.fault.Fault.{Fault}
 use Rattle.ba_wire.specs.declared.fault.Fault.TheVariants.{Words}
@@ -49,6 +51,7 @@ given named policy (Ok loaded) = Ok (record {
   loaded = loaded;
   budget = named.budget;
   evidence = named.evidence;
+  target = named.target;
 })
 given named policy (Err stop) = Err stop
 
@@ -80,10 +83,34 @@ pub record ReadsNamed (named : Deciding) (old new : FilesSeen)
   pub follows : Follows (policy_reading_of named.schema named.policy) old between gave
   pub goes_on : GoesOn named gave between new result
 
+-- ---- the database
+
+-- what was read, where its database serves the schema; else why not, which is told of the schema's
+-- file; or there was no memory to find out
+abbrev pub IsServed : List ℕ → PolicyInput → Result PolicyInput (Stop Fault) → Type 0
+IsServed file input (Ok it) = (it ≡ input) × Serves input.target input.policy.schema
+IsServed file input (Err NoMemory) = ⊤
+IsServed file input (Err (Refused fault)) =
+    (why : Misnamed) × Misnames input.target input.policy.schema why ×
+    (fault ≡ names_refusal file why)
+IsServed file input (Err _) = ⊥
+
+abbrev pub IsServedAfter : List ℕ → Result PolicyInput (Stop Fault) →
+    Result PolicyInput (Stop Fault) → Type 0
+IsServedAfter file (Ok input) result = IsServed file input result
+IsServedAfter file (Err stop) result = result ≡ Err stop
+
+-- all that the words name is read, and then the database has to serve the schema
+pub record ReadsServed (named : Deciding) (old new : FilesSeen)
+    (result : Result PolicyInput (Stop Fault)) : Type 0 where
+  pub read : Result PolicyInput (Stop Fault)
+  pub reads : ReadsNamed named old new read
+  pub served : IsServedAfter named.schema read result
+
 abbrev pub ReadsWords : Result Deciding WordsFault → FilesSeen → FilesSeen →
     Result PolicyInput (Stop Fault) → Type 0
 ReadsWords (Err fault) old new result = (result ≡ Err (Refused Words)) × (new ≡ old)
-ReadsWords (Ok named) old new result = ReadsNamed named old new result
+ReadsWords (Ok named) old new result = ReadsServed named old new result
 
 -- what the words come to, whatever the files do; or there was no memory for the words
 abbrev pub ReadsPolicy : List (List ℕ) → FilesSeen → FilesSeen → Result PolicyInput (Stop Fault) →

@@ -27,6 +27,8 @@ use Rattle.ba_tables.specs.declared.broken.TablesFault.{TablesFault}
 use Rattle.ba_tables.specs.declared.broken.TablesFault.TheVariants.{KeyBroken, LinkBroken, RuleBroken}
 use Rattle.ba_tables.specs.declared.fault.TableFault.{TableFault}
 use Rattle.ba_tables.specs.declared.fault.TableFault.TheVariants as table
+use Rattle.ba_target.specs.declared.names.Misnamed.{Misnamed}
+use Rattle.ba_target.specs.declared.names.Misnamed.TheVariants as misnamed
 use Rattle.ba_input.specs.Path.{path_of}
 use Rattle.ba_wire.specs.declared.fault.Fault.{Fault}
 use Rattle.ba_wire.specs.declared.fault.Fault.TheVariants.{Input, Limit}
@@ -43,6 +45,12 @@ lex_fault file lex.TooLong = Limit what.TextBytes most_text_bytes
 lex_fault file lex.BadByte = text_fault file (query.Lex lex.BadByte)
 lex_fault file lex.OpenQuote = text_fault file (query.Lex lex.OpenQuote)
 lex_fault file lex.NumberTooLarge = text_fault file (query.Lex lex.NumberTooLarge)
+
+-- ---- the names of the schema, for a database
+
+abbrev pub names_refusal : List ℕ → Misnamed → Fault
+names_refusal file (misnamed.Unnameable name) = Input file (reason.Unnameable name)
+names_refusal file (misnamed.Alike one other) = Input file (reason.Alike one other)
 
 -- ---- the schema
 

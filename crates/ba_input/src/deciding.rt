@@ -5,14 +5,17 @@ ghost use Rattle.ba_model.specs.Limits.{most_budget};
 ghost use Rattle.ba_model.specs.RuleFaults.{AreRules};
 ghost use Rattle.ba_model.specs.SchemaFaults.{AreTables};
 ghost use Rattle.ba_plan.specs.Follows.{Follows};
-ghost use Rattle.ba_input.specs.Deciding.{IsPolicyInput, LoadsFrom, ReadsNamed, ReadsPolicy, policy_reading_of, text_plan};
+ghost use Rattle.ba_input.specs.Deciding.{IsPolicyInput, IsServed, LoadsFrom, ReadsNamed, ReadsPolicy, ReadsServed, policy_reading_of, text_plan};
+ghost use Rattle.ba_target.specs.Names.{Serves};
 
+use crate::refusal::names_refusal;
 use crate::run_input::{policy_at, schema_at};
 use crate::template_input::read_loaded;
 use ba_command::{Deciding, WordsFault, read_decide};
-use ba_model::{Failure, List, MAX_FILE_BYTES, Policy, Schema, Shared};
+use ba_model::{Duplicate, Failure, List, MAX_FILE_BYTES, Policy, Schema, Shared, Str};
 use ba_outside::Files;
 use ba_plan::{Stop, read_file};
+use ba_target::{Target, check_names};
 use ba_template::Template;
 use ba_wire::Fault;
 use std::alloc::Global;
@@ -28,6 +31,8 @@ pub struct PolicyInput {
     pub budget: u32,
     /// Whether the lines of decisions tell their evidence.
     pub evidence: bool,
+    /// The database that allowed questions are sent to.
+    pub target: Target,
 }
 
 // The policy of a file, over the schema.
@@ -84,13 +89,15 @@ fn read_given<F: Files>(
     }
 }
 
-// Reads what the words name.
+// Reads what the words name, for this database.
 fn read_named<F: Files>(
     alloc: Global,
     files: &mut F,
     named: &Deciding,
+    target: Target,
 ) -> Result<PolicyInput, Stop<Fault>>
     requires budget { named.now.budget ≤ most_budget }
+    requires target { target ≡ named.now.target }
     ensures reads { ReadsNamed named.now (F.seen files.old) (F.seen files.new) result }
     ensures input { IfOk result IsPolicyInput }
 {
@@ -101,11 +108,46 @@ fn read_named<F: Files>(
         loaded,
         budget: named.budget,
         evidence: named.evidence,
+        target,
     })
 }
 
+// What was read, where its database serves the schema, which stands in the file.
+fn served(alloc: Global, file: &Str, input: PolicyInput) -> Result<PolicyInput, Stop<Fault>>
+    ensures serves { IsServed file.now input result }
+{
+    match check_names(alloc, &input.target, &input.policy.schema) {
+        Ok(()) => Ok(input),
+        Err(Failure::Fault(fault)) => match file.copy(alloc) {
+            Ok(file) => Err(Stop::Refused(names_refusal(file, fault))),
+            Err(_) => Err(Stop::NoMemory),
+        },
+        Err(Failure::NoMemory) => Err(Stop::NoMemory),
+    }
+}
+
+// Reads what the words name, which their database has to serve.
+fn read_served<F: Files>(
+    alloc: Global,
+    files: &mut F,
+    named: &Deciding,
+    target: Target,
+) -> Result<PolicyInput, Stop<Fault>>
+    requires budget { named.now.budget ≤ most_budget }
+    requires target { target ≡ named.now.target }
+    ensures reads { ReadsServed named.now (F.seen files.old) (F.seen files.new) result }
+    ensures input { IfOk result IsPolicyInput }
+    ensures serves { IfOk result (λ it. Serves it.target it.policy.schema) }
+{
+    match read_named(alloc, files, named, target) {
+        Ok(input) => served(alloc, &named.schema, input),
+        Err(stop) => Err(stop),
+    }
+}
+
 /// Reads what the words behind `decide` name: the schema, the policy and, last, the file of templates,
-/// if there is one; file by file, up to the first fault.
+/// if there is one; file by file, up to the first fault. Then the database has to keep the schema's
+/// names, and to tell them apart.
 ///
 /// # Errors
 /// Those of [`crate::read_task`].
@@ -117,9 +159,13 @@ pub fn read_policy_input<F: Files>(
     ensures reads { ReadsPolicy (map string_bytes words.now)
         (F.seen files.old) (F.seen files.new) result }
     ensures input { IfOk result IsPolicyInput }
+    ensures serves { IfOk result (λ it. Serves it.target it.policy.schema) }
 {
     match read_decide(alloc, words) {
-        Ok(named) => read_named(alloc, files, &named),
+        Ok(named) => match named.target.copy(alloc) {
+            Ok(target) => read_served(alloc, files, &named, target),
+            Err(_) => Err(Stop::NoMemory),
+        },
         Err(Failure::Fault(WordsFault::NoForm)) => Err(Stop::Refused(Fault::Words)),
         Err(Failure::NoMemory) => Err(Stop::NoMemory),
     }

@@ -3,7 +3,7 @@ ghost use Rattle.std.specs.Prelude.{◌≡◌, Err, IfOk, string_bytes};
 ghost use Rattle.ba_plan.specs.Follows.{Gives};
 ghost use Rattle.ba_input.specs.Path.{path_of};
 ghost use Rattle.ba_input.specs.Stops.{fault_of};
-ghost use Rattle.ba_input.specs.Refusals.{broken_refusal, ddl_refusal, file_of_table, lex_fault, policy_refusal, proof_refusal, read_fault, schema_fault, script_refusal, table_refusal, template_fault, template_refusal, text_fault};
+ghost use Rattle.ba_input.specs.Refusals.{broken_refusal, ddl_refusal, file_of_table, lex_fault, names_refusal, policy_refusal, proof_refusal, read_fault, schema_fault, script_refusal, table_refusal, template_fault, template_refusal, text_fault};
 
 use ba_lex::LexFault;
 use ba_model::{Counted, MAX_STEPS, MAX_TEXT_BYTES, QueryFault, Schema, SchemaFault, Str};
@@ -15,6 +15,7 @@ use ba_sql_ddl::DdlFault;
 use ba_sql_query::ReadQueryFault;
 use ba_store::StoreFault;
 use ba_tables::{TableFault, TablesFault};
+use ba_target::Misnamed;
 use ba_wire::{Fault, Reason, TemplateFault};
 use std::alloc::{AllocError, Global};
 
@@ -203,6 +204,22 @@ pub(crate) fn script_refusal(file: Str, fault: ScriptFault) -> Fault
             reason: Reason::Line { line, reason },
         },
         ScriptFault::TooMany { what, limit } => Fault::Limit { what, limit },
+    }
+}
+
+/// The fault of a schema's names, which stands in this file.
+pub(crate) fn names_refusal(file: Str, fault: Misnamed) -> Fault
+    ensures { result ≡ names_refusal file fault }
+{
+    match fault {
+        Misnamed::Unnameable(name) => Fault::Input {
+            file,
+            reason: Reason::Unnameable { name },
+        },
+        Misnamed::Alike(one, other) => Fault::Input {
+            file,
+            reason: Reason::Alike { one, other },
+        },
     }
 }
 

@@ -3,6 +3,7 @@ use Rattle.std.proofs.Common.{◌≡◌, ◌∙◌, refl, sym, ap, subst, ℕ, s
 use Rattle.std.proofs.lemmas.List.{take_all, take_more, take-append-drop}
 use Rattle.std.proofs.lemmas.List.Elements.{All-push}
 use Rattle.std.specs.Prelude.{MatchOption}
+use Rattle.ba_contradict.specs.Contradictions.{Contradicted, ToldFits}
 use Rattle.ba_direct.specs.Cover.{AlwaysStrong, Covered, IsCover}
 use Rattle.ba_direct.specs.declared.covers.Cover.{Cover}
 use Rattle.ba_general.specs.Generals.{IsOfQuestion}
@@ -17,6 +18,7 @@ use Rattle.ba_kernel.specs.Asked.{QuestionFits}
 use Rattle.ba_kernel.specs.Problems.{ProblemIsQuestion, StrongAll}
 use Rattle.ba_kernel.specs.SearchStates.{Proof}
 use Rattle.ba_kernel.specs.declared.problem.Problem.{Problem}
+use Rattle.ba_kernel.specs.declared.step.Step.{Step}
 use Rattle.ba_match.specs.Matching.{IsFound}
 use Rattle.ba_model.specs.Fit.{ContextFits, kinds_of}
 use Rattle.ba_model.specs.declared.policy.Policy.{Policy}
@@ -27,7 +29,7 @@ use Rattle.ba_refute.specs.declared.clause.Clause.{Clause}
 use Rattle.ba_refute.specs.declared.clause.Counterexample.{Counterexample}
 use Rattle.ba_refute.specs.declared.refutal.Refutal.{Refutal}
 use Rattle.ba_refute.specs.declared.refutal.Refutal.TheVariants as refutal
-use Rattle.ba_judge.specs.Judging.{Asked, Concludes, HasBlockedPart, IsAllowedBy, IsFirstToServe, IsGround, IsReason, IsServedBy, IsServing, IsStrong, LooksAtParts, LooksAtWhole, NoneServes, ServesAlone, ServesFirst, TakesFirst, Uncovered, question_of}
+use Rattle.ba_judge.specs.Judging.{Asked, Concludes, HasBlockedPart, IsAllowedBy, IsFirstToServe, IsGround, IsReason, IsServedBy, IsServing, IsStrong, LooksAtParts, LooksAtWhole, NoneServes, ServesAlone, ServesFirst, TakesFirst, ToldStaysOpen, Uncovered, question_of}
 use Rattle.ba_judge.specs.Shelves.{Learns, standing_for}
 use Rattle.ba_judge.specs.declared.shelves.Shelves.{Shelves}
 use Rattle.ba_judge.specs.declared.verdict.Judgement.{Judgement}
@@ -100,23 +102,40 @@ module _ (asked : Asked) (effort : Effort) (problem : Problem) (is : problem ≡
   pub problem_at : (leaf : Leaf) → end ≡ settled.Saturated leaf → leaf.problem ≡ question_of asked
   problem_at leaf e = leaf_problem effort (question_of asked) leaf (settles_at (settled.Saturated leaf) e)
 
-  pub proved_of_question : (proof : Proof) → end ≡ settled.Proved proof → QuestionFits asked.policy asked.context asked.trace asked.query → IsOfQuestion proof.problem
-  proved_of_question proof e fits =
-      subst IsOfQuestion (sym (proof_problem effort (question_of asked) proof (settles_at (settled.Proved proof) e)))
+-- ---- what a proof is worth
+
+module _ (asked : Asked) (effort : Effort) (proof : Proof) (ends : Settles effort (question_of asked) (settled.Proved proof)) where
+  pub proved_of_question : QuestionFits asked.policy asked.context asked.trace asked.query → IsOfQuestion proof.problem
+  proved_of_question fits =
+      subst IsOfQuestion (sym (proof_problem effort (question_of asked) proof ends))
       (record { context = asked.context; trace = asked.trace; fits = fits; is = refl })
 
-  -- a proof allows its question
-  pub proved_at : (proof : Proof) (ground : By) → end ≡ settled.Proved proof → ground ≡ by.Proof proof.steps → ProblemIsQuestion → QuestionFits asked.policy asked.context asked.trace asked.query → Uncovered asked →
-      StrongAll proof.problem → Concludes asked effort (Allow ground)
-  proved_at proof ground e ground_is law fits bare strong =
-      let it = settles_at (settled.Proved proof) e in
-      let same = proof_problem effort (question_of asked) proof it in
+  -- a proof allows its question, where what was told isn't shown to contradict itself
+  pub proved_at : (ground : By) → ground ≡ by.Proof proof.steps → ProblemIsQuestion → QuestionFits asked.policy asked.context asked.trace asked.query → Uncovered asked → ToldStaysOpen asked effort → StrongAll proof.problem →
+      Concludes asked effort (Allow ground)
+  proved_at ground ground_is law fits bare stays_open strong =
+      let same = proof_problem effort (question_of asked) proof ends in
       let here : proof ≡ record { problem = question_of asked; steps = proof.steps } = λ i. record { problem = same i; steps = proof.steps } in
-      let proves : IsGround asked effort (by.Proof proof.steps) = (bare, subst (λ (z : Proof). Settles effort (question_of asked) (settled.Proved z)) here it) in
+      let proves : IsGround asked effort (by.Proof proof.steps) = (bare, subst (λ (z : Proof). Settles effort (question_of asked) (settled.Proved z)) here ends, stays_open) in
       record {
         ground = subst (IsGround asked effort) (sym ground_is) proves;
         strong = law asked.policy asked.context asked.trace asked.query fits.context (subst StrongAll same strong);
       }
+
+-- what was told fits where the question does
+pub told_fits : (asked : Asked) → QuestionFits asked.policy asked.context asked.trace asked.query → ToldFits asked.policy asked.context asked.trace
+told_fits asked fits = record { tables = fits.tables; rules = fits.rules; policy_fits = fits.policy_fits; context = fits.context; trace_fits = fits.trace_fits }
+
+-- what a search over the told rows alone shows
+module _ (asked : Asked) (effort : Effort) (found : Option (List Step)) (shows : MatchOption found (ToldStaysOpen asked effort) (Contradicted asked.policy asked.context asked.trace effort)) where
+  pub told_open : found ≡ None → ToldStaysOpen asked effort
+  told_open e = subst (λ (z : Option (List Step)). MatchOption z (ToldStaysOpen asked effort) (Contradicted asked.policy asked.context asked.trace effort)) e shows
+
+  pub contradicts : (steps : List Step) → found ≡ Some steps → Uncovered asked → Concludes asked effort (Deny (why.Contradiction steps))
+  contradicts steps e bare = record {
+    uncovered = bare;
+    reason_is = subst (λ (z : Option (List Step)). MatchOption z (ToldStaysOpen asked effort) (Contradicted asked.policy asked.context asked.trace effort)) e shows;
+  }
 
 -- ---- templates
 

@@ -3,6 +3,7 @@ use Rattle.std.specs.Prelude.{◌≡◌, ℕ, ◌<◌, ◌≤◌, List, ◌∷�
 use Rattle.std.specs.List.{AllZip}
 use Rattle.ba_comply.specs.Comply.{Strong}
 use Rattle.ba_comply.specs.declared.trace.TraceEntry.{TraceEntry}
+use Rattle.ba_contradict.specs.Contradictions.{Contradicted, StaysOpen}
 use Rattle.ba_direct.specs.Cover.{Covered, IsCover}
 use Rattle.ba_judge.specs.Shelves.{Learns, standing_for}
 use Rattle.ba_judge.specs.declared.asking.Asking.{Asking}
@@ -16,7 +17,7 @@ use Rattle.ba_judge.specs.declared.verdict.By.TheVariants.{Cover, Template, Proo
 use Rattle.ba_judge.specs.declared.verdict.Judgement.{Judgement}
 use Rattle.ba_judge.specs.declared.verdict.Judgement.TheVariants as judged
 use Rattle.ba_judge.specs.declared.verdict.Reason.{Reason}
-use Rattle.ba_judge.specs.declared.verdict.Reason.TheVariants.{Refuted, Spent, Stuck}
+use Rattle.ba_judge.specs.declared.verdict.Reason.TheVariants.{Refuted, Spent, Stuck, Contradiction}
 use Rattle.ba_kernel.specs.Problems.{StrongAll, problem_of}
 use Rattle.ba_kernel.specs.SearchStates as kernel
 use Rattle.ba_kernel.specs.declared.problem.Problem.{Problem}
@@ -85,12 +86,17 @@ IsProvedBy asked effort steps =
     Settles effort (question_of asked)
     (settled.Proved (record { problem = question_of asked; steps = steps }))
 
+-- a search over what was told alone, made with the same effort, shows no contradiction there
+abbrev pub ToldStaysOpen : Asked → Effort → Type 0
+ToldStaysOpen asked effort = StaysOpen asked.policy asked.context asked.trace effort
+
 -- the evidence that allows the question as a whole: a cover, or, where there is none, a template or
--- a proof
+-- a proof, which is none where what was told is shown to contradict itself
 abbrev pub IsGround : Asked → Effort → By → Type 0
 IsGround asked effort (Cover cover) = IsCover asked.policy asked.context asked.query cover
 IsGround asked effort (Template template it) = Uncovered asked × IsServedBy asked template it
-IsGround asked effort (Proof steps) = Uncovered asked × IsProvedBy asked effort steps
+IsGround asked effort (Proof steps) =
+    Uncovered asked × IsProvedBy asked effort steps × ToldStaysOpen asked effort
 
 -- it is evidence, and the question is strongly compliant
 pub record IsAllowedBy (asked : Asked) (effort : Effort) (by : By) : Type 0 where
@@ -129,6 +135,8 @@ abbrev pub IsReason : Asked → Effort → Reason → Type 0
 IsReason asked effort (Refuted pair) = IsRefuted asked effort pair
 IsReason asked effort (Spent steps) = Settles effort (question_of asked) (settled.Spent steps)
 IsReason asked effort (Stuck leaf clause) = IsStuck asked effort leaf clause
+IsReason asked effort (Contradiction steps) =
+    Contradicted asked.policy asked.context asked.trace effort steps
 
 -- it isn't covered, and this is the reason
 pub record IsBlockedFor (asked : Asked) (effort : Effort) (reason : Reason) : Type 0 where

@@ -27,6 +27,11 @@ use std::alloc::{AllocError, Global};
 /// narrow enough and there is memory for it, and serves the parts and the questions that follow. No
 /// clause says that it is kept: what a judgement may do to the shelves allows that nothing is.
 ///
+/// A proof allows nothing where the told rows alone, by a second search of at most `budget` due
+/// steps, are shown to be in no database: anything follows from rows that contradict each other.
+/// What such a proof is of is blocked, with the steps of that second search, and no template of it
+/// is kept. No such search is made where a cover or a template allows.
+///
 /// The question fits its policy, as do the context and the trace, and the budget is at most
 /// [`ba_model::MAX_BUDGET`] steps. The error is want of memory.
 #[tactic(auto, using(crate::proofs::LearnLemmas::same_learns))]

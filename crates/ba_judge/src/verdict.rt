@@ -19,7 +19,8 @@ pub enum By {
         found: Match,
     },
     /// No views cover it, no template that stood there matches, and these are the due steps, at most
-    /// as many as the budget, that leave no branch of its problem open.
+    /// as many as the budget, that leave no branch of its problem open. A search of the same budget
+    /// over the told rows alone ended without a proof that they contradict each other.
     Proof(List<Step>),
 }
 
@@ -44,12 +45,19 @@ pub enum Reason {
     /// The due steps that end at a saturated branch, and the first clause that its image doesn't
     /// meet. Whether the question is strongly compliant isn't known.
     Stuck(Leaf, Clause),
+    /// The question is proved, but so are the told rows alone shown to be in no database: these due
+    /// steps, at most as many as the budget, do it. From rows that contradict each other anything
+    /// follows, so the proof says nothing of the question, and no template of it is kept.
+    Contradiction(List<Step>),
 }
 
 /// Whether a question may be answered, with the evidence.
 #[derive(Drop)]
 pub enum Judgement {
-    /// It is strongly compliant after what was told.
+    /// It is strongly compliant after what was told. Where that rests on a proof, a search over the
+    /// told rows alone shows no contradiction among them.
     Allowed(Allowed),
+    /// It isn't known to be strongly compliant; or it is, as any question is after rows that no
+    /// database has.
     Blocked(Reason),
 }

@@ -15,6 +15,7 @@ use crate::asking::Asking;
 use crate::keep::keep;
 use crate::shelves::Shelves;
 use crate::verdict::{By, Reason};
+use ba_contradict::contradiction;
 use ba_kernel::laws::problem_is_question;
 use ba_kernel::{Problem, Proved};
 use ba_match::match_template;
@@ -35,7 +36,7 @@ pub(crate) enum Finding {
 
 /// How a question comes out that isn't covered: by the first template that matches of those that
 /// stand on the shelves for its shape, or else by a search of at most `budget` due steps, whose proof
-/// is kept as a template.
+/// is kept as a template, unless the told rows alone are shown to be in no database.
 #[tactic(auto, using(crate::proofs::LearnLemmas::same_learns, crate::proofs::LearnLemmas::found_learns))]
 pub(crate) fn conclude<S: Settle>(
     alloc: Global,
@@ -90,7 +91,8 @@ fn serving(
     Ok(None)
 }
 
-/// What a search for a proof of the question finds. The template of a proof is kept.
+/// What a search for a proof of the question finds. The template of a proof is kept, unless what
+/// was told contradicts itself.
 #[tactic(auto, using(crate::proofs::LearnLemmas::same_learns))]
 fn search<S: Settle>(
     alloc: Global,
@@ -109,17 +111,55 @@ fn search<S: Settle>(
         → IfOk result (TakesFirst (seen asked.now) found) }
     ensures learns { Learns shelves.old shelves.new }
 {
-    problem_is_question();
     settled_are_leaves();
     let problem = Problem::of(alloc, asked.policy, asked.context, asked.trace, asked.query)?;
     let settled = settle.settle(alloc, problem, budget)?;
     match settled {
-        Settled::Proved(proved) => Ok(Finding::Allow(by_proof(alloc, shelves, proved))),
+        Settled::Proved(proved) => weigh(alloc, asked, shelves, proved, settle, budget),
         Settled::Saturated(leaf) => {
             let reason = reason_of(alloc, asked, leaf)?;
             Ok(Finding::Deny(reason))
         }
         Settled::Spent(steps) => Ok(Finding::Deny(Reason::Spent(steps))),
+    }
+}
+
+/// What a proof of the question is worth: nothing where the told rows alone are shown to be in no
+/// database, by a search of at most `budget` due steps. Else it allows its question, and its
+/// template is kept.
+#[tactic(auto, using(crate::proofs::LearnLemmas::same_learns))]
+fn weigh<S: Settle>(
+    alloc: Global,
+    asked: &Asking<'_>,
+    shelves: &mut Shelves,
+    proved: Proved,
+    settle: &S,
+    budget: u32,
+) -> Result<Finding, AllocError>
+    requires fits { QuestionFits (seen asked.now).policy (seen asked.now).context
+        (seen asked.now).trace (seen asked.now).query }
+    requires limit { budget ≤ most_budget }
+    requires uncovered { Uncovered (seen asked.now) }
+    requires ends { Settles (effort_in (S.orders settle.now) budget) (question_of (seen asked.now))
+        (settled.Proved proved) }
+    ensures concludes { IfOk result
+        (Concludes (seen asked.now) (effort_in (S.orders settle.now) budget)) }
+    ensures first { (found : List Proof) → NoneServes (seen asked.now) found
+        → IfOk result (TakesFirst (seen asked.now) found) }
+    ensures learns { Learns shelves.old shelves.new }
+{
+    problem_is_question();
+    let found = contradiction(
+        alloc,
+        asked.policy,
+        asked.context,
+        asked.trace,
+        settle,
+        budget,
+    )?;
+    match found {
+        Some(steps) => Ok(Finding::Deny(Reason::Contradiction(steps))),
+        None => Ok(Finding::Allow(by_proof(alloc, shelves, proved))),
     }
 }
 

@@ -6,5 +6,5 @@ pub mod KeyLemmas
 pub mod LiveLemmas
 pub mod SoundLemmas
 pub mod ToldLemmas
-pub mod PlainLemmas
-pub mod ValueLemmas
+pub mod FoundLemmas
+pub mod RoomLemmas

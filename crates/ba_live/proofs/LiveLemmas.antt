@@ -10,7 +10,7 @@ use Rattle.ba_kernel.specs.Asked.{RecordFits}
 use Rattle.ba_model.specs.declared.policy.Context.{Context}
 use Rattle.ba_model.specs.declared.query.Query.{Query}
 use Rattle.ba_live.proofs.SoundLemmas.{Closes, Notes, Records, Starts, before_closes, before_leaves, before_more, before_notes, before_records, closes_sound, leaves_sound, notes_sound, records_sound, starts_sound, updates_sound}
-use Rattle.ba_live.specs.Askers.{asked_more, with_front}
+use Rattle.ba_live.specs.Askers.{asked_more, closed_now, with_front}
 use Rattle.ba_live.specs.Books.{LeavesAll, LeavesAsked, LeavesOpen, Opens, asked_at, many_open, open_at}
 use Rattle.ba_live.specs.Limits.{most_open_asks}
 use Rattle.ba_live.specs.Steps.{Stays}
@@ -36,6 +36,18 @@ counts_live next count name asker old new live stays is few opens asked many =
     record {
       sound = updates_sound name asker (asked_more count asker) old new live.sound stays
           (record { was_open = is; opens = opens; asked = asked; lines = refl; fits = record { context = fits.context; trace = fits.trace; few = few } })
+          many;
+      earlier = before_leaves next old new asked live.earlier;
+    }
+
+-- the request can only end
+pub shuts_live : (next : ℕ) (name : List ℕ) (asker : Open) (old new : Live) → IsLive next old → Stays old new → open_at old name ≡ Some asker
+    → Opens name (Some (closed_now asker)) old.requests new.requests → LeavesAsked old.questions new.questions → many_open new.requests ≡ many_open old.requests → IsLive next new
+shuts_live next name asker old new live stays is opens asked many =
+    let fits = live.sound.askers name asker is in
+    record {
+      sound = updates_sound name asker (closed_now asker) old new live.sound stays
+          (record { was_open = is; opens = opens; asked = asked; lines = refl; fits = record { context = fits.context; trace = fits.trace; few = fits.few } })
           many;
       earlier = before_leaves next old new asked live.earlier;
     }

@@ -16,6 +16,7 @@ use Rattle.ba_live.proofs.BookLemmas.At.{this, that}
 use Rattle.ba_live.specs.Askers.{new_open, with_line, with_told, without}
 use Rattle.ba_live.specs.Books.{Expects, Forgets, LeavesAll, LeavesAsked, Opens, asked_at, many_open, open_at, open_in, unless_of}
 use Rattle.ba_live.specs.Limits.{most_open, most_open_asks}
+use Rattle.ba_target.specs.Names.{Serves}
 use Rattle.ba_live.specs.Steps.{Stays}
 use Rattle.ba_live.specs.Wellformed.{AllBefore, IsAsker, IsListed, IsQuestion, IsServable, IsSound}
 use Rattle.ba_live.specs.declared.live.Live.{Live}
@@ -41,6 +42,7 @@ pub sound_again : (old new : Live) → IsSound old → Stays old new → Shown o
 sound_again old new sound stays shown =
     record {
       servable = subst IsServable (sym stays.policy) sound.servable;
+      serves = subst (λ t. Serves t new.policy.schema) (sym stays.target) (subst (λ (p : Policy). Serves old.target p.schema) (sym stays.policy) sound.serves);
       budget = subst (λ b. b ≤ most_budget) (sym stays.budget) sound.budget;
       few = shown.few;
       askers = λ name asker is. subst (λ p. IsAsker p asker) (sym stays.policy) (shown.askers name asker is);

@@ -1,5 +1,5 @@
 -- What becomes of an open request.
-use Rattle.std.specs.Prelude.{◌≡◌, ℕ, ◌+◌, ◌==◌, not, List, [], ◌∷◌, ◌++◌, take}
+use Rattle.std.specs.Prelude.{◌≡◌, ℕ, ◌+◌, ◌==◌, not, true, false, List, [], ◌∷◌, ◌++◌, take}
 use Rattle.std.specs.List.{filter}
 use Rattle.ba_comply.specs.declared.trace.TraceEntry.{TraceEntry}
 use Rattle.ba_model.specs.declared.policy.Context.{Context}
@@ -7,7 +7,12 @@ use Rattle.ba_live.specs.declared.open.Open.{Open}
 
 -- it has asked nothing and was told nothing
 abbrev pub new_open : Context → Open
-new_open context = record { context = context; trace = []; asks = 0; lines = [] }
+new_open context =
+    record { context = context; trace = []; asks = 0; lines = []; closed = false }
+
+-- it can only end
+abbrev pub closed_now : Open → Open
+closed_now it = record it { closed = true }
 
 -- it has asked so many questions more
 abbrev pub asked_more : ℕ → Open → Open

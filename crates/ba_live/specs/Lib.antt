@@ -5,5 +5,4 @@ pub mod Steps
 pub mod Subjects
 pub mod Wellformed
 pub mod Laws
-pub mod Plain
-pub mod ValueWords
+pub mod Contradicting

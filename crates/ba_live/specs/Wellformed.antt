@@ -8,6 +8,8 @@ use Rattle.ba_model.specs.Limits.{most_budget}
 use Rattle.ba_model.specs.RuleFaults.{RuleFits}
 use Rattle.ba_model.specs.SchemaFaults.{AreTables}
 use Rattle.ba_model.specs.declared.policy.Policy.{Policy}
+use Rattle.ba_target.specs.Names.{Serves}
+use Rattle.ba_target.specs.declared.target.Target.{Target}
 use Rattle.ba_live.specs.Books.{asked_at, many_open, open_at}
 use Rattle.ba_live.specs.Limits.{most_open, most_open_asks}
 use Rattle.ba_live.specs.declared.live.Live.{Live}
@@ -21,8 +23,10 @@ pub record IsServable (policy : Policy) : Type 0 where
   pub rules : All (RuleFits policy.schema) policy.schema.rules
 
 -- a service of the policy in which nothing is open, and on whose shelves these templates were put
-pub record IsFresh (policy : Policy) (loaded : List Proof) (budget : ℕ) (it : Live) : Type 0 where
+pub record IsFresh (policy : Policy) (target : Target) (loaded : List Proof) (budget : ℕ)
+    (it : Live) : Type 0 where
   pub policy_is : it.policy ≡ policy
+  pub target_is : it.target ≡ target
   pub budget_is : it.budget ≡ budget
   pub shelves : AreTaken loaded it.shelves
   pub nothing_open : (name : List ℕ) → open_at it name ≡ None
@@ -50,6 +54,7 @@ pub record IsListed (it : Live) (name : List ℕ) (line : ℕ) : Type 0 where
 
 pub record IsSound (it : Live) : Type 0 where
   pub servable : IsServable it.policy
+  pub serves : Serves it.target it.policy.schema
   pub budget : it.budget ≤ most_budget
   pub few : many_open it.requests ≤ most_open
   pub askers : (name : List ℕ) (asker : Open) → open_at it name ≡ Some asker →

@@ -4,21 +4,27 @@ ghost use Rattle.ba_judge.specs.Judging.{effort_in};
 ghost use Rattle.ba_judge.specs.Shelves.{Learns};
 ghost use Rattle.ba_live.specs.Askers.{with_line};
 ghost use Rattle.ba_live.specs.Books.{Expects, LeavesAll, MayAsk, Opens, asked_at, many_open, open_at};
-ghost use Rattle.ba_live.specs.Steps.{DecidesAsk, Stays};
+ghost use Rattle.ba_live.specs.Steps.{DecidesAsk, SaysContradiction, Stays};
 ghost use Rattle.ba_live.specs.Wellformed.{IsLive};
 ghost use Rattle.ba_live.specs.declared.open.Open.{Open};
 
 use crate::decision::{Decision, Refusal};
 use crate::live::Live;
 use crate::open::{Asked, MAX_OPEN_ASKS};
-use crate::plain::is_plain;
 use crate::step::refused;
-use crate::value_word::has_value_word;
-use ba_judge::{Asking, Judgement, judge};
+use ba_judge::{Asking, Judgement, Reason, judge};
 use ba_model::{Duplicate, Failure, Query, Shared, Str};
+use ba_send::{Unsendable, sent_text};
 use ba_settle::Settle;
 use ba_sql_query::read_query;
 use std::alloc::{AllocError, Global};
+
+// Whether it says that what was told contradicts itself.
+fn is_contradiction(reason: &Reason) -> bool
+    ensures { SaysContradiction result reason.now }
+{
+    matches!(reason, Reason::Contradiction(_))
+}
 
 impl Live {
     /// The question is judged after what its request was told.
@@ -43,12 +49,8 @@ impl Live {
         let Some(open) = self.requests.get(name) else {
             return Ok(refused(Refusal::Unbegun));
         };
-        if !is_plain(text.as_str()) {
-            return Ok(refused(Refusal::Comment));
-        }
-        let has_value = has_value_word(alloc, text.as_str())?;
-        if has_value {
-            return Ok(refused(Refusal::ValueWord));
+        if open.closed {
+            return Ok(refused(Refusal::Closed));
         }
         if open.asks >= MAX_OPEN_ASKS {
             return Ok(refused(Refusal::Asks));
@@ -62,6 +64,12 @@ impl Live {
             }
             Err(Failure::NoMemory) => return Err(AllocError),
         };
+        let send = match sent_text(alloc, &self.target, &self.policy, &open.context, &query) {
+            Ok(text) => Str::from_string(text),
+            Err(Failure::Fault(Unsendable::ZeroByte)) => return Ok(refused(Refusal::ZeroByte)),
+            Err(Failure::Fault(Unsendable::TooLong)) => return Ok(refused(Refusal::LongSend)),
+            Err(Failure::NoMemory) => return Err(AllocError),
+        };
         let asking = Asking {
             policy: &self.policy,
             context: &open.context,
@@ -70,11 +78,15 @@ impl Live {
         };
         let judgement = judge(alloc, &asking, &mut self.shelves, settle, self.budget)?;
         match judgement {
-            Judgement::Allowed(allowed) => {
+            Judgement::Allowed(by) => {
                 self.expect(alloc, line, name, query)?;
-                Ok(Decision::Allowed(allowed))
+                Ok(Decision::Allowed { by, send })
             }
             Judgement::Blocked(reason) => {
+                if is_contradiction(&reason) {
+                    self.requests.shut(name);
+                    return Ok(Decision::Contradiction);
+                }
                 self.requests.count(name, 1);
                 Ok(Decision::Blocked(reason))
             }

@@ -1,7 +1,7 @@
 //! What is open, by its name or its line.
 ghost use Rattle.std.specs.Prelude.{◌≡◌, ◌≤◌, ◌+◌, ℕ, IfOk, OnOk, OnErr, List as Sequence, is_some};
 ghost use Rattle.std.specs.Option.{option_copied};
-ghost use Rattle.ba_live.specs.Askers.{asked_more, with_line, with_told};
+ghost use Rattle.ba_live.specs.Askers.{asked_more, closed_now, with_line, with_told};
 ghost use Rattle.ba_live.specs.Books.{Expects, ForgetsAll, HasFront, LeavesAsked, LeavesOpen, MayAsk, Opens, asked_in, many_open, open_in};
 ghost use Rattle.ba_live.specs.declared.open.Open.{Open as Asker};
 
@@ -70,6 +70,17 @@ impl Requests {
         ensures many { many_open self.new ≤ many_open self.old }
     {
         self.by_name.remove(name)
+    }
+
+    /// The open request can only end from now on.
+    pub(crate) fn shut(&mut self, name: &Str)
+        ensures closes { (asker : Asker) → open_in self.old name.now ≡ Some asker
+            → Opens name.now (Some (closed_now asker)) self.old self.new }
+        ensures many { many_open self.new ≡ many_open self.old }
+    {
+        if let Some(open) = self.by_name.get_mut(name) {
+            open.close();
+        }
     }
 
     /// The open request has asked so many questions more.

@@ -21,6 +21,9 @@ pub enum Refusal {
     Begun,
     /// It asks, reads or ends a request whose name isn't open.
     Unbegun,
+    /// It asks, reads or tells of a request that was closed, since what it was told contradicts
+    /// itself.
+    Closed,
     /// Its context lacks a parameter, has another name, or a value that isn't of its parameter's
     /// kind.
     Context,
@@ -30,14 +33,12 @@ pub enum Refusal {
     Key,
     /// Its arguments lack one of the key's, have another name, or a value that isn't of its kind.
     Args,
-    /// It asks in a text that has a comment or a byte 0. Databases differ in where a comment begins
-    /// and ends, and some end a text at that byte.
-    Comment,
-    /// It asks in a text in which a word stands unquoted, and no dot directly before it, that
-    /// databases read as a value, such as CURRENT_DATE. The reader takes it for a name.
-    ValueWord,
     /// It asks, or reads a key, where its request would come to more questions than it may ask.
     Asks,
+    /// It asks a question with a text that has the byte 0, which databases don't take.
+    ZeroByte,
+    /// It asks a question whose text for the database would have too many bytes.
+    LongSend,
     /// It tells rows of a line that is no allowed question of an open request, or was told.
     Unasked,
     /// It tells more rows of a question than may be.
@@ -51,8 +52,8 @@ pub enum Refusal {
 pub enum Decision {
     /// The request is open.
     Begun,
-    /// The question may be put to the database. Its rows may be told.
-    Allowed(Allowed),
+    /// The question may be put to the database, by this text. Its rows may be told.
+    Allowed { by: Allowed, send: Str },
     /// The question may not be put to the database.
     Blocked(Reason),
     /// The text reads as no query: its first fault.
@@ -61,6 +62,9 @@ pub enum Decision {
     Read(Read),
     /// The rows are recorded.
     Told,
+    /// What the request was told, with the rows of this line if it tells some, can be in no
+    /// database. The request is closed: from now on it can only end.
+    Contradiction,
     /// The request is gone, with all that it was told.
     Ended,
     /// There was no memory.

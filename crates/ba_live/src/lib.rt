@@ -4,15 +4,15 @@
 
 mod ask;
 mod books;
+mod contradict;
 mod decision;
 pub mod laws;
 mod live;
 mod open;
-mod plain;
 mod read;
 mod step;
-mod value_word;
 
+pub use contradict::{MAX_SEARCHED_ROWS, MAX_SEARCHED_STEPS};
 pub use decision::{Decision, Refusal, Subject};
 pub use live::{Live, MAX_OPEN, MAX_TOLD_ROWS};
 pub use open::{Asked, Lines, MAX_OPEN_ASKS, Open};

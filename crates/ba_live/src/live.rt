@@ -4,6 +4,7 @@ use crate::books::{Questions, Requests};
 use crate::open::{Asked, Open};
 use ba_judge::Shelves;
 use ba_model::{Duplicate, List, Policy, Shared, Str};
+use ba_target::Target;
 use ba_template::Template;
 use std::alloc::{AllocError, Global};
 
@@ -18,6 +19,7 @@ pub const MAX_TOLD_ROWS: usize = 100_000;
 #[derive(Drop)]
 pub struct Live {
     pub(crate) policy: Shared<Policy>,
+    pub(crate) target: Target,
     pub(crate) budget: u32,
     pub(crate) shelves: Shelves,
     pub(crate) requests: Requests,
@@ -30,17 +32,21 @@ impl Live {
     ghost use Rattle.ba_model.specs.Limits.{most_budget};
     ghost use Rattle.ba_live.specs.Books.{asked_at, open_at};
     ghost use Rattle.ba_live.specs.Wellformed.{IsFresh, IsLive, IsServable};
+    ghost use Rattle.ba_target.specs.Names.{Serves};
 
-    /// A service of the policy in which nothing is open; its searches take at most `budget` due
-    /// steps. The templates are on its shelves, put there in their order.
+    /// A service of the policy in which nothing is open, for questions to this database; its
+    /// searches take at most `budget` due steps. The templates are on its shelves, put there in
+    /// their order.
     pub fn new(
         alloc: Global,
         policy: Shared<Policy>,
+        target: Target,
         loaded: &List<Shared<Template>>,
         budget: u32,
     ) -> Result<Live, AllocError>
-        ensures fresh { IfOk result (IsFresh policy loaded.now budget) }
-        ensures live { IsServable policy → budget ≤ most_budget → IfOk result (IsLive 1) }
+        ensures fresh { IfOk result (IsFresh policy target loaded.now budget) }
+        ensures live { IsServable policy → Serves target policy.schema → budget ≤ most_budget →
+            IfOk result (IsLive 1) }
     {
         let mut shelves = Shelves::new(alloc)?;
         for template in loaded.as_slice() {
@@ -49,11 +55,19 @@ impl Live {
         }
         Ok(Live {
             policy,
+            target,
             budget,
             shelves,
             requests: Requests::new(alloc),
             questions: Questions::new(alloc),
         })
+    }
+
+    /// The database that questions are sent to.
+    pub fn target(&self) -> &Target
+        ensures { result.now ≡ self.now.target }
+    {
+        &self.target
     }
 
     /// The policy.

@@ -1,6 +1,6 @@
 //! Requests that are open.
 ghost use Rattle.std.specs.Prelude.{◌≡◌, ◌≤◌, ◌+◌, [], ◌∷◌, ◌++◌, OnOk, OnErr};
-ghost use Rattle.ba_live.specs.Askers.{IsFrontOf, asked_more, new_open, with_line, with_told, without};
+ghost use Rattle.ba_live.specs.Askers.{IsFrontOf, asked_more, closed_now, new_open, with_line, with_told, without};
 ghost use Rattle.ba_live.specs.Limits.{most_open_asks};
 
 use ba_comply::{Trace, TraceEntry};
@@ -57,13 +57,15 @@ impl Lines {
 }
 
 /// A request that is open: its context, the questions that rows were told of, with these rows, how
-/// many questions it asked, and the lines of its questions that may still be told.
+/// many questions it asked, the lines of its questions that may still be told, and whether it was
+/// closed, since what it was told contradicts itself.
 #[derive(Drop)]
 pub struct Open {
     pub context: Context,
     pub trace: Trace,
     pub asks: u32,
     pub lines: Lines,
+    pub closed: bool,
 }
 
 /// An allowed question that may still be told: the name of its request, and the question.
@@ -83,7 +85,15 @@ impl Open {
             trace: Trace::new(alloc),
             asks: 0,
             lines: Lines::new(alloc),
+            closed: false,
         }
+    }
+
+    /// It can only end from now on.
+    pub(crate) fn close(&mut self)
+        ensures { self.new ≡ closed_now self.old }
+    {
+        self.closed = true;
     }
 
     /// It has asked so many questions more.

@@ -6,14 +6,14 @@ ghost use Rattle.ba_judge.specs.Judging.{effort_in};
 ghost use Rattle.ba_judge.specs.Shelves.{Learns};
 ghost use Rattle.ba_live.specs.Books.{LeavesAll};
 ghost use Rattle.ba_live.specs.Limits.{most_open_asks};
-ghost use Rattle.ba_live.specs.Steps.{DecidesRead, Stays, key_named};
+ghost use Rattle.ba_live.specs.Steps.{Contradicts, DecidesRead, Stays, key_named};
 ghost use Rattle.ba_live.specs.Wellformed.{IsLive, IsSound};
 
 use crate::decision::{Decision, Refusal};
 use crate::live::Live;
 use crate::open::MAX_OPEN_ASKS;
 use crate::step::refused;
-use ba_judge::{Reading, judge_read};
+use ba_judge::{Read, Reading, Reason, judge_read};
 use ba_model::{CacheKey, List, Str};
 use ba_script::{Member, context_of};
 use ba_settle::Settle;
@@ -35,6 +35,19 @@ fn key_named<'a>(keys: &'a [CacheKey], name: &Str) -> Option<&'a CacheKey>
         }
     }
     None
+}
+
+// Whether a query of the key is blocked since what was told contradicts itself.
+fn contradicts(read: &Read) -> bool
+    ensures { Contradicts result read.now }
+{
+    match read {
+        Read::Blocked {
+            reason: Reason::Contradiction(_),
+            ..
+        } => true,
+        _ => false,
+    }
 }
 
 // So many questions, if a request that asked so many may ask them too.
@@ -72,6 +85,9 @@ impl Live {
         let Some(open) = self.requests.get(name) else {
             return Ok(refused(Refusal::Unbegun));
         };
+        if open.closed {
+            return Ok(refused(Refusal::Closed));
+        }
         let Some(key) = key_named(self.policy.keys.as_slice(), key) else {
             return Ok(refused(Refusal::Key));
         };
@@ -90,6 +106,10 @@ impl Live {
             arguments: &arguments,
         };
         let read = judge_read(alloc, &reading, &mut self.shelves, settle, self.budget)?;
+        if contradicts(&read) {
+            self.requests.shut(name);
+            return Ok(Decision::Contradiction);
+        }
         self.requests.count(name, asks);
         Ok(Decision::Read(read))
     }

@@ -6,6 +6,7 @@ ghost use Rattle.ba_live.specs.Books.{LeavesAll};
 ghost use Rattle.ba_live.specs.Steps.{Decides, DecidesBegin, DecidesEnd, DecidesTold, LacksTold, Stays};
 ghost use Rattle.ba_live.specs.Wellformed.{IsLive, IsSound};
 
+use crate::contradict::finds_contradiction;
 use crate::decision::{Decision, Refusal};
 use crate::live::{Live, MAX_OPEN, MAX_TOLD_ROWS};
 use crate::open::Open;
@@ -34,7 +35,10 @@ impl Live {
     ///   only where a part is blocked.
     /// - Of a cache key each query is judged so, in order, up to the first that is blocked. Each
     ///   counts as a question.
-    /// - Told rows join what the request of their question was told, and of no other request.
+    /// - Told rows join what the request of their question was told, and of no other request. Where
+    ///   they are found to contradict it, or each other, they don't, and the request is closed: from
+    ///   then on it can only end. So it is where a search finds a proof of a question, and another
+    ///   shows that what was told alone can be in no database.
     /// - The end of a request forgets all that is kept of it.
     ///
     /// On the shelves shapes come to the front, and templates of proofs are added; none is lost but
@@ -59,7 +63,7 @@ impl Live {
             Event::Begin { name, context } => self.begin(alloc, name, &context),
             Event::Ask { name, query } => self.ask(alloc, settle, line, &name, &query),
             Event::Read { name, key, args } => self.read(alloc, settle, &name, &key, &args),
-            Event::Told { line, rows } => self.told(alloc, line, rows),
+            Event::Told { line, rows } => self.told(alloc, settle, line, rows),
             Event::End { name } => Ok(self.end(&name)),
         };
         match decided {
@@ -97,10 +101,18 @@ impl Live {
         Ok(Decision::Begun)
     }
 
-    // The rows of the allowed question of this line join its request's trace.
-    fn told(&mut self, alloc: Global, line: u64, rows: List<Row>) -> Result<Decision, AllocError>
+    // The rows of the allowed question of this line join its request's trace, unless they are found
+    // to contradict it.
+    fn told<S: Settle>(
+        &mut self,
+        alloc: Global,
+        settle: &S,
+        line: u64,
+        rows: List<Row>,
+    ) -> Result<Decision, AllocError>
         requires sound { IsSound self.old }
-        ensures decides { IfOk result (λ it. DecidesTold line rows it self.old self.new) }
+        ensures decides { IfOk result (λ it. DecidesTold
+            (effort_in (S.orders settle.now) self.old.budget) line rows it self.old self.new) }
         ensures err { OnErr result (LacksTold line rows self.old self.new) }
         ensures same { Stays self.old self.new }
         ensures shelves { self.new.shelves ≡ self.old.shelves }
@@ -112,6 +124,9 @@ impl Live {
         let Some(open) = self.requests.get(&asked.name) else {
             return Ok(refused(Refusal::Unasked));
         };
+        if open.closed {
+            return Ok(refused(Refusal::Closed));
+        }
         if rows.len() > MAX_TOLD_ROWS {
             return Ok(refused(Refusal::Rows));
         }
@@ -121,6 +136,18 @@ impl Live {
             Err(Failure::Fault(_)) => return Ok(refused(Refusal::Misfit)),
             Err(Failure::NoMemory) => return Err(AllocError),
         };
+        let found = finds_contradiction(
+            alloc,
+            &self.policy,
+            open,
+            entries.as_slice(),
+            settle,
+            self.budget,
+        )?;
+        if found {
+            self.requests.shut(&asked.name);
+            return Ok(Decision::Contradiction);
+        }
         self.requests.record(&asked.name, line, entries)?;
         self.questions.forget(line);
         Ok(Decision::Told)

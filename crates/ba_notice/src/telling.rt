@@ -8,6 +8,7 @@ use crate::usage::words_text;
 use ba_hints::Hint;
 use ba_input::Detail;
 use ba_model::Counted;
+use ba_place::{WORD_CHARS, shown};
 use ba_wire::{Fault, Reason};
 use std::alloc::{AllocError, Global};
 use std::rt::Files;
@@ -69,6 +70,28 @@ fn unread_text<R: Files + AllocGlobal>(
     hint.line(alloc, file, &[])
 }
 
+// What is told of a schema whose names the database that questions are sent to doesn't keep apart.
+fn names_text(alloc: Global, file: &str, reason: &Reason) -> Result<String, AllocError> {
+    let text = match reason {
+        Reason::Unnameable { name } => {
+            let name = shown(alloc, name.as_bytes(), WORD_CHARS)?;
+            format!(in alloc;
+                "the database has no name such as {name}: PostgreSQL cuts one off behind 63 bytes, MySQL takes at most 64; --database says which it is"
+            )?
+        }
+        Reason::Alike { one, other } => {
+            let one = shown(alloc, one.as_bytes(), WORD_CHARS)?;
+            let other = shown(alloc, other.as_bytes(), WORD_CHARS)?;
+            format!(in alloc;
+                "the database doesn't tell {one} from {other}: SQLite and MySQL compare names without regard to the case of their letters; --database says which it is"
+            )?
+        }
+        _ => String::new(alloc),
+    };
+    let hint = Hint::plain(alloc, text.as_str())?;
+    hint.line(alloc, file, &[])
+}
+
 // What is told of a file that has no reading, or of a set of tables that breaks a rule.
 fn input_text<R: Files + AllocGlobal>(
     reads: &Reads<'_, R>,
@@ -80,6 +103,9 @@ fn input_text<R: Files + AllocGlobal>(
     }
     if let Reason::Template { line, reason } = reason {
         return reads.template_text(file, *line, reason);
+    }
+    if let Reason::Unnameable { .. } | Reason::Alike { .. } = reason {
+        return names_text(reads.rt.alloc(), file, reason);
     }
     let part = Part::of_reason(reads.asked.len(), reason);
     match part {

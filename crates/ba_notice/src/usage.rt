@@ -28,13 +28,19 @@ static GEN_TAKES: [&str; 2] = ["--workers", "--print"];
 
 static DECIDE_NEEDS: [&str; 2] = ["--schema", "--policy"];
 
-static DECIDE_TAKES: [&str; 3] = ["--load", "--budget", "--evidence"];
+static DECIDE_TAKES: [&str; 5] = [
+    "--load",
+    "--budget",
+    "--evidence",
+    "--database",
+    "--namespace",
+];
 
 static AUDIT_NEEDS: [&str; 5] = ["--schema", "--policy", "--tables", "--script", "--output"];
 
 // How all commands are written.
 const USAGE: &str =
-    "usage: blockaid run --schema S --policy P --tables D --script F [--load T] [--proofs] [--workers N] [--budget B] [--orders K], blockaid store with the options of run but --load and --proofs, blockaid check --schema S --policy P --proof F, blockaid gen --seed N --requests R [--workers N] [--print], blockaid audit --schema S --policy P --tables D --script F --output O, or blockaid decide --schema S --policy P [--load T] [--budget B] [--evidence]";
+    "usage: blockaid run --schema S --policy P --tables D --script F [--load T] [--proofs] [--workers N] [--budget B] [--orders K], blockaid store with the options of run but --load and --proofs, blockaid check --schema S --policy P --proof F, blockaid gen --seed N --requests R [--workers N] [--print], blockaid audit --schema S --policy P --tables D --script F --output O, or blockaid decide --schema S --policy P [--load T] [--budget B] [--evidence] [--database D] [--namespace N]";
 
 // The option of a word: what stands before its `=`.
 fn option_of(word: &str) -> &str {
@@ -93,7 +99,7 @@ impl Form {
                 "usage: blockaid audit --schema S --policy P --tables D --script F --output O"
             }
             Form::Decide => {
-                "usage: blockaid decide --schema S --policy P [--load T] [--budget B] [--evidence], B from 16 to 100000"
+                "usage: blockaid decide --schema S --policy P [--load T] [--budget B] [--evidence] [--database D] [--namespace N], B from 16 to 100000, D postgresql, sqlite or mysql"
             }
         }
     }

@@ -1,12 +1,12 @@
-mod DoubledLemmas
-mod ListLemmas
-mod TokenLemmas
-mod SpellsLemmas
-mod StandsLemmas
-mod PrintedLemmas
-mod WritableLemmas
-mod WrittenLemmas
-mod SupportedLemmas
-mod PlaceLemmas
-mod MeansLemmas
-mod ReadsLemmas
+pub mod DoubledLemmas
+pub mod ListLemmas
+pub mod TokenLemmas
+pub mod SpellsLemmas
+pub mod StandsLemmas
+pub mod PrintedLemmas
+pub mod WritableLemmas
+pub mod WrittenLemmas
+pub mod SupportedLemmas
+pub mod PlaceLemmas
+pub mod MeansLemmas
+pub mod ReadsLemmas

@@ -146,6 +146,8 @@ reason_text (reason.Line line why) = codes "line" ␣ decimal line ␣ line_name
 reason_text reason.Json = codes "json"
 reason_text (reason.Field name) = codes "field" ␣ name
 reason_text (reason.Template line why) = codes "line" ␣ decimal line ␣ template_fault_text why
+reason_text (reason.Unnameable name) = codes "unnameable" ␣ name
+reason_text (reason.Alike one other) = codes "alike" ␣ one ␣ other
 
 abbrev pub what_name : Counted → List ℕ
 what_name what.TextBytes = codes "bytes"

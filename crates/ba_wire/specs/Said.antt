@@ -15,8 +15,8 @@ use Rattle.ba_wire.specs.declared.said.SaidLine.TheVariants as lines
 pub data Said : Type 0 where
   -- the request begins at this line
   begun : (request : List ℕ) (line : ℕ) → Said
-  -- the question of this line may be put to the database
-  allowed : By → (line : ℕ) (request : List ℕ) → Said
+  -- the question of this line may be put to the database, by this text
+  allowed : By → (line : ℕ) (request send : List ℕ) → Said
   blocked : Block → (line : ℕ) (request : List ℕ) → Said
   -- the request may read the key: what each of the key's queries rests on
   allowed_read : List By → (key : List ℕ) (line : ℕ) (request : List ℕ) → Said
@@ -30,7 +30,7 @@ pub data Said : Type 0 where
 
 abbrev pub said : SaidLine → Said
 said (lines.Begun request line) = begun request.now line
-said (lines.Allowed by line request) = allowed by line request.now
+said (lines.Allowed by line request send) = allowed by line request.now send.now
 said (lines.Blocked why line request) = blocked why line request.now
 said (lines.AllowedRead by key line request) = allowed_read by.now key.now line request.now
 said (lines.BlockedRead why key line query request) =
@@ -43,10 +43,11 @@ unfoldable pub said_json : Said → Data
 said_json (begun request line) =
     object (member (codes "begin") (string request)
     (member (codes "line") (count line) no_members))
-said_json (allowed by line request) =
+said_json (allowed by line request send) =
     object (member (codes "allowed") (string (by_name by))
     (member (codes "line") (count line)
-    (member (codes "request") (string request) no_members)))
+    (member (codes "request") (string request)
+    (member (codes "send") (string send) no_members))))
 said_json (blocked Refuted line request) =
     object (member (codes "blocked") (string (block_name Refuted))
     (member (codes "line") (count line)

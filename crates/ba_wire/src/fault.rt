@@ -76,6 +76,10 @@ pub enum Reason {
     Field { name: Str },
     /// A line of a template file is none. Lines are numbered from 1.
     Template { line: u64, reason: TemplateFault },
+    /// The database that questions are sent to keeps no such name.
+    Unnameable { name: Str },
+    /// Two tables, or two columns of a table, have names that are one for that database.
+    Alike { one: Str, other: Str },
 }
 
 /// What ended a run before its first line.
@@ -160,6 +164,8 @@ impl Reason {
             Reason::Json => String::from_str(alloc, "json"),
             Reason::Field { name } => format!(in alloc; "field {name}"),
             Reason::Template { line, reason } => template_line_text(alloc, *line, reason),
+            Reason::Unnameable { name } => format!(in alloc; "unnameable {name}"),
+            Reason::Alike { one, other } => format!(in alloc; "alike {one} {other}"),
         }
     }
 }

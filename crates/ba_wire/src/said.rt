@@ -23,11 +23,12 @@ pub enum SaidLine<'a> {
         begin: &'a Str,
         line: u64,
     },
-    /// The question may be put to the database.
+    /// The question may be put to the database, by this text.
     Allowed {
         by: By,
         line: u64,
         request: &'a Str,
+        send: &'a Str,
     },
     Blocked {
         blocked: Block,
@@ -74,13 +75,20 @@ fn begun_object(alloc: Global, request: &Str, line: u64) -> Result<Object, Alloc
         .with_count("line", line)
 }
 
-fn allowed_object(alloc: Global, by: By, line: u64, request: &Str) -> Result<Object, AllocError>
-    ensures { IfOk result (λ it. made it ≡ said_json (allowed by line request.now)) }
+fn allowed_object(
+    alloc: Global,
+    by: By,
+    line: u64,
+    request: &Str,
+    send: &Str,
+) -> Result<Object, AllocError>
+    ensures { IfOk result (λ it. made it ≡ said_json (allowed by line request.now send.now)) }
 {
     Object::new(alloc)
         .with_text("allowed", by.name())?
         .with_count("line", line)?
-        .with_text("request", request.as_str())
+        .with_text("request", request.as_str())?
+        .with_text("send", send.as_str())
 }
 
 fn blocked_object(alloc: Global, why: Block, line: u64, request: &Str) -> Result<Object, AllocError>
@@ -211,9 +219,12 @@ pub fn said_text(alloc: Global, line: &SaidLine) -> Result<String, AllocError>
 {
     match line {
         SaidLine::Begun { begin, line } => begun_object(alloc, begin, *line)?.line(),
-        SaidLine::Allowed { by, line, request } => {
-            allowed_object(alloc, *by, *line, request)?.line()
-        }
+        SaidLine::Allowed {
+            by,
+            line,
+            request,
+            send,
+        } => allowed_object(alloc, *by, *line, request, send)?.line(),
         SaidLine::Blocked {
             blocked,
             line,

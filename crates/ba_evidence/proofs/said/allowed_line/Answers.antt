@@ -12,11 +12,11 @@ use Rattle.ba_evidence.proofs.said.allowed_line.Goals as goal
 pub returns-clause-text : goal.returns-clause-text
 returns-clause-text c =
     let is = c.in_ok-value.ensures in
-    let whole = allowed_whole c.args.params.now c.args.by (basis c.args.it.now) c.args.line c.args.request.now in
+    let whole = allowed_whole c.args.params.now c.args.by (basis c.args.it.now) c.args.line c.args.request.now c.args.send.now in
     IfOk-weaker c.line_of.result _ _ (λ s h. h (ap has_float is ∙ whole) ∙ ap json_line is) c.line_of.ensures.text
 
 pub returns-clause-reads_back : goal.returns-clause-reads_back
 returns-clause-reads_back c =
     let is = c.in_ok-value.ensures in
-    let flat = allowed_flat c.args.params.now c.args.by (basis c.args.it.now) c.args.line c.args.request.now in
+    let flat = allowed_flat c.args.params.now c.args.by (basis c.args.it.now) c.args.line c.args.request.now c.args.send.now in
     IfOk-weaker c.line_of.result _ _ (λ s h. subst (ReadsBack (string_bytes s)) is (h (subst (λ d. depth d ≤ max_depth) (sym is) flat))) c.line_of.ensures.reads_back

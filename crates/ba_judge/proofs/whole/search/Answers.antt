@@ -1,14 +1,12 @@
-use Rattle.ba_judge.proofs.JudgeLemmas.{leaf_at, problem_at, proved_at, proved_of_question, settles_at}
+use Rattle.ba_judge.proofs.JudgeLemmas.{leaf_at, problem_at, settles_at}
 use Rattle.ba_judge.specs.Judging.{effort_in, seen}
 use Rattle.ba_settle.specs.declared.ends.Settled.TheVariants as settled
 use Rattle.ba_judge.proofs.whole.search.Goals as goal
 
-pub by_proof-requires : goal.by_proof-requires
-by_proof-requires g c = record {
-  question =
-      proved_of_question (seen c.args.asked.now) (effort_in (g.S.Settle.orders c.args.settle.now) c.args.budget) c.in_ok-problem.problem c.in_ok-problem.ensures.is c.in_ok-settled.settled c.in_ok-settled.ensures
-      c.in-Proved.proved c.in-Proved.is c.requires.fits;
-}
+pub weigh-requires-clause-ends : goal.weigh-requires-clause-ends
+weigh-requires-clause-ends g c =
+    settles_at (seen c.args.asked.now) (effort_in (g.S.Settle.orders c.args.settle.now) c.args.budget) c.in_ok-problem.problem c.in_ok-problem.ensures.is c.in_ok-settled.settled c.in_ok-settled.ensures
+    (settled.Proved c.in-Proved.proved) c.in-Proved.is
 
 pub reason_of-requires-clause-problem : goal.reason_of-requires-clause-problem
 reason_of-requires-clause-problem g c =
@@ -19,11 +17,6 @@ pub reason_of-requires-clause-leaf : goal.reason_of-requires-clause-leaf
 reason_of-requires-clause-leaf g c =
     leaf_at (seen c.args.asked.now) (effort_in (g.S.Settle.orders c.args.settle.now) c.args.budget) c.in_ok-problem.problem c.in_ok-problem.ensures.is c.in_ok-settled.settled c.in_ok-settled.ensures
     c.in-Saturated.leaf c.in-Saturated.is c.settled_are_leaves.ensures
-
-pub returns-in-Proved-clause-concludes : goal.returns-in-Proved-clause-concludes
-returns-in-Proved-clause-concludes g c =
-    proved_at (seen c.args.asked.now) (effort_in (g.S.Settle.orders c.args.settle.now) c.args.budget) c.in_ok-problem.problem c.in_ok-problem.ensures.is c.in_ok-settled.settled c.in_ok-settled.ensures
-    c.in-Proved.proved c.by_proof.result c.in-Proved.is c.by_proof.ensures.by c.problem_is_question.ensures c.requires.fits c.requires.uncovered c.by_proof.ensures.strong
 
 pub returns-in-Spent-clause-concludes : goal.returns-in-Spent-clause-concludes
 returns-in-Spent-clause-concludes g c = record {

@@ -1,7 +1,7 @@
 use Rattle.std.proofs.Common.{rules, ◌≡◌, ◌∙◌, Some, refl, sym, ap, arith}
 use Rattle.std.specs.Option.{option_copied}
 use Rattle.ba_live.proofs.AskLemmas.{query_moves, question_fits}
-use Rattle.ba_live.proofs.LiveLemmas.{counts_live, fresh_line, leaves_live, live_more, notes_live}
+use Rattle.ba_live.proofs.LiveLemmas.{counts_live, fresh_line, leaves_live, live_more, notes_live, shuts_live}
 use Rattle.ba_live.specs.Books.{open_at}
 use Rattle.ba_live.proofs.live.Live.ask.Goals as goal
 
@@ -11,7 +11,7 @@ returns-in-Err-Fault-clause-live g c =
     let asker = c.in-Some.open.now in
     let is : open_at old c.args.name.now ≡ Some asker = sym c.get.ensures ∙ ap option_copied c.in-Some.is in
     live_more c.args.line _
-    (counts_live c.args.line 1 c.args.name.now asker old _ c.requires.live (record { policy = refl; budget = refl }) is (omega arith) (c.count.ensures.counts asker is) (record { each = λ line. refl }) c.count.ensures.many)
+    (counts_live c.args.line 1 c.args.name.now asker old _ c.requires.live (record { policy = refl; budget = refl; target = refl }) is (omega arith) (c.count.ensures.counts asker is) (record { each = λ line. refl }) c.count.ensures.many)
 
 pub judge-requires-clause-fits : goal.judge-requires-clause-fits
 judge-requires-clause-fits g c =
@@ -25,7 +25,7 @@ pub returns-in_err-judgement-clause-live : goal.returns-in_err-judgement-clause-
 returns-in_err-judgement-clause-live g c =
     let old = c.args.self.now in
     live_more c.args.line _
-    (leaves_live c.args.line old _ c.requires.live (record { policy = refl; budget = refl }) (record { requests = record { each = λ name. refl }; questions = record { each = λ line. refl } }) refl)
+    (leaves_live c.args.line old _ c.requires.live (record { policy = refl; budget = refl; target = refl }) (record { requests = record { each = λ name. refl }; questions = record { each = λ line. refl } }) refl)
 
 pub returns-in_err-expect-in-Allowed-clause-live : goal.returns-in_err-expect-in-Allowed-clause-live
 returns-in_err-expect-in-Allowed-clause-live g c =
@@ -33,7 +33,7 @@ returns-in_err-expect-in-Allowed-clause-live g c =
     let same = c.expect.ensures.same in
     let leaves = c.in_err-expect-in-Allowed.ensures.err in
     live_more c.args.line _
-    (leaves_live c.args.line old _ c.requires.live (record { policy = same.policy; budget = same.budget }) (record { requests = leaves.requests; questions = leaves.questions }) c.expect.ensures.many)
+    (leaves_live c.args.line old _ c.requires.live (record { policy = same.policy; budget = same.budget; target = same.target }) (record { requests = leaves.requests; questions = leaves.questions }) c.expect.ensures.many)
 
 pub returns-in_ok-expect-in-Allowed-clause-live : goal.returns-in_ok-expect-in-Allowed-clause-live
 returns-in_ok-expect-in-Allowed-clause-live g c =
@@ -41,7 +41,7 @@ returns-in_ok-expect-in-Allowed-clause-live g c =
     let asker = c.in-Some.open.now in
     let is : open_at old c.args.name.now ≡ Some asker = sym c.get.ensures ∙ ap option_copied c.in-Some.is in
     let same = c.expect.ensures.same in
-    notes_live c.args.line c.args.name.now c.in_ok-query-in-Ok.query asker old _ c.requires.live (record { policy = same.policy; budget = same.budget })
+    notes_live c.args.line c.args.name.now c.in_ok-query-in-Ok.query asker old _ c.requires.live (record { policy = same.policy; budget = same.budget; target = same.target })
     (record {
       was_open = is;
       opens = c.in_ok-expect-in-Allowed.ensures.opens asker is;
@@ -52,46 +52,33 @@ returns-in_ok-expect-in-Allowed-clause-live g c =
     })
     c.expect.ensures.many
 
-pub returns-in-Blocked-clause-live : goal.returns-in-Blocked-clause-live
-returns-in-Blocked-clause-live g c =
+pub returns-then-is_contradiction-clause-live : goal.returns-then-is_contradiction-clause-live
+returns-then-is_contradiction-clause-live g c =
     let old = c.args.self.now in
     let asker = c.in-Some.open.now in
     let is : open_at old c.args.name.now ≡ Some asker = sym c.get.ensures ∙ ap option_copied c.in-Some.is in
     live_more c.args.line _
-    (counts_live c.args.line 1 c.args.name.now asker old _ c.requires.live (record { policy = refl; budget = refl }) is (omega arith) (c.count-in-Blocked.ensures.counts asker is) (record { each = λ line. refl }) c.count-in-Blocked.ensures.many)
+    (shuts_live c.args.line c.args.name.now asker old _ c.requires.live (record { policy = refl; budget = refl; target = refl }) is (c.shut.ensures.closes asker is) (record { each = λ line. refl }) c.shut.ensures.many)
 
-pub returns-in-Blocked-clause-decides : goal.returns-in-Blocked-clause-decides
-returns-in-Blocked-clause-decides g c =
+pub returns-else-is_contradiction-clause-live : goal.returns-else-is_contradiction-clause-live
+returns-else-is_contradiction-clause-live g c =
+    let old = c.args.self.now in
+    let asker = c.in-Some.open.now in
+    let is : open_at old c.args.name.now ≡ Some asker = sym c.get.ensures ∙ ap option_copied c.in-Some.is in
+    live_more c.args.line _
+    (counts_live c.args.line 1 c.args.name.now asker old _ c.requires.live (record { policy = refl; budget = refl; target = refl }) is (omega arith) (c.count-in-Blocked.ensures.counts asker is) (record { each = λ line. refl }) c.count-in-Blocked.ensures.many)
+
+pub returns-else-is_contradiction-clause-decides : goal.returns-else-is_contradiction-clause-decides
+returns-else-is_contradiction-clause-decides g c =
     record {
       asker = c.in-Some.open.now;
-      plain = search rules;
-      no_value = search rules;
       counts = search rules;
       query = c.in_ok-query-in-Ok.query;
       reads = search rules;
+      of_question = search rules;
       blocked = search rules;
       prefers = record {
         one = λ few. rw c.in-Blocked.is at c.in_ok-judgement.ensures.first few;
         several = λ many. rw c.in-Blocked.is at c.in_ok-judgement.ensures.parts many;
       };
-    }
-
-pub returns-in_ok-expect-in-Allowed-clause-decides : goal.returns-in_ok-expect-in-Allowed-clause-decides
-returns-in_ok-expect-in-Allowed-clause-decides g c =
-    record {
-      asker = c.in-Some.open.now;
-      is_open = search rules;
-      plain = search rules;
-      no_value = search rules;
-      few = search rules;
-      query = c.in_ok-query-in-Ok.query;
-      reads = search rules;
-      rests = search rules;
-      strong = search rules;
-      prefers = record {
-        one = λ few. rw c.in-Allowed.is at c.in_ok-judgement.ensures.first few;
-        several = λ many. rw c.in-Allowed.is at c.in_ok-judgement.ensures.parts many;
-      };
-      opens = search rules;
-      expects = search rules;
     }

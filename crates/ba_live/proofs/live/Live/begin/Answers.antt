@@ -10,12 +10,12 @@ use Rattle.ba_live.proofs.live.Live.begin.Goals as goal
 pub returns-in_err-open-clause-live : goal.returns-in_err-open-clause-live
 returns-in_err-open-clause-live c = λ next live.
     let old = c.args.self.now in
-    leaves_live next old _ live (record { policy = refl; budget = refl }) (record { requests = c.in_err-open.ensures.err; questions = record { each = λ line. refl } }) c.in_err-open.ensures.few
+    leaves_live next old _ live (record { policy = refl; budget = refl; target = refl }) (record { requests = c.in_err-open.ensures.err; questions = record { each = λ line. refl } }) c.in_err-open.ensures.few
 
 pub returns-clause-live : goal.returns-clause-live
 returns-clause-live c = λ next live.
     let old = c.args.self.now in
-    starts_live next c.args.name c.in-Some.context old _ live (record { policy = refl; budget = refl })
+    starts_live next c.args.name c.in-Some.context old _ live (record { policy = refl; budget = refl; target = refl })
     (record {
       free = none_is (open_at old c.args.name) c.has.result c.has.ensures c.if-has.false;
       opens = subst (λ (o : Open). Opens c.args.name (Some o) old.requests c.open.new.self) c.new.ensures c.in_ok-open.ensures.ok;

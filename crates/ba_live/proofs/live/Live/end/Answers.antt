@@ -20,7 +20,7 @@ pub returns-in-Some-clause-live : goal.returns-in-Some-clause-live
 returns-in-Some-clause-live c = λ next live.
     let old = c.args.self.now in
     let is : open_at old c.args.name.now ≡ Some c.in-Some.open = sym c.close.ensures.was ∙ c.in-Some.is in
-    closes_live next c.args.name.now c.in-Some.open old _ live (record { policy = refl; budget = refl })
+    closes_live next c.args.name.now c.in-Some.open old _ live (record { policy = refl; budget = refl; target = refl })
     (record {
       was_open = is;
       closes = c.close.ensures.closes;
@@ -31,6 +31,6 @@ returns-in-Some-clause-live c = λ next live.
 pub returns-in-None-clause-live : goal.returns-in-None-clause-live
 returns-in-None-clause-live c = λ next live.
     let old = c.args.self.now in
-    stays_live next old _ live (record { policy = refl; budget = refl })
+    stays_live next old _ live (record { policy = refl; budget = refl; target = refl })
     (record { requests = none_closes c.args.name.now old.requests _ c.close.ensures.closes (sym c.close.ensures.was ∙ c.in-None.is); questions = record { each = λ line. refl } })
     c.close.ensures.many

@@ -1,0 +1,13 @@
+pub mod GrowLemmas
+pub mod TextLemmas
+pub mod FormLemmas
+pub mod LexLemmas
+pub mod FoundLemmas
+pub mod SendsLemmas
+pub mod UnitLemmas
+pub mod TreeLemmas
+pub mod ScanLemmas
+pub mod ClosedLemmas
+pub mod ReadsLemmas
+pub mod PrintedLemmas
+pub mod ZeroLemmas
