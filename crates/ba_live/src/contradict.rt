@@ -100,24 +100,24 @@ fn joined(alloc: Global, trace: &Trace, entries: &[TraceEntry]) -> Result<Trace,
 pub(crate) fn finds_contradiction<S: Settle>(
     alloc: Global,
     policy: &Shared<Policy>,
-    open: &Open,
+    asker: &Open,
     entries: &[TraceEntry],
     settle: &S,
     budget: u32,
 ) -> Result<bool, AllocError>
-    requires fits { ToldFits policy.now open.now.context (open.now.trace ++ entries.now) }
+    requires fits { ToldFits policy.now asker.now.context (asker.now.trace ++ entries.now) }
     requires limit { budget ≤ most_budget }
     ensures { IfOk result (Finds policy.now (effort_in (S.orders settle.now) budget)
-        open.now.context open.now.trace entries.now) }
+        asker.now.context asker.now.trace entries.now) }
 {
-    if clashes(&policy.schema, &open.context, &open.trace, entries) {
+    if clashes(&policy.schema, &asker.context, &asker.trace, entries) {
         return Ok(true);
     }
-    if !are_few(&open.trace, entries) {
+    if !are_few(&asker.trace, entries) {
         return Ok(false);
     }
-    let told = joined(alloc, &open.trace, entries)?;
+    let told = joined(alloc, &asker.trace, entries)?;
     let steps = budget.min(MAX_SEARCHED_STEPS);
-    let found = contradiction(alloc, policy, &open.context, &told, settle, steps)?;
+    let found = contradiction(alloc, policy, &asker.context, &told, settle, steps)?;
     Ok(found.is_some())
 }
