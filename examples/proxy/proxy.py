@@ -62,6 +62,8 @@ class Proxy:
             raise self.refusal(decision)
         rows = self.database.rows(decision["send"])
         shown = as_many_as_fit(rows)
+        if rows and not shown:
+            raise Blocked("the first row of the answer is too long for a line that tells it")
         told = self.say({"rows": shown, "told": decision["line"]})
         # Rows that weren't taken may be of another question, or of no database that can be. An
         # empty answer has none to take: it may be shown, also where there was no memory for that.

@@ -234,6 +234,7 @@ module _ (effort : Effort) (journal : List Entry) (e : Entry) (old new : Live) (
             one_answer = λ d e xs ys alike ax ay.
                 allowed_has_one_answer (record { policy = old.policy; context = h.asker.context; trace = h.asker.trace; query = h.query }) is.told d e xs ys is.records h.strong alike ax ay;
           };
+          printed = h.sent;
           reads = h.reads_back;
         },
       )

@@ -1,13 +1,14 @@
 -- The line of a decision with its evidence.
 use Rattle.std.specs.Prelude.{◌≡◌, ◌⊎◌, ℕ, Bool, true, false, List, [], ◌∷◌, ◌++◌, Some, length, ⊤}
+use Rattle.ba_comply.specs.declared.trace.TraceEntry.{TraceEntry}
 use Rattle.ba_evidence.specs.Evidence.{Evidence, covered, matched, proved}
-use Rattle.ba_evidence.specs.Said.{Based, Basis, TellsBased, allowed_json, pair_read_json, pair_said_json, parts, read_said_json, whole}
+use Rattle.ba_evidence.specs.Said.{Based, Basis, TellsBased, allowed_json, pair_read_json, pair_said_json, parts, read_said_json, weaker_json, whole}
 use Rattle.ba_evidence.specs.declared.said_reads.ReadGrounds.{ReadGrounds}
-use Rattle.ba_judge.specs.Judging.{Asked as Question, part_of, question_of}
+use Rattle.ba_judge.specs.Judging.{Asked as Question, after_trace, part_of, question_of}
 use Rattle.ba_judge.specs.declared.reading.Read.{Read}
 use Rattle.ba_judge.specs.declared.reading.Read.TheVariants as reads
 use Rattle.ba_judge.specs.declared.verdict.Allowed.{Allowed}
-use Rattle.ba_judge.specs.declared.verdict.Allowed.TheVariants.{Whole, Parts}
+use Rattle.ba_judge.specs.declared.verdict.Allowed.TheVariants.{Whole, Parts, WeakerWhole, WeakerParts}
 use Rattle.ba_judge.specs.declared.verdict.By.{By}
 use Rattle.ba_judge.specs.declared.verdict.By.TheVariants.{Cover, Template, Proof}
 use Rattle.ba_judge.specs.declared.verdict.Reason.{Reason}
@@ -30,6 +31,7 @@ use Rattle.ba_model.specs.declared.policy.Policy.{Policy}
 use Rattle.ba_model.specs.declared.query.Part.{Part}
 use Rattle.ba_model.specs.declared.query.Query.{Query}
 use Rattle.ba_template.specs.declared.found.Match.{Match}
+use Rattle.ba_weaker.specs.Weaker.{IsWeakerTrace}
 use Rattle.ba_wire.specs.Printed.{json_line}
 use Rattle.ba_decide.specs.Text.{decision_bytes, keyed_bytes, memory_bytes, named_bytes, needed}
 use Rattle.ba_decide.specs.declared.evident.Told.{Told}
@@ -72,20 +74,42 @@ AreEvidence asked (part ∷ all) (by ∷ bys) [] = ⊥
 AreEvidence asked (part ∷ all) (by ∷ bys) (it ∷ its) =
     IsEvidence (part_of asked part) by it × AreEvidence asked all bys its
 
+-- on what it rests after its own trace
 abbrev pub IsBasis : Question → Allowed → Basis → Type 0
 IsBasis asked (Whole by) (whole it) = IsEvidence asked by it
 IsBasis asked (Whole by) (parts its) = ⊥
 IsBasis asked (Parts bys) (whole it) = ⊥
 IsBasis asked (Parts bys) (parts its) = AreEvidence asked asked.query.parts bys its
+IsBasis asked (WeakerWhole by) it = ⊥
+IsBasis asked (WeakerParts bys) it = ⊥
 
 -- ---- questions
 
--- the line tells on what the allowed question rests
-pub record TellsBasis (params : List Parameter) (asked : Question) (number : ℕ) (name : List ℕ)
+-- the line tells on what the question rests after what was told
+pub record TellsPlain (params : List Parameter) (asked : Question) (number : ℕ) (name : List ℕ)
     (it : Allowed) (send text : List ℕ) : Type 0 where
   pub on : Basis
   pub is : IsBasis asked it on
   pub text_is : text ≡ json_line (allowed_json params (needed it) on number name send)
+
+-- the line tells on what the question rests after the weaker trace, and that its rows are weaker
+pub record TellsWeaker (params : List Parameter) (asked : Question) (number : ℕ) (name : List ℕ)
+    (it : Allowed) (send text : List ℕ) : Type 0 where
+  pub trace : List TraceEntry
+  pub weaker : IsWeakerTrace asked.trace trace
+  pub on : Basis
+  pub is : IsBasis (after_trace asked trace) it on
+  pub text_is : text ≡ json_line (weaker_json params (needed it) on number name send)
+
+-- the line tells on what the allowed question rests
+abbrev pub TellsBasis : List Parameter → Question → ℕ → List ℕ → Allowed → List ℕ → List ℕ →
+    Type 0
+TellsBasis params asked number name (WeakerWhole by) send text =
+    TellsWeaker params asked number name (Whole by) send text
+TellsBasis params asked number name (WeakerParts bys) send text =
+    TellsWeaker params asked number name (Parts bys) send text
+TellsBasis params asked number name it send text =
+    TellsPlain params asked number name it send text
 
 pub record TellsAllowed (live : Live) (number : ℕ) (name : List ℕ) (it : Allowed)
     (send text : List ℕ) : Type 0 where

@@ -4,7 +4,7 @@ use Rattle.std.specs.Option.{option_map_or}
 use Rattle.ba_judge.specs.declared.reading.Read.{Read}
 use Rattle.ba_judge.specs.declared.reading.Read.TheVariants as reads
 use Rattle.ba_judge.specs.declared.verdict.Allowed.{Allowed}
-use Rattle.ba_judge.specs.declared.verdict.Allowed.TheVariants.{Whole, Parts}
+use Rattle.ba_judge.specs.declared.verdict.Allowed.TheVariants.{Whole, Parts, WeakerWhole, WeakerParts}
 use Rattle.ba_judge.specs.declared.verdict.By.{By as Ground}
 use Rattle.ba_judge.specs.declared.verdict.By.TheVariants as ground
 use Rattle.ba_judge.specs.declared.verdict.Reason.{Reason}
@@ -34,6 +34,7 @@ reason_name refusal.Requests = codes "requests"
 reason_name refusal.Key = codes "key"
 reason_name refusal.Args = codes "args"
 reason_name refusal.Asks = codes "asks"
+reason_name refusal.NullTest = codes "null_test"
 reason_name refusal.ZeroByte = codes "zero_byte"
 reason_name refusal.LongSend = codes "long_send"
 reason_name refusal.Unasked = codes "unasked"
@@ -61,6 +62,8 @@ last_in (it ∷ its) = last_of (by_of it) (last_in its)
 abbrev pub needed : Allowed → By
 needed (Whole it) = by_of it
 needed (Parts its) = last_in its
+needed (WeakerWhole it) = by_of it
+needed (WeakerParts its) = last_in its
 
 -- what blocks the question; nothing where what was told contradicts itself, which is a fault
 abbrev pub block_of : Reason → Option Block

@@ -25,7 +25,7 @@ use Rattle.ba_model.specs.declared.value.Value.{Value}
 use Rattle.ba_script.specs.Contexts.{context_of}
 use Rattle.ba_script.specs.declared.line.Member.{Member}
 use Rattle.ba_send.specs.ReadBack.{ReadsSent}
-use Rattle.ba_send.specs.Sent.{closed}
+use Rattle.ba_send.specs.Sent.{closed, sent_bytes}
 use Rattle.ba_settle.specs.Settling.{Effort}
 use Rattle.ba_sql_query.specs.Texts.{query_of}
 use Rattle.ba_target.specs.declared.target.Target.{Target}
@@ -106,11 +106,13 @@ pub record IsSafe (policy : Policy) (journal : List Entry) (name : List ℕ) (qu
       LookAlike policy context asker.told d e →
       IsAnswer query context d xs → IsAnswer query context e ys → xs ≡ ys
 
--- It is safe, and the database reads what is sent as the query, with the values of the request's
--- context in place of its parameters.
+-- It is safe, and what is sent is its print for the database, which by the grammar of questions, over
+-- this database's tokens, is read as the query, with the values of the request's context in place of
+-- its parameters.
 pub record IsSent (target : Target) (policy : Policy) (journal : List Entry) (name : List ℕ)
     (query : Query) (send : List ℕ) : Type 0 where
   pub safe : IsSafe policy journal name query
+  pub printed : send ≡ sent_bytes target policy.schema safe.context query
   pub reads : ReadsSent target policy.schema send (closed safe.context query)
 
 -- No database that meets the schema gives all rows that the request, which is open under the name
@@ -166,8 +168,8 @@ pub record IsReadDenied (policy : Policy) (effort : Effort) (journal : List Entr
   pub safe : All (IsSafe policy journal name) front
   pub denied : IsDenied policy effort journal name query reason
 
--- Each allowed question is safe after the lines before it, and is what the database reads in the text
--- that is sent; so is each query of a key that may be read safe; each block has its reason, and of a
+-- Each allowed question is safe after the lines before it, and the text that is sent is its print and
+-- is read as it; so is each query of a key that may be read safe; each block has its reason, and of a
 -- key's queries the first that is blocked has it; and a contradiction is one.
 pub record Headline (policy : Policy) (target : Target) (effort : Effort) (journal : List Entry)
     : Type 0 where

@@ -23,6 +23,7 @@ fn reason_name(reason: Refusal) -> &'static str
         Refusal::Key => "key",
         Refusal::Args => "args",
         Refusal::Asks => "asks",
+        Refusal::NullTest => "null_test",
         Refusal::ZeroByte => "zero_byte",
         Refusal::LongSend => "long_send",
         Refusal::Unasked => "unasked",
@@ -31,7 +32,7 @@ fn reason_name(reason: Refusal) -> &'static str
     }
 }
 
-fn by_of(ground: &Ground) -> By
+pub(crate) fn by_of(ground: &Ground) -> By
     ensures { result ≡ by_of ground.now }
 {
     match ground {
@@ -53,7 +54,7 @@ fn last_of(one: By, other: By) -> By
     }
 }
 
-fn last_in(grounds: &[Ground]) -> By
+pub(crate) fn last_in(grounds: &[Ground]) -> By
     ensures { result ≡ last_in grounds.now }
 {
     match grounds.split_first() {
@@ -69,6 +70,8 @@ pub(crate) fn needed(allowed: &Allowed) -> By
     match allowed {
         Allowed::Whole(ground) => by_of(ground),
         Allowed::Parts(grounds) => last_in(grounds.as_slice()),
+        Allowed::WeakerWhole(ground) => by_of(ground),
+        Allowed::WeakerParts(grounds) => last_in(grounds.as_slice()),
     }
 }
 

@@ -5,11 +5,12 @@ ghost use Rattle.ba_judge.specs.Judging.{part_of, seen};
 ghost use Rattle.ba_kernel.specs.Drafts.{IsChecked};
 ghost use Rattle.ba_live.specs.Steps.{question_in};
 ghost use Rattle.ba_live.specs.Wellformed.{IsSound};
-ghost use Rattle.ba_decide.specs.Evident.{AddsBased, AreEvidence, HoldsBased, IsEvidence, IsEvident, IsInstance, TellsAllowed, TellsBasis, TellsBlocked, TellsKeyBlocked, TellsKeyed, TellsNamed, TellsRead, TellsReadable, told_evidence};
+ghost use Rattle.ba_decide.specs.Evident.{AddsBased, AreEvidence, HoldsBased, IsEvidence, IsEvident, IsInstance, TellsAllowed, TellsBasis, TellsBlocked, TellsKeyBlocked, TellsKeyed, TellsNamed, TellsRead, TellsReadable, TellsWeaker, told_evidence};
 
-use crate::answer::{answer_text, keyed_text, named_text, needed};
+use crate::answer::{answer_text, by_of, keyed_text, last_in, named_text, needed};
 use ba_evidence::{
     Ground, Grounds, ReadGrounds, allowed_line, allowed_read_line, pair_line, pair_read_line,
+    weaker_line,
 };
 use ba_judge::{Allowed, Asking, By, Read, Reason};
 use ba_kernel::Step;
@@ -19,6 +20,7 @@ use ba_match::{closes_question, instance};
 use ba_model::{List, Parameter, Part, Query, Shared, Str};
 use ba_template::{Match, Template};
 use ba_told::alone;
+use ba_weaker::weakened;
 use std::alloc::{AllocError, Global};
 
 /// A ground as it is told: of a template with the steps of its instance.
@@ -134,6 +136,83 @@ fn grounds_of<'a>(alloc: Global, all: &'a [Told<'a>]) -> Result<Vec<Ground<'a>>,
     Ok(its)
 }
 
+// The line of a question that is allowed as a whole after the weaker trace.
+fn weaker_whole_text(
+    alloc: Global,
+    params: &[Parameter],
+    asking: &Asking<'_>,
+    line: u64,
+    name: &Str,
+    ground: &By,
+    send: &Str,
+) -> Result<String, AllocError>
+    requires checked { IsChecked (seen asking.now).policy }
+    ensures { IfOk result (λ text. TellsWeaker params.now (seen asking.now) line name.now
+        (Allowed.Whole ground.now) send.now (string_bytes text)) }
+{
+    let weaker = weakened(alloc, asking.trace)?;
+    let Some(trace) = weaker else {
+        return Err(AllocError);
+    };
+    let own = Asking {
+        policy: asking.policy,
+        context: asking.context,
+        trace: &trace,
+        query: asking.query,
+    };
+    let by = by_of(ground);
+    let told = told_of(alloc, &own, ground)?;
+    let ground = told.ground();
+    weaker_line(
+        alloc,
+        params,
+        by,
+        &Grounds::Whole(&ground),
+        line,
+        name,
+        send,
+    )
+}
+
+// The line of one whose parts are.
+fn weaker_parts_text(
+    alloc: Global,
+    params: &[Parameter],
+    asking: &Asking<'_>,
+    line: u64,
+    name: &Str,
+    grounds: &List<By>,
+    send: &Str,
+) -> Result<String, AllocError>
+    requires checked { IsChecked (seen asking.now).policy }
+    ensures { IfOk result (λ text. TellsWeaker params.now (seen asking.now) line name.now
+        (Allowed.Parts grounds.now) send.now (string_bytes text)) }
+{
+    let weaker = weakened(alloc, asking.trace)?;
+    let Some(trace) = weaker else {
+        return Err(AllocError);
+    };
+    let own = Asking {
+        policy: asking.policy,
+        context: asking.context,
+        trace: &trace,
+        query: asking.query,
+    };
+    let by = last_in(grounds.as_slice());
+    let parts = asking.query.parts.as_slice();
+    let all = parts_told(alloc, &own, parts, grounds.as_slice())?;
+    let its = grounds_of(alloc, all.as_slice())?;
+    weaker_line(
+        alloc,
+        params,
+        by,
+        &Grounds::Parts(its.as_slice()),
+        line,
+        name,
+        send,
+    )
+}
+
 // The line of an allowed question.
 fn basis_text(
     alloc: Global,
@@ -176,6 +255,12 @@ fn basis_text(
                 name,
                 send,
             )
+        }
+        Allowed::WeakerWhole(ground) => {
+            weaker_whole_text(alloc, params, asking, line, name, ground, send)
+        }
+        Allowed::WeakerParts(grounds) => {
+            weaker_parts_text(alloc, params, asking, line, name, grounds, send)
         }
     }
 }
@@ -280,6 +365,8 @@ fn push_basis(
             let its = grounds_of(alloc, all.as_slice())?;
             grounds.push(alloc, params, by, &Grounds::Parts(its.as_slice()))
         }
+        // No query of a read rests on a weaker trace.
+        Allowed::WeakerWhole(_) | Allowed::WeakerParts(_) => Err(AllocError),
     }
 }
 

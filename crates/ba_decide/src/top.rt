@@ -116,8 +116,9 @@ fn serve_input<L: Source, S: Sink>(
 /// database that is asked is for the caller to see to. Where they are found to be in no database, the
 /// line says so, and the request can only end.
 ///
-/// The line of an allowed question has the text to send: the database that the words name reads it
-/// as the question that was judged, with the context's values in place of its parameters.
+/// The line of an allowed question has the text to send: a print of the question that was judged,
+/// with the context's values in place of its parameters. By the grammar of questions, over the tokens
+/// of the database that the words name, it is read as this question.
 ///
 /// A line has at most 1,048,576 bytes. Want of memory may stand in place of a decision, which its
 /// line says; where there is none for the line of a decision, the event may have been served.

@@ -9,7 +9,7 @@ use Rattle.ba_refute.specs.declared.clause.Counterexample.{Counterexample}
 use Rattle.ba_wire.specs.declared.line.By.{By}
 use Rattle.ba_evidence.proofs.JsonLemmas.{all_flat, all_whole, evidence_flat, evidence_whole, pair_flat, pair_whole}
 use Rattle.ba_evidence.specs.Evidence.{Evidence}
-use Rattle.ba_evidence.specs.Said.{Based, Basis, TellsBased, allowed_json, based_json, based_name, basis_json, pair_read_json, pair_said_json, part_ground_json, parts, read_said_json, told_read_json, whole}
+use Rattle.ba_evidence.specs.Said.{Based, Basis, TellsBased, allowed_json, based_json, based_name, basis_json, pair_read_json, pair_said_json, part_ground_json, parts, read_said_json, told_read_json, weaker_json, whole}
 use Rattle.ba_evidence.specs.declared.said_reads.ReadGrounds.{ReadGrounds}
 
 -- ---- no floats
@@ -26,6 +26,11 @@ pub allowed_whole : (params : List Parameter) (by : By) (it : Basis) (line : ℕ
     → has_float (allowed_json params by it line request send) ≡ false
 unfolding allowed_json
 allowed_whole params by it line request send = rw (basis_whole params it) refl
+
+pub weaker_whole : (params : List Parameter) (by : By) (it : Basis) (line : ℕ) (request send : List ℕ)
+    → has_float (weaker_json params by it line request send) ≡ false
+unfolding weaker_json
+weaker_whole params by it line request send = rw (basis_whole params it) refl
 
 pub pair_said_whole : (schema : Schema) (pair : Counterexample) (line : ℕ) (request : List ℕ) → has_float (pair_said_json schema pair line request) ≡ false
 unfolding pair_said_json
@@ -60,6 +65,11 @@ pub allowed_flat : (params : List Parameter) (by : By) (it : Basis) (line : ℕ)
     → depth (allowed_json params by it line request send) ≤ max_depth
 unfolding allowed_json
 allowed_flat params by it line request send = let flat = basis_flat params it in omega arith
+
+pub weaker_flat : (params : List Parameter) (by : By) (it : Basis) (line : ℕ) (request send : List ℕ)
+    → depth (weaker_json params by it line request send) ≤ max_depth
+unfolding weaker_json
+weaker_flat params by it line request send = let flat = basis_flat params it in omega arith
 
 pub pair_said_flat : (schema : Schema) (pair : Counterexample) (line : ℕ) (request : List ℕ) → depth (pair_said_json schema pair line request) ≤ max_depth
 unfolding pair_said_json

@@ -43,6 +43,16 @@ allowed_json params by it line request send =
     (member (codes "request") (string request)
     (member (codes "send") (string send) no_members)))))
 
+-- the same of what rests on the weaker rows, which it says
+unfoldable pub weaker_json : List Parameter → By → Basis → ℕ → List ℕ → List ℕ → Data
+weaker_json params by it line request send =
+    object (member (codes "allowed") (string (called by))
+    (member (codes "line") (count line)
+    (member (codes "proof") (basis_json params it)
+    (member (codes "request") (string request)
+    (member (codes "rows") (string (codes "weaker"))
+    (member (codes "send") (string send) no_members))))))
+
 -- the object of a refuted question: the pair stands under `pair`
 unfoldable pub pair_said_json : Schema → Counterexample → ℕ → List ℕ → Data
 pair_said_json schema pair line request =

@@ -17,5 +17,5 @@ mod said_reads;
 pub use answer::{Ground, answer_line};
 pub use reads::{Rests, read_line};
 pub use refuted::{refuted_line, refuted_read_line};
-pub use said::{Grounds, allowed_line, pair_line};
+pub use said::{Grounds, allowed_line, pair_line, weaker_line};
 pub use said_reads::{ReadGrounds, allowed_read_line, pair_read_line};

@@ -2,7 +2,7 @@
 ghost use Rattle.std.specs.Prelude.{◌≡◌, IfOk, map, string_bytes};
 ghost use Rattle.serde_json.specs.View.{view};
 ghost use Rattle.ba_evidence.specs.Evidence.{evidence};
-ghost use Rattle.ba_evidence.specs.Said.{allowed_json, basis, basis_json, pair_said_json, part_ground_json};
+ghost use Rattle.ba_evidence.specs.Said.{allowed_json, basis, basis_json, pair_said_json, part_ground_json, weaker_json};
 ghost use Rattle.ba_proof.specs.Written.{list_json};
 ghost use Rattle.ba_wire.specs.Printed.{ReadsBack, json_line};
 
@@ -111,6 +111,55 @@ pub fn allowed_line(
         (allowed_json params.now by (basis it.now) line request.now send.now)) }
 {
     let value = allowed_json(alloc, params, by, it, line, request, send)?;
+    line_of(alloc, &value)
+}
+
+#[tactic(auto, unfolding(crate::specs::Said::weaker_json))]
+fn weaker_json(
+    alloc: Global,
+    params: &[Parameter],
+    by: By,
+    it: &Grounds,
+    line: u64,
+    request: &Str,
+    send: &Str,
+) -> Result<Json, AllocError>
+    ensures { IfOk result (λ v. view v
+        ≡ weaker_json params.now by (basis it.now) line request.now send.now) }
+{
+    let mut members = Map::new(alloc);
+    let by = Json::try_from_str(alloc, by.name())?;
+    put(&mut members, alloc, "allowed", by)?;
+    put(&mut members, alloc, "line", Json::from(line))?;
+    let proof = basis_json(alloc, params, it)?;
+    put(&mut members, alloc, "proof", proof)?;
+    let request = Json::try_from_str(alloc, request.as_str())?;
+    put(&mut members, alloc, "request", request)?;
+    let rows = Json::try_from_str(alloc, "weaker")?;
+    put(&mut members, alloc, "rows", rows)?;
+    let send = Json::try_from_str(alloc, send.as_str())?;
+    put(&mut members, alloc, "send", send)?;
+    Ok(Json::Object(members))
+}
+
+/// The line of a question that is allowed after the weaker rows of what was told: as
+/// [`allowed_line`], and under `rows` it says `weaker`, since what stands under `proof` speaks of
+/// them. The only error is want of memory, which leaves nothing behind.
+pub fn weaker_line(
+    alloc: Global,
+    params: &[Parameter],
+    by: By,
+    it: &Grounds,
+    line: u64,
+    request: &Str,
+    send: &Str,
+) -> Result<String, AllocError>
+    ensures text { IfOk result (λ s. string_bytes s ≡ json_line
+        (weaker_json params.now by (basis it.now) line request.now send.now)) }
+    ensures reads_back { IfOk result (λ s. ReadsBack (string_bytes s)
+        (weaker_json params.now by (basis it.now) line request.now send.now)) }
+{
+    let value = weaker_json(alloc, params, by, it, line, request, send)?;
     line_of(alloc, &value)
 }
 

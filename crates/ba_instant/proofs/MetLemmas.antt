@@ -13,7 +13,7 @@ use Rattle.ba_facts.specs.declared.term.Fact.{Fact}
 use Rattle.ba_facts.specs.declared.term.Side.{Side}
 use Rattle.ba_facts.specs.declared.term.Side.TheVariants.{One, Two}
 use Rattle.ba_facts.specs.declared.term.Term.{Term}
-use Rattle.ba_kernel.specs.Steps.{AreEqualIn, FactsPass, IsNotNullAt, LinkIsMet, LinkPasses, Passes, RuleIsMet, RulePasses, Tells, ViewIsMet, ViewPasses}
+use Rattle.ba_kernel.specs.Steps.{AreEqualIn, EntryIsMet, FactsPass, IsNotNullAt, LinkIsMet, LinkPasses, Passes, RuleIsMet, RulePasses, Tells, ViewIsMet, ViewPasses}
 use Rattle.ba_kernel.specs.declared.problem.Problem.{Problem}
 use Rattle.ba_kernel.specs.declared.step.Step.{Step}
 use Rattle.ba_kernel.specs.declared.step.Step.TheVariants as steps
@@ -98,6 +98,9 @@ module _ (p : Problem) (b c : Branch) (carries : Carries b.known c.known (λ t. 
 
   -- ---- steps that are met
 
+  entry_met : (entry : ℕ) → EntryIsMet p b entry → EntryIsMet p c entry
+  entry_met entry h = record { it = h.it; there = h.there; given = given_on One [] h.it.row h.it.query.parts tt h.given }
+
   link_met : (link fact : ℕ) → LinkIsMet p.policy.schema b link fact → LinkIsMet p.policy.schema c link fact
   link_met link fact h =
       let us = terms_at b h.number in
@@ -132,7 +135,7 @@ module _ (p : Problem) (b c : Branch) (carries : Carries b.known c.known (λ t. 
   -- ---- any of these
 
   pub still_passes : (step : Step) → Lasts step → Passes p b step → Passes p c step
-  still_passes (steps.Entry branch entry) lasts h = absurd lasts
+  still_passes (steps.Entry branch entry) lasts h = h
   still_passes (steps.Key branch key left right) lasts h = absurd lasts
   still_passes (steps.Link branch link fact) lasts h = link_passes link fact h
   still_passes (steps.Rule branch rule part facts) lasts h = rule_passes rule part facts h
@@ -142,7 +145,7 @@ module _ (p : Problem) (b c : Branch) (carries : Carries b.known c.known (λ t. 
   still_passes (steps.Goal branch part facts) lasts h = absurd lasts
 
   still_met : (step : Step) → Lasts step → IsTold p b step → Tells p c step → ⊥
-  still_met (steps.Entry branch entry) lasts h tells = absurd lasts
+  still_met (steps.Entry branch entry) lasts h tells = h.none (λ met. tells (entry_met entry met))
   still_met (steps.Key branch key left right) lasts h tells = absurd lasts
   still_met (steps.Link branch link fact) lasts h tells = h.none (λ met. tells (link_met link fact met))
   still_met (steps.Rule branch rule part facts) lasts h tells = h.none (λ met. tells (rule_met rule part facts met))

@@ -36,6 +36,7 @@ use Rattle.ba_instant.specs.declared.mapped.Form.{Form}
 use Rattle.ba_instant.specs.declared.mapped.Form.TheVariants.{OfRule, OfView, OfGoal}
 use Rattle.ba_instant.specs.declared.memory.Memory.{Memory}
 use Rattle.ba_instant.specs.declared.told.Told.{Told}
+use Rattle.ba_instant.specs.declared.told.ToldEntry.{ToldEntry}
 use Rattle.ba_instant.specs.declared.told.ToldLink.{ToldLink}
 use Rattle.ba_instant.specs.declared.told.ToldMapping.{ToldMapping}
 use Rattle.ba_settle.specs.declared.order.Pick.{Pick}
@@ -43,7 +44,7 @@ use Rattle.ba_settle.specs.declared.order.Pick.{Pick}
 -- ---- steps that are remembered
 
 lasts_of : (told : Told) (step : Step) → Remembers told step → Lasts step
-lasts_of told (steps.Entry branch entry) h = absurd h
+lasts_of told (steps.Entry branch entry) h = tt
 lasts_of told (steps.Key branch key left right) h = absurd h
 lasts_of told (steps.Link branch link fact) h = tt
 lasts_of told (steps.Rule branch rule part facts) h = tt
@@ -56,8 +57,8 @@ nowhere : {X : Type 0} (x : X) → Contains [] x → ⊥
 nowhere x (k, below, e) = omega (arith, below)
 
 -- nothing is remembered at first
-none_has : (step : Step) → Remembers (record { links = []; mappings = [] }) step → ⊥
-none_has (steps.Entry branch entry) h = h
+none_has : (step : Step) → Remembers (record { entries = []; links = []; mappings = [] }) step → ⊥
+none_has (steps.Entry branch entry) h = nowhere _ h
 none_has (steps.Key branch key left right) h = h
 none_has (steps.Link branch link fact) h = nowhere _ h
 none_has (steps.Rule branch rule part facts) h = nowhere _ h
@@ -66,7 +67,7 @@ none_has (steps.Split branch atom) h = h
 none_has (steps.Absurd branch) h = h
 none_has (steps.Goal branch part facts) h = h
 
-pub none_told : (p : Problem) (b : Branch) (told : Told) → told ≡ record { links = []; mappings = [] } → AreTold p b told
+pub none_told : (p : Problem) (b : Branch) (told : Told) → told ≡ record { entries = []; links = []; mappings = [] } → AreTold p b told
 none_told p b told is = record { each = λ step h. absurd (none_has step (subst (λ t. Remembers t step) is h)) }
 
 -- the form's step on the facts is, if it tells something
@@ -87,12 +88,29 @@ insert_has xs i y x h = elim (Contains-append_cases (take i xs) (y ∷ drop i xs
 ]
 
 module _ (old new : Told) where
-  pub link_added : (branch link fact : ℕ) → ((x : ToldLink) → Contains new.links x → Contains old.links x ⊎ (record { fact = fact; link = link } ≡ x)) → new.mappings ≡ old.mappings →
+  pub entry_added : (branch entry : ℕ) → ((x : ToldEntry) → Contains new.entries x → Contains old.entries x ⊎ (record { entry = entry } ≡ x)) → new.links ≡ old.links → new.mappings ≡ old.mappings →
+      AddsStep (steps.Entry branch entry) old new
+  entry_added branch entry entries links mappings = record { from = at }
+    where
+      at : (other : Step) → Remembers new other → Remembers old other ⊎ (on_branch branch other ≡ Some (steps.Entry branch entry))
+      at (steps.Entry on other) h = elim (entries (record { entry = other }) h) [
+        | inl was ↦ inl was
+        | inr same ↦ inr (sym (ap (λ (x : ToldEntry). Some (steps.Entry branch x.entry)) same))
+      ]
+      at (steps.Key on key left right) h = absurd h
+      at (steps.Link on other to) h = inl (subst (λ xs. Contains xs (record { fact = to; link = other })) links h)
+      at (steps.Rule on rule part facts) h = inl (subst (λ xs. Contains xs (record { form = OfRule rule part; facts = facts })) mappings h)
+      at (steps.View on view part facts) h = inl (subst (λ xs. Contains xs (record { form = OfView view part; facts = facts })) mappings h)
+      at (steps.Split on atom) h = absurd h
+      at (steps.Absurd on) h = absurd h
+      at (steps.Goal on part facts) h = absurd h
+
+  pub link_added : (branch link fact : ℕ) → ((x : ToldLink) → Contains new.links x → Contains old.links x ⊎ (record { fact = fact; link = link } ≡ x)) → new.entries ≡ old.entries → new.mappings ≡ old.mappings →
       AddsStep (steps.Link branch link fact) old new
-  link_added branch link fact links mappings = record { from = at }
+  link_added branch link fact links entries mappings = record { from = at }
     where
       at : (other : Step) → Remembers new other → Remembers old other ⊎ (on_branch branch other ≡ Some (steps.Link branch link fact))
-      at (steps.Entry on entry) h = absurd h
+      at (steps.Entry on entry) h = inl (subst (λ xs. Contains xs (record { entry = entry })) entries h)
       at (steps.Key on key left right) h = absurd h
       at (steps.Link on other to) h = elim (links (record { fact = to; link = other }) h) [
         | inl was ↦ inl was
@@ -104,15 +122,15 @@ module _ (old new : Told) where
       at (steps.Absurd on) h = absurd h
       at (steps.Goal on part facts) h = absurd h
 
-  pub mapping_added : (branch : ℕ) (form : Form) (facts : List ℕ) → ((x : ToldMapping) → Contains new.mappings x → Contains old.mappings x ⊎ (record { form = form; facts = facts } ≡ x)) → new.links ≡ old.links →
+  pub mapping_added : (branch : ℕ) (form : Form) (facts : List ℕ) → ((x : ToldMapping) → Contains new.mappings x → Contains old.mappings x ⊎ (record { form = form; facts = facts } ≡ x)) → new.entries ≡ old.entries → new.links ≡ old.links →
       AddsStep (step_of branch form facts) old new
-  mapping_added branch form facts mappings links = record { from = at }
+  mapping_added branch form facts mappings entries links = record { from = at }
     where
       on_it : branch_of (step_of branch form facts) ≡ branch
       on_it = form_branch branch form facts
 
       at : (other : Step) → Remembers new other → Remembers old other ⊎ (on_branch (branch_of (step_of branch form facts)) other ≡ Some (step_of branch form facts))
-      at (steps.Entry on entry) h = absurd h
+      at (steps.Entry on entry) h = inl (subst (λ xs. Contains xs (record { entry = entry })) entries h)
       at (steps.Key on key left right) h = absurd h
       at (steps.Link on other to) h = inl (subst (λ xs. Contains xs (record { fact = to; link = other })) links h)
       at (steps.Rule on rule part its) h = elim (mappings (record { form = OfRule rule part; facts = its }) h) [
@@ -128,20 +146,29 @@ module _ (old new : Told) where
       at (steps.Goal on part facts) h = absurd h
 
 -- so it is where memory lacked for none
+pub entry_added_by : {T E : Type 0} (old new : Told) (step : Step) (branch entry : ℕ) → step ≡ steps.Entry branch entry → (r : Result T E) →
+    OnOk r ((x : ToldEntry) → Contains new.entries x → Contains old.entries x ⊎ (record { entry = entry } ≡ x)) → OnOk r (new.links ≡ old.links) → OnOk r (new.mappings ≡ old.mappings) → OnOk r (AddsStep step old new)
+entry_added_by old new step branch entry is (Ok it) entries links mappings = subst (λ s. AddsStep s old new) (sym is) (entry_added old new branch entry entries links mappings)
+entry_added_by old new step branch entry is (Err e) entries links mappings = tt
+
 pub link_added_by : {T E : Type 0} (old new : Told) (step : Step) (branch link fact : ℕ) → step ≡ steps.Link branch link fact → (r : Result T E) →
-    OnOk r ((x : ToldLink) → Contains new.links x → Contains old.links x ⊎ (record { fact = fact; link = link } ≡ x)) → OnOk r (new.mappings ≡ old.mappings) → OnOk r (AddsStep step old new)
-link_added_by old new step branch link fact is (Ok it) links mappings = subst (λ s. AddsStep s old new) (sym is) (link_added old new branch link fact links mappings)
-link_added_by old new step branch link fact is (Err e) links mappings = tt
+    OnOk r ((x : ToldLink) → Contains new.links x → Contains old.links x ⊎ (record { fact = fact; link = link } ≡ x)) → OnOk r (new.entries ≡ old.entries) → OnOk r (new.mappings ≡ old.mappings) → OnOk r (AddsStep step old new)
+link_added_by old new step branch link fact is (Ok it) links entries mappings = subst (λ s. AddsStep s old new) (sym is) (link_added old new branch link fact links entries mappings)
+link_added_by old new step branch link fact is (Err e) links entries mappings = tt
 
 pub mapping_added_by : {T E : Type 0} (old new : Told) (step : Step) (branch : ℕ) (form : Form) (facts : List ℕ) → step ≡ step_of branch form facts → (r : Result T E) →
-    OnOk r ((x : ToldMapping) → Contains new.mappings x → Contains old.mappings x ⊎ (record { form = form; facts = facts } ≡ x)) → OnOk r (new.links ≡ old.links) → OnOk r (AddsStep step old new)
-mapping_added_by old new step branch form facts is (Ok it) mappings links = subst (λ s. AddsStep s old new) (sym is) (mapping_added old new branch form facts mappings links)
-mapping_added_by old new step branch form facts is (Err e) mappings links = tt
+    OnOk r ((x : ToldMapping) → Contains new.mappings x → Contains old.mappings x ⊎ (record { form = form; facts = facts } ≡ x)) → OnOk r (new.entries ≡ old.entries) → OnOk r (new.links ≡ old.links) → OnOk r (AddsStep step old new)
+mapping_added_by old new step branch form facts is (Ok it) mappings entries links = subst (λ s. AddsStep s old new) (sym is) (mapping_added old new branch form facts mappings entries links)
+mapping_added_by old new step branch form facts is (Err e) mappings entries links = tt
 
 -- what is told isn't new
 module _ (c : Course) (n : ℕ) (b : Branch) (told : Told) (open_ : IsOpen c.slots n b) (are : AreTold c.problem b told) where
   pub told_not_new : (step : Step) → branch_of step ≡ n → Remembers told step → IsNewIn c step → ⊥
   told_not_new step on has new = (are.each step has).none (new_on c n b step open_ on new).tells
+
+  pub entry_told : (pick : Pick) (entry : ℕ) (old : Option Batch) → Contains told.entries (record { entry = entry }) → Improves c pick (λ it. it ≡ steps.Entry n entry) old old
+  entry_told pick entry old has =
+      improves_none c pick (λ it. it ≡ steps.Entry n entry) old (λ step is new. told_not_new (steps.Entry n entry) refl has (subst (IsNewIn c) is new))
 
   pub link_told : (pick : Pick) (link fact : ℕ) (old : Option Batch) → Contains told.links (record { fact = fact; link = link }) → Improves c pick (λ it. it ≡ steps.Link n link fact) old old
   link_told pick link fact old has =
@@ -150,7 +177,7 @@ module _ (c : Course) (n : ℕ) (b : Branch) (told : Told) (open_ : IsOpen c.slo
 -- ---- the step itself, where it isn't new
 
 same_tells : (p : Problem) (b : Branch) (n : ℕ) (step other : Step) → on_branch n other ≡ Some step → Tells p b other → Tells p b step
-same_tells p b n step (steps.Entry on entry) e h = cc
+same_tells p b n step (steps.Entry on entry) e h = let is : steps.Entry n entry ≡ step = cc (e) in subst (Tells p b) is h
 same_tells p b n step (steps.Key on key left right) e h = cc
 same_tells p b n step (steps.Link on link fact) e h = let is : steps.Link n link fact ≡ step = cc (e) in subst (Tells p b) is h
 same_tells p b n step (steps.Rule on rule part facts) e h = let is : steps.Rule n rule part facts ≡ step = cc (e) in subst (Tells p b) is h
@@ -160,7 +187,7 @@ same_tells p b n step (steps.Absurd on) e h = cc
 same_tells p b n step (steps.Goal on part facts) e h = cc
 
 same_passes : (p : Problem) (b : Branch) (n : ℕ) (step other : Step) → on_branch n other ≡ Some step → Passes p b step → Passes p b other
-same_passes p b n step (steps.Entry on entry) e h = cc
+same_passes p b n step (steps.Entry on entry) e h = let is : step ≡ steps.Entry n entry = cc (e) in subst (Passes p b) is h
 same_passes p b n step (steps.Key on key left right) e h = cc
 same_passes p b n step (steps.Link on link fact) e h = let is : step ≡ steps.Link n link fact = cc (e) in subst (Passes p b) is h
 same_passes p b n step (steps.Rule on rule part facts) e h = let is : step ≡ steps.Rule n rule part facts = cc (e) in subst (Passes p b) is h
@@ -171,7 +198,7 @@ same_passes p b n step (steps.Goal on part facts) e h = cc
 
 -- it is on the branch of the number
 pub on_it : (n : ℕ) (step here : Step) → on_branch n step ≡ Some here → branch_of here ≡ n
-on_it n (steps.Entry on entry) here e = cc
+on_it n (steps.Entry on entry) here e = let is : steps.Entry n entry ≡ here = cc (e) in sym (ap branch_of is)
 on_it n (steps.Key on key left right) here e = cc
 on_it n (steps.Link on link fact) here e = let is : steps.Link n link fact ≡ here = cc (e) in sym (ap branch_of is)
 on_it n (steps.Rule on rule part facts) here e = let is : steps.Rule n rule part facts ≡ here = cc (e) in sym (ap branch_of is)
@@ -181,7 +208,7 @@ on_it n (steps.Absurd on) here e = cc
 on_it n (steps.Goal on part facts) here e = cc
 
 lasts_still : (n : ℕ) (step here : Step) → on_branch n step ≡ Some here → Lasts step
-lasts_still n (steps.Entry on entry) here e = cc
+lasts_still n (steps.Entry on entry) here e = tt
 lasts_still n (steps.Key on key left right) here e = cc
 lasts_still n (steps.Link on link fact) here e = tt
 lasts_still n (steps.Rule on rule part facts) here e = tt
@@ -191,7 +218,7 @@ lasts_still n (steps.Absurd on) here e = cc
 lasts_still n (steps.Goal on part facts) here e = cc
 
 lasts_made : (n : ℕ) (step here : Step) → on_branch n step ≡ Some here → Lasts here
-lasts_made n (steps.Entry on entry) here e = cc
+lasts_made n (steps.Entry on entry) here e = let is : steps.Entry n entry ≡ here = cc (e) in subst Lasts is tt
 lasts_made n (steps.Key on key left right) here e = cc
 lasts_made n (steps.Link on link fact) here e = let is : steps.Link n link fact ≡ here = cc (e) in subst Lasts is tt
 lasts_made n (steps.Rule on rule part facts) here e = let is : steps.Rule n rule part facts ≡ here = cc (e) in subst Lasts is tt
@@ -201,7 +228,7 @@ lasts_made n (steps.Absurd on) here e = cc
 lasts_made n (steps.Goal on part facts) here e = cc
 
 passes_there : (p : Problem) (b : Branch) (n : ℕ) (step here : Step) → on_branch n step ≡ Some here → Passes p b step → Passes p b here
-passes_there p b n (steps.Entry on entry) here e h = cc
+passes_there p b n (steps.Entry on entry) here e h = let is : steps.Entry n entry ≡ here = cc (e) in subst (Passes p b) is h
 passes_there p b n (steps.Key on key left right) here e h = cc
 passes_there p b n (steps.Link on link fact) here e h = let is : steps.Link n link fact ≡ here = cc (e) in subst (Passes p b) is h
 passes_there p b n (steps.Rule on rule part facts) here e h = let is : steps.Rule n rule part facts ≡ here = cc (e) in subst (Passes p b) is h
@@ -263,7 +290,7 @@ module _ (p : Problem) (step : Step) (told : Told) where
   cases_stay b cases h leads = leads_keep p Stays fact_more lessons_more b step cases h leads
 
 led_passes : (p : Problem) (b : Branch) (step : Step) (cases : List Branch) → Leads p b step cases → Lasts step → Passes p b step
-led_passes p b (steps.Entry branch entry) cases h lasts = absurd lasts
+led_passes p b (steps.Entry branch entry) cases h lasts = h.passes
 led_passes p b (steps.Key branch key left right) cases h lasts = absurd lasts
 led_passes p b (steps.Link branch link fact) cases h lasts = h.passes
 led_passes p b (steps.Rule branch rule part facts) cases h lasts = h.passes
@@ -377,7 +404,7 @@ module _ (c : Course) where
       (let more = ap length is in omega (arith, more, count, length_push each it), subst AreToldSo (sym is) (told_push each n it count are h))
 
   -- the step's own is taken out
-  pub told_out : (step : Step) (memory : Memory) (n : ℕ) (nothing : Told) → n ≡ branch_of step → nothing ≡ record { links = []; mappings = [] } → IsMoved c step memory → AreToldSo (slice_set memory.each.items n nothing)
+  pub told_out : (step : Step) (memory : Memory) (n : ℕ) (nothing : Told) → n ≡ branch_of step → nothing ≡ record { entries = []; links = []; mappings = [] } → IsMoved c step memory → AreToldSo (slice_set memory.each.items n nothing)
   told_out step memory n nothing own is h = record {
     told = λ number b told open_ there. elim (at_or memory.each.items n number nothing told there) [
       | inl here ↦ none_told c.problem b told (sym here.1 ∙ is)

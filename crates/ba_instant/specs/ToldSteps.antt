@@ -13,9 +13,9 @@ use Rattle.ba_instant.specs.declared.told.Told.{Told}
 
 -- ---- the steps that are remembered
 
--- the step is by a link, a rule or a view: what it tells stays told
+-- the step is by an entry, a link, a rule or a view: what it tells stays told
 abbrev pub Lasts : Step → Type 0
-Lasts (steps.Entry branch entry) = ⊥
+Lasts (steps.Entry branch entry) = Unit {0}
 Lasts (steps.Key branch key left right) = ⊥
 Lasts (steps.Link branch link fact) = Unit {0}
 Lasts (steps.Rule branch rule part facts) = Unit {0}
@@ -26,7 +26,7 @@ Lasts (steps.Goal branch part facts) = ⊥
 
 -- such a step on the branch of the number
 abbrev pub on_branch : ℕ → Step → Option Step
-on_branch number (steps.Entry branch entry) = None
+on_branch number (steps.Entry branch entry) = Some (steps.Entry number entry)
 on_branch number (steps.Key branch key left right) = None
 on_branch number (steps.Link branch link fact) = Some (steps.Link number link fact)
 on_branch number (steps.Rule branch rule part facts) = Some (steps.Rule number rule part facts)
@@ -37,7 +37,7 @@ on_branch number (steps.Goal branch part facts) = None
 
 -- the step is one of these, on whatever branch
 abbrev pub Remembers : Told → Step → Type 0
-Remembers told (steps.Entry branch entry) = ⊥
+Remembers told (steps.Entry branch entry) = Contains told.entries (record { entry = entry })
 Remembers told (steps.Key branch key left right) = ⊥
 Remembers told (steps.Link branch link fact) =
     Contains told.links (record { fact = fact; link = link })
@@ -65,7 +65,7 @@ pub record IsTold (p : Problem) (b : Branch) (step : Step) : Type 0 where
 pub record AreTold (p : Problem) (b : Branch) (told : Told) : Type 0 where
   pub each : (step : Step) → Remembers told step → IsTold p b step
 
--- so they are, and the step still passes, if it is by a link, a rule or a view
+-- so they are, and the step still passes, if it is by an entry, a link, a rule or a view
 pub record StaysTold (p : Problem) (b : Branch) (step : Step) (those : Told) : Type 0 where
   pub told : AreTold p b those
   pub passes : Lasts step → Passes p b step

@@ -34,13 +34,16 @@ impl<'a> Scan<'a> {
         Ok(())
     }
 
-    /// Offers the step by the entry.
+    /// Offers the step by the entry, unless it is told.
     fn offer_entry(&self, entry: u64, best: &mut Option<Batch>) -> Result<(), AllocError>
         requires look { IsScan self.now }
         requires there { entry < length self.now.search.now.problem.entries }
         ensures { OnOk result
             (ImprovesBy self.now (λ it. it ≡ Entry self.now.number entry) best.old best.new) }
     {
+        if self.told.has_entry(entry) {
+            return Ok(());
+        }
         let round = self.entry_round(entry);
         if round <= self.quiet {
             return Ok(());

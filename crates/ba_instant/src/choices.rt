@@ -1,7 +1,7 @@
 //! A choice of terms in place of the facts that a query asks for. Nothing is promised of it:
 //! whoever uses it tests it.
 use ba_facts::{Term, number_of};
-use ba_model::{Atom, Duplicate, List, Op, Operand, Part, Same, Schema, Value};
+use ba_model::{Atom, Duplicate, List, Op, Operand, Part, Schema, Value};
 use std::alloc::{AllocError, Global};
 
 /// A column of a table of a part.
@@ -20,8 +20,14 @@ impl Cell {
     }
 }
 
-/// For each table of the part a row of the constants that its columns are told to be: by its head
-/// and the row, or by its atoms. Any other column has the row's first one.
+/// What a column is chosen to be.
+enum Choice<'a> {
+    Null,
+    Constant(&'a Operand),
+}
+
+/// For each table of the part a row of what its columns are told to be: by its head and the row, or
+/// by its atoms. Any other column has the row's first constant.
 pub fn chosen_rows(
     alloc: Global,
     schema: &Schema,
@@ -54,20 +60,34 @@ fn chosen_row(
 ) -> Result<List<Term>, AllocError> {
     let mut terms = Vec::new(alloc);
     for column in 0..width {
-        let constant = chosen(part, row, Cell { place, column });
-        terms.push(term_of(alloc, constant)?)?;
+        let choice = chosen(part, row, Cell { place, column });
+        terms.push(term_of(alloc, choice)?)?;
     }
     Ok(List::from_vec(terms))
 }
 
-fn chosen<'a>(part: &'a Part, row: &'a [Operand], cell: Cell) -> Option<&'a Operand> {
+fn chosen<'a>(part: &'a Part, row: &'a [Operand], cell: Cell) -> Choice<'a> {
+    if is_told_null(part.conds.as_slice(), cell) {
+        return Choice::Null;
+    }
     match told(part, row, cell) {
-        Some(constant) => Some(constant),
+        Some(constant) => Choice::Constant(constant),
         None => match told_by_another(part, row, cell) {
-            Some(constant) => Some(constant),
-            None => row.first(),
+            Some(constant) => Choice::Constant(constant),
+            None => among(part.conds.as_slice(), row, cell),
         },
     }
+}
+
+/// Whether an atom says that the column is NULL.
+fn is_told_null(conds: &[Atom], cell: Cell) -> bool {
+    for atom in conds {
+        match atom.op {
+            Op::IsNull if cell.is(&atom.left) => return true,
+            _ => (),
+        }
+    }
+    false
 }
 
 /// The constant that the column is told to be by the row or by an atom.
@@ -89,7 +109,7 @@ fn told_by_row<'a>(head: &[Operand], row: &'a [Operand], cell: Cell) -> Option<&
 
 fn told_by_atom<'a>(conds: &'a [Atom], cell: Cell) -> Option<&'a Operand> {
     for atom in conds {
-        match other_side(atom, cell) {
+        match equal_side(atom, cell) {
             Some(Operand::Col(_, _)) => (),
             Some(constant) => return Some(constant),
             None => (),
@@ -99,10 +119,15 @@ fn told_by_atom<'a>(conds: &'a [Atom], cell: Cell) -> Option<&'a Operand> {
 }
 
 /// What an equation says that the column is.
-fn other_side<'a>(atom: &'a Atom, cell: Cell) -> Option<&'a Operand> {
-    if !atom.op.same(&Op::Eq) {
-        return None;
+fn equal_side<'a>(atom: &'a Atom, cell: Cell) -> Option<&'a Operand> {
+    match atom.op {
+        Op::Eq => other_side(atom, cell),
+        _ => None,
     }
+}
+
+/// What the atom compares the column with, if it does.
+fn other_side<'a>(atom: &'a Atom, cell: Cell) -> Option<&'a Operand> {
     if cell.is(&atom.left) {
         return Some(&atom.right);
     }
@@ -115,7 +140,7 @@ fn other_side<'a>(atom: &'a Atom, cell: Cell) -> Option<&'a Operand> {
 /// The constant that a column is told to be to which the column is told to be equal.
 fn told_by_another<'a>(part: &'a Part, row: &'a [Operand], cell: Cell) -> Option<&'a Operand> {
     for atom in part.conds.as_slice() {
-        match other_side(atom, cell) {
+        match equal_side(atom, cell) {
             Some(Operand::Col(place, column)) => {
                 let other = Cell {
                     place: *place,
@@ -132,12 +157,35 @@ fn told_by_another<'a>(part: &'a Part, row: &'a [Operand], cell: Cell) -> Option
     None
 }
 
-fn term_of(alloc: Global, constant: Option<&Operand>) -> Result<Term, AllocError> {
-    match constant {
-        Some(Operand::Val(value)) => Ok(Term::Val(value.copy(alloc)?)),
-        Some(Operand::Param(n)) => Ok(Term::Param(*n)),
-        Some(Operand::Var(n)) => Ok(Term::Var(*n)),
-        Some(Operand::Col(_, _)) => Ok(Term::Val(Value::Null)),
-        None => Ok(Term::Val(Value::Null)),
+/// A constant that the column may be: the first that an atom lets it reach, or else the row's first.
+fn among<'a>(conds: &'a [Atom], row: &'a [Operand], cell: Cell) -> Choice<'a> {
+    for atom in conds {
+        match reached_side(atom, cell) {
+            Some(Operand::Col(_, _)) => (),
+            Some(constant) => return Choice::Constant(constant),
+            None => (),
+        }
+    }
+    match row.first() {
+        Some(constant) => Choice::Constant(constant),
+        None => Choice::Null,
+    }
+}
+
+/// The bound that an atom lets the column reach.
+fn reached_side<'a>(atom: &'a Atom, cell: Cell) -> Option<&'a Operand> {
+    match atom.op {
+        Op::Le => other_side(atom, cell),
+        _ => None,
+    }
+}
+
+fn term_of(alloc: Global, choice: Choice<'_>) -> Result<Term, AllocError> {
+    match choice {
+        Choice::Constant(Operand::Val(value)) => Ok(Term::Val(value.copy(alloc)?)),
+        Choice::Constant(Operand::Param(n)) => Ok(Term::Param(*n)),
+        Choice::Constant(Operand::Var(n)) => Ok(Term::Var(*n)),
+        Choice::Constant(Operand::Col(_, _)) => Ok(Term::Val(Value::Null)),
+        Choice::Null => Ok(Term::Val(Value::Null)),
     }
 }

@@ -96,11 +96,15 @@ fn add_told(alloc: Global, then: &Search, here: Step, told: &mut Told) -> Result
     told.add(alloc, here)
 }
 
-/// The step on the branch of the number, if it is by a link, a rule or a view.
+/// The step on the branch of the number, if it is by an entry, a link, a rule or a view.
 fn on_branch(alloc: Global, step: &Step, number: u32) -> Result<Option<Step>, AllocError>
     ensures { IfOk result (λ it. it ≡ on_branch number step.now) }
 {
     match step {
+        Step::Entry { entry, .. } => Ok(Some(Step::Entry {
+            branch: number,
+            entry: *entry,
+        })),
         Step::Link { link, fact, .. } => Ok(Some(Step::Link {
             branch: number,
             link: *link,

@@ -9,6 +9,12 @@ use std::alloc::{AllocError, Global};
 use std::cmp::Ordering;
 use std::mem;
 
+/// An entry, by its number.
+#[derive(Clone, Copy, Debug, PartialEq, Eq, PartialOrd, Ord)]
+pub struct ToldEntry {
+    pub entry: u64,
+}
+
 /// A link of a fact.
 #[derive(Clone, Copy, Debug, PartialEq, Eq, PartialOrd, Ord)]
 pub struct ToldLink {
@@ -23,12 +29,19 @@ pub struct ToldMapping {
     pub facts: List<u32>,
 }
 
-/// Steps by links, rules and views that tell a branch nothing any more. Either list is kept in
-/// order, so that a look-up is by halving.
+/// Steps by entries, links, rules and views that tell a branch nothing any more. Each list is kept
+/// in order, so that a look-up is by halving.
 #[derive(Drop)]
 pub struct Told {
+    pub entries: List<ToldEntry>,
     pub links: List<ToldLink>,
     pub mappings: List<ToldMapping>,
+}
+
+impl Duplicate for ToldEntry {
+    fn copy(&self, _alloc: Global) -> Result<ToldEntry, AllocError> {
+        Ok(*self)
+    }
 }
 
 impl Duplicate for ToldLink {
@@ -48,9 +61,14 @@ impl Duplicate for ToldMapping {
 
 impl Duplicate for Told {
     fn copy(&self, alloc: Global) -> Result<Told, AllocError> {
+        let entries = self.entries.copy(alloc)?;
         let links = self.links.copy(alloc)?;
         let mappings = self.mappings.copy(alloc)?;
-        Ok(Told { links, mappings })
+        Ok(Told {
+            entries,
+            links,
+            mappings,
+        })
     }
 }
 
@@ -117,11 +135,23 @@ fn insert<T: Drop>(alloc: Global, list: &mut List<T>, place: usize, it: T) -> Re
 impl Told {
     /// No step.
     pub fn none(alloc: Global) -> Told
-        ensures { result ≡ record { links = []; mappings = [] } }
+        ensures { result ≡ record { entries = []; links = []; mappings = [] } }
     {
         Told {
+            entries: List::new(alloc),
             links: List::new(alloc),
             mappings: List::new(alloc),
+        }
+    }
+
+    /// Whether the entry's step is one of these.
+    pub fn has_entry(&self, entry: u64) -> bool
+        ensures { IsTrue result → Contains self.now.entries (record { entry = entry }) }
+    {
+        let sought = ToldEntry { entry };
+        match self.entries.find(self.entry_place(sought)) {
+            Some(it) => *it == sought,
+            None => false,
         }
     }
 
@@ -148,11 +178,12 @@ impl Told {
         }
     }
 
-    /// Adds the step, if it is by a link, a rule or a view.
+    /// Adds the step, if it is by an entry, a link, a rule or a view.
     pub fn add(&mut self, alloc: Global, step: Step) -> Result<(), AllocError>
         ensures { OnOk result (AddsStep step self.old self.new) }
     {
         match step {
+            Step::Entry { entry, .. } => self.add_entry(alloc, ToldEntry { entry }),
             Step::Link { link, fact, .. } => self.add_link(alloc, ToldLink { fact, link }),
             Step::Rule {
                 rule,
@@ -176,9 +207,20 @@ impl Told {
         }
     }
 
+    fn add_entry(&mut self, alloc: Global, it: ToldEntry) -> Result<(), AllocError>
+        ensures entries { OnOk result ((x : ToldEntry) → Contains self.new.entries x
+            → Contains self.old.entries x ⊎ (it ≡ x)) }
+        ensures links { OnOk result (self.new.links ≡ self.old.links) }
+        ensures mappings { OnOk result (self.new.mappings ≡ self.old.mappings) }
+    {
+        let place = self.entry_place(it);
+        insert(alloc, &mut self.entries, place, it)
+    }
+
     fn add_link(&mut self, alloc: Global, it: ToldLink) -> Result<(), AllocError>
         ensures links { OnOk result ((x : ToldLink) → Contains self.new.links x
             → Contains self.old.links x ⊎ (it ≡ x)) }
+        ensures entries { OnOk result (self.new.entries ≡ self.old.entries) }
         ensures mappings { OnOk result (self.new.mappings ≡ self.old.mappings) }
     {
         let place = self.link_place(it);
@@ -188,10 +230,16 @@ impl Told {
     fn add_mapping(&mut self, alloc: Global, it: ToldMapping) -> Result<(), AllocError>
         ensures mappings { OnOk result ((x : ToldMapping) → Contains self.new.mappings x
             → Contains self.old.mappings x ⊎ (it ≡ x)) }
+        ensures entries { OnOk result (self.new.entries ≡ self.old.entries) }
         ensures links { OnOk result (self.new.links ≡ self.old.links) }
     {
         let place = self.new_place(&it);
         insert(alloc, &mut self.mappings, place, it)
+    }
+
+    /// Where the entry stands, or is to stand.
+    fn entry_place(&self, it: ToldEntry) -> usize {
+        self.entries.as_slice().partition_point(|there| *there < it)
     }
 
     /// Where the link stands, or is to stand.

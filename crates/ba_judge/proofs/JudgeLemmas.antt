@@ -29,7 +29,7 @@ use Rattle.ba_refute.specs.declared.clause.Clause.{Clause}
 use Rattle.ba_refute.specs.declared.clause.Counterexample.{Counterexample}
 use Rattle.ba_refute.specs.declared.refutal.Refutal.{Refutal}
 use Rattle.ba_refute.specs.declared.refutal.Refutal.TheVariants as refutal
-use Rattle.ba_judge.specs.Judging.{Asked, Concludes, HasBlockedPart, IsAllowedBy, IsFirstToServe, IsGround, IsReason, IsServedBy, IsServing, IsStrong, LooksAtParts, LooksAtWhole, NoneServes, ServesAlone, ServesFirst, TakesFirst, ToldStaysOpen, Uncovered, question_of}
+use Rattle.ba_judge.specs.Judging.{Asked, Concludes, HasBlockedPart, IsAllowedBy, IsFirstToServe, IsGround, IsReason, IsServedBy, IsServing, IsStrong, LooksAtParts, LooksAtWhole, NoneServes, RestOnTruth, ServesAlone, ServesFirst, TakesFirst, Uncovered, question_of}
 use Rattle.ba_judge.specs.Shelves.{Learns, standing_for}
 use Rattle.ba_judge.specs.declared.shelves.Shelves.{Shelves}
 use Rattle.ba_judge.specs.declared.verdict.Judgement.{Judgement}
@@ -110,8 +110,8 @@ module _ (asked : Asked) (effort : Effort) (proof : Proof) (ends : Settles effor
       subst IsOfQuestion (sym (proof_problem effort (question_of asked) proof ends))
       (record { context = asked.context; trace = asked.trace; fits = fits; is = refl })
 
-  -- a proof allows its question, where what was told isn't shown to contradict itself
-  pub proved_at : (ground : By) → ground ≡ by.Proof proof.steps → ProblemIsQuestion → QuestionFits asked.policy asked.context asked.trace asked.query → Uncovered asked → ToldStaysOpen asked effort → StrongAll proof.problem →
+  -- a proof allows its question, where it rests on no contradiction
+  pub proved_at : (ground : By) → ground ≡ by.Proof proof.steps → ProblemIsQuestion → QuestionFits asked.policy asked.context asked.trace asked.query → Uncovered asked → RestOnTruth asked effort proof.steps → StrongAll proof.problem →
       Concludes asked effort (Allow ground)
   proved_at ground ground_is law fits bare stays_open strong =
       let same = proof_problem effort (question_of asked) proof ends in
@@ -127,14 +127,14 @@ pub told_fits : (asked : Asked) → QuestionFits asked.policy asked.context aske
 told_fits asked fits = record { tables = fits.tables; rules = fits.rules; policy_fits = fits.policy_fits; context = fits.context; trace_fits = fits.trace_fits }
 
 -- what a search over the told rows alone shows
-module _ (asked : Asked) (effort : Effort) (found : Option (List Step)) (shows : MatchOption found (ToldStaysOpen asked effort) (Contradicted asked.policy asked.context asked.trace effort)) where
-  pub told_open : found ≡ None → ToldStaysOpen asked effort
-  told_open e = subst (λ (z : Option (List Step)). MatchOption z (ToldStaysOpen asked effort) (Contradicted asked.policy asked.context asked.trace effort)) e shows
+module _ (asked : Asked) (effort : Effort) (proof : List Step) (found : Option (List Step)) (shows : MatchOption found (RestOnTruth asked effort proof) (Contradicted asked.policy asked.context asked.trace effort)) where
+  pub rests_on_truth : found ≡ None → RestOnTruth asked effort proof
+  rests_on_truth e = subst (λ (z : Option (List Step)). MatchOption z (RestOnTruth asked effort proof) (Contradicted asked.policy asked.context asked.trace effort)) e shows
 
   pub contradicts : (steps : List Step) → found ≡ Some steps → Uncovered asked → Concludes asked effort (Deny (why.Contradiction steps))
   contradicts steps e bare = record {
     uncovered = bare;
-    reason_is = subst (λ (z : Option (List Step)). MatchOption z (ToldStaysOpen asked effort) (Contradicted asked.policy asked.context asked.trace effort)) e shows;
+    reason_is = subst (λ (z : Option (List Step)). MatchOption z (RestOnTruth asked effort proof) (Contradicted asked.policy asked.context asked.trace effort)) e shows;
   }
 
 -- ---- templates

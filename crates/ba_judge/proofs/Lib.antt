@@ -3,3 +3,4 @@ pub mod LearnLemmas
 pub mod ReadLemmas
 pub mod ShelfLemmas
 pub mod UnionLemmas
+pub mod WeakerLemmas

@@ -2,6 +2,7 @@
 //! Nothing is answered here.
 #![tactic(auto)]
 
+mod absurd;
 mod asking;
 mod keep;
 mod key;

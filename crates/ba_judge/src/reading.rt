@@ -7,7 +7,7 @@ ghost use Rattle.ba_model.specs.Limits.{most_budget};
 
 use crate::asking::Asking;
 use crate::shelves::Shelves;
-use crate::union::judge;
+use crate::union::judge_told;
 use crate::verdict::{Allowed, Judgement, Reason};
 use ba_comply::Trace;
 use ba_keys::key_queries;
@@ -46,8 +46,9 @@ pub enum Read {
     },
 }
 
-/// Whether a read may be let through: the key's queries are judged in order, each by [`judge`] after
-/// what the request was told, and the first that is blocked ends it. No rows are told.
+/// Whether a read may be let through: the key's queries are judged in order, each as
+/// [`judge`](crate::judge) does it after what the request was told, with no look at a weaker trace,
+/// and the first that is blocked ends it. No rows are told.
 ///
 /// The key is one of the policy, with a value of its kind for each argument; the context and the
 /// trace fit the policy, and the budget is at most [`ba_model::MAX_BUDGET`] steps. The error is want
@@ -113,7 +114,7 @@ fn stop_of<S: Settle>(
             trace: reading.trace,
             query,
         };
-        let judgement = judge(alloc, &asked, shelves, settle, budget)?;
+        let judgement = judge_told(alloc, &asked, shelves, settle, budget)?;
         match judgement {
             Judgement::Allowed(allowed) => by.push(allowed)?,
             Judgement::Blocked(reason) => return Ok(Some(reason)),

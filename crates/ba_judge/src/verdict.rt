@@ -19,8 +19,9 @@ pub enum By {
         found: Match,
     },
     /// No views cover it, no template that stood there matches, and these are the due steps, at most
-    /// as many as the budget, that leave no branch of its problem open. A search of the same budget
-    /// over the told rows alone ended without a proof that they contradict each other.
+    /// as many as the budget, that leave no branch of its problem open. Where one of them ends its
+    /// branch as absurd, a search of the same budget over the told rows alone ended without a proof
+    /// that they contradict each other.
     Proof(List<Step>),
 }
 
@@ -30,6 +31,12 @@ pub enum By {
 pub enum Allowed {
     Whole(By),
     Parts(List<By>),
+    /// The evidence is of the question after the weaker trace ([`ba_weaker::weakened`]), which is
+    /// another one than what was told. What is strongly compliant after it is so after what was
+    /// told. It is no cover.
+    WeakerWhole(By),
+    /// The same of each part.
+    WeakerParts(List<By>),
 }
 
 /// Why a question is blocked, which no views cover and no template that stood there matches: the
@@ -45,8 +52,8 @@ pub enum Reason {
     /// The due steps that end at a saturated branch, and the first clause that its image doesn't
     /// meet. Whether the question is strongly compliant isn't known.
     Stuck(Leaf, Clause),
-    /// The question is proved, but so are the told rows alone shown to be in no database: these due
-    /// steps, at most as many as the budget, do it. From rows that contradict each other anything
+    /// The question is proved by steps that end a branch as absurd, but so are the told rows alone
+    /// shown to be in no database: these due steps, at most as many as the budget, do it. From rows that contradict each other anything
     /// follows, so the proof says nothing of the question, and no template of it is kept.
     Contradiction(List<Step>),
 }
@@ -54,8 +61,9 @@ pub enum Reason {
 /// Whether a question may be answered, with the evidence.
 #[derive(Drop)]
 pub enum Judgement {
-    /// It is strongly compliant after what was told. Where that rests on a proof, a search over the
-    /// told rows alone shows no contradiction among them.
+    /// It is strongly compliant after what was told. Where that rests on a proof, this ends each
+    /// branch at a goal, or a search over the told rows alone shows no contradiction among them;
+    /// after the weaker trace, among those of that trace.
     Allowed(Allowed),
     /// It isn't known to be strongly compliant; or it is, as any question is after rows that no
     /// database has.

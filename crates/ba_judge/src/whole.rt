@@ -1,25 +1,27 @@
 //! Whether a question may be answered, as a whole.
-ghost use Rattle.std.specs.Prelude.{◌≡◌, ◌≤◌, IfOk, List};
+ghost use Rattle.std.specs.Prelude.{◌≡◌, ◌≤◌, IfOk, List as Sequence, MatchOption};
+ghost use Rattle.ba_contradict.specs.Contradictions.{Contradicted};
 ghost use Rattle.ba_general.specs.Generals.{IsOfQuestion};
 ghost use Rattle.ba_kernel.specs.Asked.{QuestionFits};
 ghost use Rattle.ba_kernel.specs.Problems.{StrongAll};
 ghost use Rattle.ba_kernel.specs.SearchStates.{Proof};
 ghost use Rattle.ba_model.specs.Limits.{most_budget};
-ghost use Rattle.ba_judge.specs.Judging.{Concludes, IsReason, IsServing, NoneServes, TakesFirst, Uncovered, effort_in, question_of, seen};
+ghost use Rattle.ba_judge.specs.Judging.{Concludes, IsReason, IsServing, NoneServes, RestOnTruth, TakesFirst, Uncovered, effort_in, question_of, seen};
 ghost use Rattle.ba_judge.specs.Shelves.{Learns, standing_for};
 ghost use Rattle.ba_settle.specs.Dues.{IsLeaf};
 ghost use Rattle.ba_settle.specs.Settling.{Effort, Settles};
 ghost use Rattle.ba_settle.specs.declared.ends.Settled.TheVariants as settled;
 
+use crate::absurd::end_absurd;
 use crate::asking::Asking;
 use crate::keep::keep;
 use crate::shelves::Shelves;
 use crate::verdict::{By, Reason};
 use ba_contradict::contradiction;
 use ba_kernel::laws::problem_is_question;
-use ba_kernel::{Problem, Proved};
+use ba_kernel::{Problem, Proved, Step};
 use ba_match::match_template;
-use ba_model::{Duplicate, Shared};
+use ba_model::{Duplicate, List, Shared};
 use ba_refute::{Question, Refutal, try_pair};
 use ba_settle::laws::settled_are_leaves;
 use ba_settle::{Leaf, Settle, Settled};
@@ -36,7 +38,7 @@ pub(crate) enum Finding {
 
 /// How a question comes out that isn't covered: by the first template that matches of those that
 /// stand on the shelves for its shape, or else by a search of at most `budget` due steps, whose proof
-/// is kept as a template, unless the told rows alone are shown to be in no database.
+/// is kept as a template, unless it rests on told rows that are shown to be in no database.
 #[tactic(auto, using(crate::proofs::LearnLemmas::same_learns, crate::proofs::LearnLemmas::found_learns))]
 pub(crate) fn conclude<S: Settle>(
     alloc: Global,
@@ -91,8 +93,8 @@ fn serving(
     Ok(None)
 }
 
-/// What a search for a proof of the question finds. The template of a proof is kept, unless what
-/// was told contradicts itself.
+/// What a search for a proof of the question finds. The template of a proof is kept, unless it rests
+/// on told rows that contradict each other.
 #[tactic(auto, using(crate::proofs::LearnLemmas::same_learns))]
 fn search<S: Settle>(
     alloc: Global,
@@ -107,7 +109,7 @@ fn search<S: Settle>(
     requires uncovered { Uncovered (seen asked.now) }
     ensures concludes { IfOk result
         (Concludes (seen asked.now) (effort_in (S.orders settle.now) budget)) }
-    ensures first { (found : List Proof) → NoneServes (seen asked.now) found
+    ensures first { (found : Sequence Proof) → NoneServes (seen asked.now) found
         → IfOk result (TakesFirst (seen asked.now) found) }
     ensures learns { Learns shelves.old shelves.new }
 {
@@ -124,9 +126,9 @@ fn search<S: Settle>(
     }
 }
 
-/// What a proof of the question is worth: nothing where the told rows alone are shown to be in no
-/// database, by a search of at most `budget` due steps. Else it allows its question, and its
-/// template is kept.
+/// What a proof of the question is worth: nothing where it ends a branch as absurd and the told rows
+/// alone are shown to be in no database, by a search of at most `budget` due steps. Else it allows
+/// its question, and its template is kept.
 #[tactic(auto, using(crate::proofs::LearnLemmas::same_learns))]
 fn weigh<S: Settle>(
     alloc: Global,
@@ -144,23 +146,47 @@ fn weigh<S: Settle>(
         (settled.Proved proved) }
     ensures concludes { IfOk result
         (Concludes (seen asked.now) (effort_in (S.orders settle.now) budget)) }
-    ensures first { (found : List Proof) → NoneServes (seen asked.now) found
+    ensures first { (found : Sequence Proof) → NoneServes (seen asked.now) found
         → IfOk result (TakesFirst (seen asked.now) found) }
     ensures learns { Learns shelves.old shelves.new }
 {
     problem_is_question();
-    let found = contradiction(
+    let found = contradiction_below(alloc, asked, &proved, settle, budget)?;
+    match found {
+        Some(steps) => Ok(Finding::Deny(Reason::Contradiction(steps))),
+        None => Ok(Finding::Allow(by_proof(alloc, shelves, proved))),
+    }
+}
+
+/// The steps by which the told rows alone are shown to be in no database, if the proof ends a branch
+/// as absurd and a search of at most `budget` due steps finds some. A proof that ends each branch at
+/// a goal needs none: no contradiction helps it.
+fn contradiction_below<S: Settle>(
+    alloc: Global,
+    asked: &Asking<'_>,
+    proved: &Proved,
+    settle: &S,
+    budget: u32,
+) -> Result<Option<List<Step>>, AllocError>
+    requires fits { QuestionFits (seen asked.now).policy (seen asked.now).context
+        (seen asked.now).trace (seen asked.now).query }
+    requires limit { budget ≤ most_budget }
+    ensures { IfOk result (λ found. MatchOption found
+        (RestOnTruth (seen asked.now) (effort_in (S.orders settle.now) budget) proved.now.steps)
+        (Contradicted (seen asked.now).policy (seen asked.now).context (seen asked.now).trace
+        (effort_in (S.orders settle.now) budget))) }
+{
+    if !end_absurd(proved.steps().as_slice()) {
+        return Ok(None);
+    }
+    contradiction(
         alloc,
         asked.policy,
         asked.context,
         asked.trace,
         settle,
         budget,
-    )?;
-    match found {
-        Some(steps) => Ok(Finding::Deny(Reason::Contradiction(steps))),
-        None => Ok(Finding::Allow(by_proof(alloc, shelves, proved))),
-    }
+    )
 }
 
 /// The proof as a reason to allow its question. Its template is kept.

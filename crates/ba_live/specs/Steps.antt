@@ -4,7 +4,7 @@ use Rattle.std.specs.Str.{bytes_eq}
 use Rattle.ba_comply.specs.declared.trace.TraceEntry.{TraceEntry}
 use Rattle.ba_event.specs.declared.event.Event.{Event}
 use Rattle.ba_event.specs.declared.event.Event.TheVariants as event
-use Rattle.ba_judge.specs.Judging.{Asked as Question, IsBlockedFor, IsStrong, Prefers, RestsOn}
+use Rattle.ba_judge.specs.Judging.{Asked as Question, IsBlockedFor, IsStrong, PrefersWeaker, RestsOn}
 use Rattle.ba_judge.specs.Reading.{JudgesRead, Reader}
 use Rattle.ba_judge.specs.declared.reading.Read.{Read}
 use Rattle.ba_judge.specs.declared.verdict.Allowed.{Allowed}
@@ -119,7 +119,7 @@ pub record Allows (effort : Effort) (line : ℕ) (name text : List ℕ) (it : Al
   pub reads_back : ReadsSent old.target old.policy.schema send (closed asker.context query)
   pub rests : RestsOn (question_in old.policy asker query) effort it
   pub strong : IsStrong (question_in old.policy asker query)
-  pub prefers : Prefers (question_in old.policy asker query) effort old.shelves
+  pub prefers : PrefersWeaker (question_in old.policy asker query) effort old.shelves
       (judged.Allowed it)
   pub opens : Opens name (Some (with_line line asker)) old.requests new.requests
   pub expects : Expects line (Some (record { name = name; query = query }))
@@ -154,7 +154,7 @@ pub record Blocks (effort : Effort) (name text : List ℕ) (it : Reason) (old ne
   pub reads : query_of old.policy.schema old.policy.params text ≡ Ok query
   pub of_question : IsOfQuestion it
   pub blocked : IsBlockedFor (question_in old.policy asker query) effort it
-  pub prefers : Prefers (question_in old.policy asker query) effort old.shelves
+  pub prefers : PrefersWeaker (question_in old.policy asker query) effort old.shelves
       (judged.Blocked it)
 
 pub record FailsToRead (name text : List ℕ) (fault : ReadQueryFault) (old new : Live) : Type 0 where
@@ -193,6 +193,7 @@ RefusesAsk it name text refusal.Unbegun = open_at it name ≡ None
 RefusesAsk it name text refusal.Closed = WasClosed it name
 RefusesAsk it name text refusal.Asks =
     (asker : Open) × IsServed it name asker × (most_open_asks ≤ asker.asks)
+RefusesAsk it name text refusal.NullTest = IsUnsent it name text unsendable.NullTest
 RefusesAsk it name text refusal.ZeroByte = IsUnsent it name text unsendable.ZeroByte
 RefusesAsk it name text refusal.LongSend = IsUnsent it name text unsendable.TooLong
 RefusesAsk it name text _ = ⊥

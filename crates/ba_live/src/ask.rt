@@ -66,6 +66,7 @@ impl Live {
         };
         let send = match sent_text(alloc, &self.target, &self.policy, &open.context, &query) {
             Ok(text) => Str::from_string(text),
+            Err(Failure::Fault(Unsendable::NullTest)) => return Ok(refused(Refusal::NullTest)),
             Err(Failure::Fault(Unsendable::ZeroByte)) => return Ok(refused(Refusal::ZeroByte)),
             Err(Failure::Fault(Unsendable::TooLong)) => return Ok(refused(Refusal::LongSend)),
             Err(Failure::NoMemory) => return Err(AllocError),

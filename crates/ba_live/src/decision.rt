@@ -35,6 +35,9 @@ pub enum Refusal {
     Args,
     /// It asks, or reads a key, where its request would come to more questions than it may ask.
     Asks,
+    /// It asks a question that says IS NULL of a column that has no NULL, by which the database finds
+    /// rows that the question hasn't.
+    NullTest,
     /// It asks a question with a text that has the byte 0, which databases don't take.
     ZeroByte,
     /// It asks a question whose text for the database would have too many bytes.

@@ -1,5 +1,5 @@
 -- The image of a leaf of a question of equations is a counterexample, where its literals are small.
-use Rattle.std.proofs.Common.{◌≡◌, subst}
+use Rattle.std.proofs.Common.{subst}
 use Rattle.ba_comply.specs.declared.trace.TraceEntry.{TraceEntry}
 use Rattle.std.specs.Prelude.{List}
 use Rattle.ba_facts.specs.declared.term.Side.TheVariants.{One, Two}

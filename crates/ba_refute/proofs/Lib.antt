@@ -1,5 +1,6 @@
 pub mod ClassLemmas
 pub mod ClauseLemmas
+pub mod ComparedLemmas
 pub mod ConformLemmas
 pub mod CourseLemmas
 pub mod DecideLemmas
@@ -27,5 +28,6 @@ pub mod SplitLemmas
 pub mod StoredLemmas
 pub mod TextLemmas
 pub mod UnknownLemmas
+pub mod UsedLemmas
 pub mod ValueLemmas
 pub mod WithinLemmas

@@ -1,10 +1,10 @@
 -- Bounds of a term from the values before it, and numbers one after another.
-use Rattle.std.proofs.Common.{◌≡◌, ℕ, ◌<◌, ◌≤◌, ℤ, pos, ◌+ℤ◌, ◌≤ℤ◌, List, [], ◌∷◌, ◌++◌, length, map, Option, None, Some, refl, sym, ap, ◌∙◌, subst, ⊎_elim, arith}
+use Rattle.std.proofs.Common.{◌≡◌, ℕ, ◌<◌, ◌≤◌, ℤ, pos, ◌+ℤ◌, ◌≤ℤ◌, List, [], ◌∷◌, ◌++◌, length, map, Option, None, Some, refl, sym, ap, subst, ⊎_elim, arith}
 use Rattle.std.specs.Int.{int_max, int_min}
 use Rattle.std.specs.List.{zip}
 use Rattle.std.proofs.lemmas.Bool.{cases_lt}
 use Rattle.std.proofs.lemmas.Int.{ints, clamps, by_lt_z}
-use Rattle.std.proofs.lemmas.List.{append-nil, append_assoc, length_push, take-append-le, take_at, get_or_append_left, get_or_push}
+use Rattle.std.proofs.lemmas.List.{length_push, take-append-le, take_at, get_or_append_left, get_or_push}
 use Rattle.std.proofs.lemmas.List.Elements.{Contains-append_left, Contains-push, Contains-push_cases}
 use Rattle.ba_classes.specs.Image.{IsGreatest, IsLeast, greater_of, lesser_of}
 use Rattle.ba_facts.specs.Known.{Known, ShownGap}
@@ -86,7 +86,7 @@ zip-push [] (w ∷ vs) x v e = absurd (omega arith)
 zip-push (y ∷ xs) [] x v e = absurd (omega arith)
 zip-push (y ∷ xs) (w ∷ vs) x v e = ap (λ ps. (Unknown y, w) ∷ ps) (zip-push xs vs x v (omega arith))
 
-with_zero-push : (xs : List ℕ) (vs : List ℤ) (x : ℕ) (v : ℤ) → length vs ≡ length xs → with_zero (xs ++ x ∷ []) (vs ++ v ∷ []) ≡ with_zero xs vs ++ (Unknown x, v) ∷ []
+pub with_zero-push : (xs : List ℕ) (vs : List ℤ) (x : ℕ) (v : ℤ) → length vs ≡ length xs → with_zero (xs ++ x ∷ []) (vs ++ v ∷ []) ≡ with_zero xs vs ++ (Unknown x, v) ∷ []
 with_zero-push xs vs x v e = ap (λ ps. (Val (Int (pos 0)), pos 0) ∷ ps) (zip-push xs vs x v e)
 
 same_value : (k : Known) (used : List ℤ) (xs ys : List ℕ) (vs ws : List ℤ) (x y : ℕ) (v w : ℤ) → xs ≡ ys → vs ≡ ws → x ≡ y → v ≡ w → IsNumberOf k (with_zero xs vs) (used ++ vs) (Unknown x) v → IsNumberOf k (with_zero ys ws) (used ++ ws) (Unknown y) w
@@ -96,7 +96,7 @@ same_value k used xs ys vs ws x y v w p q r s h =
     (subst (λ bs. IsNumberOf k (with_zero ys bs) (used ++ bs) (Unknown x) v) q
     (subst (λ ns. IsNumberOf k (with_zero ns vs) (used ++ vs) (Unknown x) v) p h)))
 
-numbers-more : (k : Known) (used : List ℤ) (xs : List ℕ) (vs : List ℤ) (x : ℕ) (v : ℤ) → AreNumbers k used xs vs → IsNumberOf k (with_zero xs vs) (used ++ vs) (Unknown x) v → AreNumbers k used (xs ++ x ∷ []) (vs ++ v ∷ [])
+pub numbers-more : (k : Known) (used : List ℤ) (xs : List ℕ) (vs : List ℤ) (x : ℕ) (v : ℤ) → AreNumbers k used xs vs → IsNumberOf k (with_zero xs vs) (used ++ vs) (Unknown x) v → AreNumbers k used (xs ++ x ∷ []) (vs ++ v ∷ [])
 numbers-more k used xs vs x v image is = record {
   len = omega (arith, image.len, length_push xs x, length_push vs v);
   each = λ i h.
@@ -115,24 +115,3 @@ numbers-more k used xs vs x v image is = record {
       is)
       (cases_lt i (length xs));
 }
-
--- what the loop over the nodes keeps once the first ones have numbers
-pub record IsSoFar (k : Known) (used : List ℤ) (nodes : List ℕ) (valued : List (Term × ℤ)) (taken values : List ℤ) : Type 0 where
-  pub valued_is : valued ≡ with_zero nodes values
-  pub taken_is : taken ≡ used ++ values
-  pub numbers : AreNumbers k used nodes values
-
-pub so_far_none : (k : Known) (used : List ℤ) → IsSoFar k used [] ((Val (Int (pos 0)), pos 0) ∷ []) used []
-so_far_none k used = record { valued_is = refl; taken_is = sym (append-nil used); numbers = record { len = refl; each = λ i h. absurd (omega (arith, h)) } }
-
-pub so_far_more : (k : Known) (used : List ℤ) (nodes : List ℕ) (valued : List (Term × ℤ)) (taken values : List ℤ) (node : ℕ) (value : ℤ) → IsSoFar k used nodes valued taken values → IsNumberOf k valued taken (Unknown node) value → IsSoFar k used (nodes ++ node ∷ []) (valued ++ (Unknown node, value) ∷ []) (taken ++ value ∷ []) (values ++ value ∷ [])
-so_far_more k used nodes valued taken values node value so_far is =
-    let pushed = with_zero-push nodes values node value so_far.numbers.len in
-    let placed : IsNumberOf k (with_zero nodes values) (used ++ values) (Unknown node) value =
-    subst (λ ts. IsNumberOf k (with_zero nodes values) ts (Unknown node) value) so_far.taken_is
-    (subst (λ ps. IsNumberOf k ps taken (Unknown node) value) so_far.valued_is is) in
-    record {
-      valued_is = ap (λ ps. ps ++ (Unknown node, value) ∷ []) so_far.valued_is ∙ sym pushed;
-      taken_is = ap (λ ts. ts ++ value ∷ []) so_far.taken_is ∙ append_assoc used values (value ∷ []);
-      numbers = numbers-more k used nodes values node value so_far.numbers placed;
-    }

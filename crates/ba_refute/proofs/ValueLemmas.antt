@@ -1,10 +1,17 @@
 -- The values of unknowns, one after another.
-use Rattle.std.proofs.Common.{◌≡◌, ◌∙◌, ℕ, zero, suc, ◌+◌, ◌<◌, ◌^◌, ℤ, pos, List, [], ◌∷◌, ◌++◌, All, Contains, ap, get_or, length, ◌⊎◌, inl, inr, refl, sym, subst, ⊎_elim, arith, Some, Result, Ok, Err}
+use Rattle.std.proofs.Common.{◌≡◌, ◌∙◌, ℕ, zero, suc, ◌+◌, ◌<◌, ◌≤◌, ◌^◌, ℤ, pos, List, [], ◌∷◌, ◌++◌, All, Contains, ap, get_or, length, ◌⊎◌, inl, inr, refl, sym, subst, ⊎_elim, arith, Some, Result, Ok, Err}
 use Rattle.std.specs.Fmt.{decimal}
 use Rattle.std.specs.List.{repeat, zip}
 use Rattle.std.specs.Result.{IfOk}
 use Rattle.std.specs.List.{slice_get}
+use Rattle.std.specs.List.Sorted.{IsBinarySearchResult, IsStrictlySortedBy}
+use Rattle.std.specs.Cmp.{ranks}
+use Rattle.std.specs.Ordering.{MatchOrdering, nat_cmp}
+use Rattle.std.proofs.lemmas.Bool.{cases_lt}
+use Rattle.std.proofs.lemmas.Grind.{get_or_default_zero}
 use Rattle.std.proofs.lemmas.List.{length_push}
+use Rattle.std.proofs.lemmas.List.Sorted.{searched}
+use Rattle.std.proofs.lemmas.Map.Keys.{Less-from_sorted}
 use Rattle.std.proofs.lemmas.Option.{none-some}
 use Rattle.ba_facts.proofs.Elements.{get_push_cases}
 use Rattle.ba_facts.specs.Knowing.{IsLeastOf}
@@ -57,6 +64,32 @@ zip_at (x ∷ xs) (v ∷ vs) (suc i) less e = Contains-later (x, v) (zip xs vs) 
 pub zip_found : (xs : List ℕ) (vs : List ℤ) (i n : ℕ) (z : ℤ) → i < length xs → length vs ≡ length xs → get_or xs i 0 ≡ n → get_or vs i (pos 0) ≡ z → Contains (zip xs vs) (n, z)
 zip_found xs vs i n z less e at is =
     subst (λ w. Contains (zip xs vs) (n, w)) is (subst (λ m. Contains (zip xs vs) (m, get_or vs i (pos 0))) at (zip_at xs vs i less e))
+
+rises_up : (xs : List ℕ) → IsStrictlySortedBy nat_cmp xs → (i j : ℕ) → i ≤ j → j < length xs → get_or xs i 0 ≤ get_or xs j 0
+rises_up xs rising i j upto there =
+    ⊎_elim
+    (λ (h : i < j).
+    let low : ℕ = get_or xs i 0 in
+    let high : ℕ = get_or xs j 0 in
+    let below : low < high = subst (λ o. MatchOrdering o (low < high) (low ≡ high) (high < low)) (Less-from_sorted nat_cmp xs i j 0 rising h there) (ranks low high) in
+    omega (arith, below))
+    (λ (past : j ≤ i). let e : i ≡ j = omega (arith, upto, past) in subst (λ m. get_or xs i 0 ≤ get_or xs m 0) e (omega arith))
+    (cases_lt i j)
+
+-- what a search by halving finds and doesn't
+pub zip_searched : (xs : List ℕ) (vs : List ℤ) (i n : ℕ) (z : ℤ) → IsStrictlySortedBy nat_cmp xs → length vs ≡ length xs → IsBinarySearchResult (λ y. nat_cmp y n) xs (Ok i) → get_or vs i (pos 0) ≡ z → Contains (zip xs vs) (n, z)
+zip_searched xs vs i n z rising len is at =
+    let it = searched xs n (Ok i) is (rises_up xs rising) in
+    zip_found xs vs i n z it.0 len it.1 at
+
+pub not_found : (xs : List ℕ) (i n : ℕ) → IsStrictlySortedBy nat_cmp xs → IsBinarySearchResult (λ y. nat_cmp y n) xs (Err i) → Contains xs n → ⊥
+not_found xs i n rising is there =
+    let it = searched xs n (Err i) is (rises_up xs rising) in
+    let at : get_or xs there.0 0 ≡ n = sym (get_or_default_zero xs there.0 n there.1) ∙ there.2 in
+    ⊎_elim
+    (λ (low : there.0 < i). let below = it.1 there.0 low in omega (arith, below, at))
+    (λ (high : i ≤ there.0). let above = it.2 there.0 high there.1 in omega (arith, above, at))
+    (cases_lt there.0 i)
 
 -- ---- kinds of unknowns
 

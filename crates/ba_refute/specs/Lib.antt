@@ -1,9 +1,11 @@
+pub mod Compared
 pub mod Counterexamples
+pub mod EquationParts
 pub mod Images
+pub mod OfEquations
 pub mod Once
 pub mod Pairs
-pub mod Wide
-pub mod TermValues
-pub mod EquationParts
-pub mod OfEquations
 pub mod Refutals
+pub mod TermValues
+pub mod Used
+pub mod Wide

@@ -2,6 +2,7 @@
 #![tactic(auto)]
 
 mod clause;
+mod compared;
 mod conform;
 mod image;
 pub mod laws;
@@ -15,6 +16,7 @@ mod rows;
 mod texts;
 mod unknowns;
 mod unmet;
+mod used;
 mod values;
 mod wide;
 mod within;

@@ -1,6 +1,8 @@
 //! Values for the unknowns of a branch.
 ghost use Rattle.std.specs.Prelude.{◌≡◌, ℕ, ◌<◌, Contains, IfOk, List as Sequence, MatchOption, Some, length, slice_get};
 ghost use Rattle.std.specs.List.{zip};
+ghost use Rattle.std.specs.List.Sorted.{IsStrictlySortedBy};
+ghost use Rattle.std.specs.Ordering.{nat_cmp};
 ghost use Rattle.ba_facts.specs.Shown.{Absurd};
 ghost use Rattle.ba_model.specs.declared.value.Value.{Value as Plain};
 ghost use Rattle.ba_refute.specs.Images.{AreNodes, AreValues, HasNoLiteral, IsClassValue, IsLeastUnknown, IsMarks, IsValueOf, literals};
@@ -18,16 +20,15 @@ use std::alloc::{AllocError, Global};
 
 /// The number of a node, if it is one.
 fn number_at(nodes: &[u32], numbers: &[i128], n: u32) -> Option<i128>
-    requires { length numbers.now ≡ length nodes.now }
+    requires rising { IsStrictlySortedBy nat_cmp nodes.now }
+    requires numbered { length numbers.now ≡ length nodes.now }
     ensures { MatchOption result (¬ (Contains nodes.now n))
         (λ number. Contains (zip nodes.now numbers.now) (n, number)) }
 {
-    for i in 0..nodes.len() {
-        if nodes[i] == n {
-            return Some(numbers[i]);
-        }
+    match nodes.binary_search(&n) {
+        Ok(i) => Some(numbers[i]),
+        Err(_) => None,
     }
-    None
 }
 
 /// The value of a class by its least unknown.

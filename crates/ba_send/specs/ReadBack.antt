@@ -89,7 +89,7 @@ names_read (Some called) words = without_namespace called false words
 abbrev pub words_in : Target → List Lexeme → List Lexeme
 words_in target words = names_read target.namespace (texts_read target.database plain words)
 
--- the database reads the text as the query, and as no other
+-- over the database's tokens, the grammar of questions reads the text as the query, and as no other
 pub record ReadsSent (target : Target) (schema : Schema) (text : List ℕ) (query : Query) : Type 0
   where
     pub tokens : List Token

@@ -2,9 +2,11 @@
 #![tactic(auto)]
 
 mod atom;
+mod column;
 mod fault;
 pub mod laws;
 mod name;
+mod null_test;
 mod operand;
 mod part;
 mod query;

@@ -3,30 +3,13 @@ ghost use Rattle.std.specs.Prelude.{◌≡◌, ◌++◌, [], ◌∷◌, OnOk, sl
 ghost use Rattle.std.specs.Option.{option_copied};
 ghost use Rattle.ba_keys.specs.Literals.{operand_with};
 ghost use Rattle.ba_send.specs.Sent.{column_piece, literal_of, literal_pieces, operand_pieces, pieces_text, value_pieces};
-ghost use Rattle.ba_sql_print.specs.Printed.{column_name};
 
+use crate::column::column_name;
 use crate::name::{push_name, push_source_name};
 use crate::text::push_text;
 use ba_model::{Operand, Schema, Value};
 use ba_target::Database;
 use std::alloc::AllocError;
-
-/// The name of a column of the source at a place; empty where it isn't there.
-#[tactic(auto, unfolding(ba_sql_print::specs::Printed::column_name))]
-fn column_name<'a>(schema: &'a Schema, from: &[u32], place: u32, column: u32) -> &'a str
-    ensures { result.now ≡ column_name schema.now from.now place column }
-{
-    match from.get(place as usize) {
-        Some(table) => match schema.tables.find(*table as usize) {
-            Some(table) => match table.columns.find(column as usize) {
-                Some(column) => column.name.as_str(),
-                None => "",
-            },
-            None => "",
-        },
-        None => "",
-    }
-}
 
 fn push_column(
     out: &mut String,

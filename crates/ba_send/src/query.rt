@@ -10,6 +10,7 @@ ghost use Rattle.ba_send.specs.Sent.{closed, following, most_sent_bytes, part_pi
 ghost use Rattle.ba_target.specs.Names.{Serves};
 
 use crate::fault::Unsendable;
+use crate::null_test::misreads;
 use crate::part::push_selected;
 use crate::zero::query_has_zero;
 use ba_model::{Context, Failure, Part, Policy, Query, Schema, Value};
@@ -66,8 +67,9 @@ fn printed(
     }
 }
 
-/// The text that is sent to the database for a query of the policy under a context, and that the
-/// database reads as this query, with the context's value for each parameter, and as no other.
+/// The text that is sent to the database for a query of the policy under a context. By the grammar
+/// of questions, over the tokens that the database has, it is read as this query, with the context's
+/// value for each parameter, and as no other.
 ///
 /// Between each two of its pieces stands one blank. A part is `SELECT DISTINCT h , .. FROM
 /// "namespace"."T" t0 , .. WHERE ( a ) AND ..`; several parts are joined by UNION, without
@@ -75,7 +77,8 @@ fn printed(
 /// that the database reads its very bytes.
 ///
 /// The database serves the policy's schema, and the context fits its parameters. Errors: want of
-/// memory; a text with the byte 0; more than 1,048,576 bytes. An error leaves nothing behind.
+/// memory; in MySQL an IS NULL of a column that has no NULL; a text with the byte 0; more than
+/// 1,048,576 bytes. An error leaves nothing behind.
 pub fn sent_text(
     alloc: Global,
     target: &Target,
@@ -96,6 +99,9 @@ pub fn sent_text(
     ensures fault { IfErr result (λ e. OfFault e
         (IsUnsendable target.now policy.now.schema context.now query.now)) }
 {
+    if misreads(target.database, &policy.schema, query) {
+        return Err(Failure::Fault(Unsendable::NullTest));
+    }
     if query_has_zero(context.values.as_slice(), query) {
         return Err(Failure::Fault(Unsendable::ZeroByte));
     }

@@ -3,7 +3,7 @@
 use ba_model::{Duplicate, Str};
 use std::alloc::{AllocError, Global};
 
-/// A kind of database, by whose manual a text is printed.
+/// A kind of database, by whose tokens a text is printed.
 #[derive(Clone, Copy, Debug, PartialEq, Eq)]
 pub enum Database {
     /// PostgreSQL.

@@ -27,17 +27,17 @@ loop-query-preserved g c =
           allowed_more it c.args.queries.now c.loop-query.query-index query c.loop-query-test.true c.query-item.is effort old c.loop-query.by c.push.new.self c.in-Allowed.allowed c.loop-query.invariant.allowed
           (judged_since (asked_by it query) effort old c.loop-query.shelves c.in_ok-judgement.judgement (judged.Allowed c.in-Allowed.allowed) c.in-Allowed.is c.loop-query.invariant.learns tells.judges tells.first tells.parts)
           c.in_ok-push-in-Allowed.ensures.ok;
-      learns = both c.loop-query.invariant.learns c.judge.ensures.learns;
+      learns = both c.loop-query.invariant.learns c.judge_told.ensures.learns;
     }
 
 pub returns-in_err-judgement-clause-learns : goal.returns-in_err-judgement-clause-learns
-returns-in_err-judgement-clause-learns g c = both c.loop-query.invariant.learns c.judge.ensures.learns
+returns-in_err-judgement-clause-learns g c = both c.loop-query.invariant.learns c.judge_told.ensures.learns
 
 pub returns-in_err-push-in-Allowed-clause-learns : goal.returns-in_err-push-in-Allowed-clause-learns
-returns-in_err-push-in-Allowed-clause-learns g c = both c.loop-query.invariant.learns c.judge.ensures.learns
+returns-in_err-push-in-Allowed-clause-learns g c = both c.loop-query.invariant.learns c.judge_told.ensures.learns
 
 pub returns-in-Blocked-clause-learns : goal.returns-in-Blocked-clause-learns
-returns-in-Blocked-clause-learns g c = both c.loop-query.invariant.learns c.judge.ensures.learns
+returns-in-Blocked-clause-learns g c = both c.loop-query.invariant.learns c.judge_told.ensures.learns
 
 pub returns-clause-learns : goal.returns-clause-learns
 returns-clause-learns g c = c.loop-query.invariant.learns

@@ -4,7 +4,6 @@ use Rattle.std.proofs.lemmas.List.{take_all, take_more}
 use Rattle.ba_facts.specs.declared.term.Fact.{Fact}
 use Rattle.ba_facts.specs.declared.term.Term.{Term}
 use Rattle.ba_refute.specs.Images.{AreFactRows, IsRowAt}
-use Rattle.ba_refute.specs.Once.{AreSeen}
 use Rattle.ba_refute.proofs.RowLemmas.{nothing_yet, rows_more, rows_pass}
 use Rattle.ba_refute.proofs.rows.fact_rows.Goals as goal
 use Rattle.ba_refute.proofs.rows.fact_rows.Goals.{then-is_of+in_ok-row+in_ok-add_row, else-is_of}

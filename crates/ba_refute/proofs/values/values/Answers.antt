@@ -6,8 +6,11 @@ use Rattle.ba_refute.specs.OfEquations.{AreSmall}
 use Rattle.ba_refute.proofs.ValueLemmas.{always, small, values_found}
 use Rattle.ba_refute.proofs.values.values.Goals as goal
 
-pub node_numbers-requires : goal.node_numbers-requires
-node_numbers-requires c = λ h. c.requires (rising h.above h.chain)
+pub node_numbers-requires-clause-order : goal.node_numbers-requires-clause-order
+node_numbers-requires-clause-order c = λ h. c.requires (rising h.above h.chain)
+
+pub node_numbers-requires-clause-nodes : goal.node_numbers-requires-clause-nodes
+node_numbers-requires-clause-nodes c = subst (AreNodes c.args.branch.now.known) (sym c.deref-3.ensures.value) c.in_ok-nodes.ensures.exact
 
 pub returns-clause-image : goal.returns-clause-image
 returns-clause-image c =

@@ -18,7 +18,7 @@ returns-clause-reads c =
     let query = c.args.query.now in
     let text : List ℕ = string_bytes c.in_ok-text.text in
     let same : text ≡ sent_bytes target policy.schema context query =
-    c.in_ok-text.ensures ∙ ap (λ (s : Schema). sent_bytes target s context query) c.deref.ensures in
+    c.in_ok-text.ensures ∙ ap (λ (s : Schema). sent_bytes target s context query) c.deref-2.ensures in
     let range : All PartInRange (map (part_with 0 context.values) query.parts) =
     subst (λ (vs : List Value). All PartInRange (map (part_with 0 vs) query.parts)) c.as_slice.ensures c.query_has_zero.ensures.range in
     let short : length text ≤ most_sent_bytes = omega (arith, c.if-len-gt-MAX_SENT_BYTES.false, c.len.ensures, c.in_ok-text.text.ok) in

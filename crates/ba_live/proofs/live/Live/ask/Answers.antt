@@ -77,8 +77,5 @@ returns-else-is_contradiction-clause-decides g c =
       reads = search rules;
       of_question = search rules;
       blocked = search rules;
-      prefers = record {
-        one = λ few. rw c.in-Blocked.is at c.in_ok-judgement.ensures.first few;
-        several = λ many. rw c.in-Blocked.is at c.in_ok-judgement.ensures.parts many;
-      };
+      prefers = rw c.in-Blocked.is at c.in_ok-judgement.ensures.prefers;
     }

@@ -1,0 +1,5 @@
+use Rattle.ba_weaker.proofs.LawLemmas.{weaker_is_query}
+use Rattle.ba_weaker.proofs.laws.weaker_is_query.Goals as goal
+
+pub returns : goal.returns
+returns c = weaker_is_query
